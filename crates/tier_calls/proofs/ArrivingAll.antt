@@ -1,5 +1,6 @@
 -- What each of several tokens did.
 use Rattle.std.proofs.Common.{◌≡◌, ◌≢◌, ℕ, zero, suc, ◌+◌, ◌<◌, ◌≤◌, inl, ⊎_elim, Bool, true, false, cond, Option, Some, None, List, [], ◌∷◌, ◌==◌, length, refl, ap, sym, ◌∙◌, subst, arith, ne_eqb}
+use Rattle.std.specs.Prelude.{MatchOption}
 use Rattle.atomic_table.specs.Table.{Me}
 use Rattle.atomic_table.specs.Seated.{TableId}
 use Rattle.phaser_word.specs.Fields.{Fields, IsLegal}
@@ -37,7 +38,7 @@ use Rattle.tier_calls.specs.ArrivesWith.{FirstLook}
 use Rattle.tier_calls.specs.declared.groups.TriedAll.{TriedAll}
 use Rattle.tier_calls.specs.declared.groups.TriedAll.TheVariants as tried
 use Rattle.tier_calls.specs.Splits.{AreTogether}
-use Rattle.tier_calls.specs.ArrivesAll.{Each, Did, OnlyLooks, ArrivesOnce, Looks, StillHere, AllHere, KeepsAll, CountsAll, CountsLast, TriesAll, HavePassed, AllPassedOn}
+use Rattle.tier_calls.specs.ArrivesAll.{Each, Did, HasSpent, OnlyLooks, ArrivesOnce, Looks, StillHere, AllHere, KeepsAll, KeepsSoon, CountsAll, CountsLast, TriesAll, HavePassed, AllPassedOn}
 use Rattle.std.proofs.lemmas.Bool.{cases_eq}
 use Rattle.phaser_word.specs.Phase.{next_phase_of}
 use Rattle.tier_calls.proofs.Making.{made_more, made_none, made_then, glance_quiet}
@@ -53,20 +54,20 @@ Seat = Me Kind (List Sight)
 pub each_looked : (t : ℕ) (w : Fields) (tries : ℕ) (l : List Sight) → Each (Did OnlyLooks tries) l (looked_all t w tries l)
 each_looked t w tries [] = tt
 each_looked t w tries (x ∷ xs) =
-    (record { key = refl; tried = omega arith; steps = made_more is_quiet (glance t) x.steps x.steps (glance_quiet t) (made_none is_quiet x.steps); opened = refl }, each_looked t w tries xs)
+    (record { key = refl; tried = omega arith; since = omega arith; steps = made_more is_quiet (glance t) x.steps x.steps (glance_quiet t) (made_none is_quiet x.steps); opened = refl }, each_looked t w tries xs)
 
 pub each_came : (t : ℕ) (v : View) (w : Fields) (l : List Sight) → Each (Did ArrivesOnce 1) l (all_stepped Arrive 1 t v w l)
 each_came t v w [] = tt
-each_came t v w (x ∷ xs) = (record { key = refl; tried = omega arith; steps = (x.steps, made_none is_quiet x.steps, refl); opened = refl }, each_came t v w xs)
+each_came t v w (x ∷ xs) = (record { key = refl; tried = omega arith; since = omega arith; steps = (x.steps, made_none is_quiet x.steps, refl); opened = refl }, each_came t v w xs)
 
 each_still : (tries : ℕ) (l : List Sight) → Each (Did OnlyLooks tries) l l
 each_still tries [] = tt
-each_still tries (x ∷ xs) = (record { key = refl; tried = omega arith; steps = made_none is_quiet x.steps; opened = refl }, each_still tries xs)
+each_still tries (x ∷ xs) = (record { key = refl; tried = omega arith; since = omega arith; steps = made_none is_quiet x.steps; opened = refl }, each_still tries xs)
 
 pub each_first : (t : ℕ) (w : Fields) (l : List Sight) → Each (Did OnlyLooks 1) l (first_stepped Refresh t w l)
 each_first t w [] = tt
 each_first t w (x ∷ xs) =
-    (record { key = refl; tried = omega arith; steps = made_more is_quiet Refresh x.steps x.steps refl (made_none is_quiet x.steps); opened = refl }, each_still 1 xs)
+    (record { key = refl; tried = omega arith; since = omega arith; steps = made_more is_quiet Refresh x.steps x.steps refl (made_none is_quiet x.steps); opened = refl }, each_still 1 xs)
 
 pub each_then : (P Q R : List Kind → List Kind → Type 0) (m n o : ℕ) → ((a b c : List Kind) → P a b → Q b c → R a c) → m + n ≤ o → (xs ys zs : List Sight) → Each (Did P m) xs ys → Each (Did Q n) ys zs → Each (Did R o) xs zs
 each_then P Q R m n o both few [] [] [] a b = tt
@@ -77,7 +78,9 @@ each_then P Q R m n o both few (x ∷ xs) (y ∷ ys) [] a b = absurd b
 each_then P Q R m n o both few (x ∷ xs) (y ∷ ys) (z ∷ zs) a b =
     let p = a.0.tried in
     let q = b.0.tried in
-    (record { key = b.0.key ∙ a.0.key; tried = omega arith; steps = both x.steps y.steps z.steps a.0.steps b.0.steps; opened = b.0.opened ∙ a.0.opened }, each_then P Q R m n o both few xs ys zs a.1 b.1)
+    let r = a.0.since in
+    let s = b.0.since in
+    (record { key = b.0.key ∙ a.0.key; tried = omega arith; since = omega arith; steps = both x.steps y.steps z.steps a.0.steps b.0.steps; opened = b.0.opened ∙ a.0.opened }, each_then P Q R m n o both few xs ys zs a.1 b.1)
 
 pub each_long : (R : Sight → Sight → Type 0) (xs ys : List Sight) → Each R xs ys → length ys ≡ length xs
 each_long R [] [] e = refl
@@ -108,30 +111,48 @@ pub glanced_below : (t : ℕ) (w : Fields) (v : View) → 0 < t → glanced t w 
 glanced_below zero w v h = absurd (omega arith)
 glanced_below (suc t) w v h = refl
 
-pub looked_keeps : {t : ℕ} {w : Fields} {tries : ℕ} {old new : GroupHeld} (o : ℕ) → tries ≤ o → t ≡ old.view.tier → old.view.arrived ≢ old.view.size → AllLooked t w tries old new → KeepsAll o old new
-looked_keeps {t} {w} {tries} {old} {new} o few here some' r = record {
+-- how many tries the first token made
+spent_looks : (t : ℕ) (w : Fields) (tries : ℕ) (l : List Sight) → 0 < length l → HasSpent tries l (looked_all t w tries l)
+spent_looks t w tries [] h = absurd (omega arith)
+spent_looks t w tries (x ∷ xs) h = refl
+
+pub all_spent : (t : ℕ) (w : Fields) (tries : ℕ) (l m : List Sight) → 0 < length l → m ≡ looked_all t w tries l → HasSpent tries l m
+all_spent t w tries l m h is = subst (HasSpent tries l) (sym is) (spent_looks t w tries l h)
+
+spent_first : (t : ℕ) (w : Fields) (l : List Sight) → 0 < length l → HasSpent 1 l (first_stepped Refresh t w l)
+spent_first t w [] h = absurd (omega arith)
+spent_first t w (x ∷ xs) h = refl
+
+spent_then : (m n o : ℕ) (xs ys zs : List Sight) → m + n ≡ o → HasSpent m xs ys → HasSpent n ys zs → HasSpent o xs zs
+spent_then m n o xs ys zs few a b = omega arith
+
+spent_none : (P : List Kind → List Kind → Type 0) (xs ys : List Sight) → Each (Did P 0) xs ys → HasSpent 0 xs ys
+spent_none P [] [] a = refl
+spent_none P [] (y ∷ ys) a = absurd a
+spent_none P (x ∷ xs) [] a = absurd a
+spent_none P (x ∷ xs) (y ∷ ys) a = let t = a.0.tried in let s = a.0.since in omega arith
+
+pub looked_keeps : {t : ℕ} {w : Fields} {tries : ℕ} {old new : GroupHeld} → t ≡ old.view.tier → old.view.arrived ≢ old.view.size → AllLooked t w tries old new → KeepsAll tries old new
+looked_keeps {t} {w} {tries} {old} {new} here some' r = record {
   below = λ h. r.view ∙ glanced_below t w old.view (omega arith);
   tree = r.tree;
   view = subst (StillHere old.view) (sym r.view) (glanced_here t w old.view some');
-  tokens = subst (Each (Did OnlyLooks o) old.tokens) (sym r.looked.all) (more old.tokens);
+  tokens = subst (Each (Did OnlyLooks tries) old.tokens) (sym r.looked.all) (each_looked t w tries old.tokens);
+  spent = all_spent t w tries old.tokens new.tokens r.was.some r.looked.all;
 }
-  where
-    more : (l : List Sight) → Each (Did OnlyLooks o) l (looked_all t w tries l)
-    more [] = tt
-    more (x ∷ xs) =
-        (record { key = refl; tried = omega arith; steps = made_more is_quiet (glance t) x.steps x.steps (glance_quiet t) (made_none is_quiet x.steps); opened = refl }, more xs)
 
 still_then : (a b c : View) → StillHere a b → StillHere b c → StillHere a c
 still_then a b c p q =
     let s = p.same in let r = q.same in
     record { same = record { tier = r.tier ∙ s.tier; size = r.size ∙ s.size; phase = r.phase ∙ s.phase; arrived = r.arrived ∙ s.arrived }; unled = λ e. q.unled (p.unled e) }
 
-pub keeps_then : {a b c : GroupHeld} (m n o : ℕ) → m + n ≤ o → KeepsAll m a b → KeepsAll n b c → KeepsAll o a c
+pub keeps_then : {a b c : GroupHeld} (m n o : ℕ) → m + n ≡ o → KeepsAll m a b → KeepsAll n b c → KeepsAll o a c
 keeps_then {a} {b} {c} m n o few p q = record {
   tree = q.tree ∙ p.tree;
   view = still_then a.view b.view c.view p.view q.view;
   below = λ h. q.below (let t = p.view.same.tier in omega arith) ∙ p.below h;
-  tokens = each_then OnlyLooks OnlyLooks OnlyLooks m n o waits_waits few a.tokens b.tokens c.tokens p.tokens q.tokens;
+  tokens = each_then OnlyLooks OnlyLooks OnlyLooks m n o waits_waits (omega arith) a.tokens b.tokens c.tokens p.tokens q.tokens;
+  spent = spent_then m n o a.tokens b.tokens c.tokens few p.spent q.spent;
 }
 
 -- what a token may do that looks at the tier of its members, which are to arrive
@@ -221,14 +242,15 @@ refreshed_crowd {k} {me} {me'} {v} {count} {w} {next} seated g =
 still : (v : View) → StillHere v v
 still v = record { same = record { tier = refl; size = refl; phase = refl; arrived = refl }; unled = λ e. e }
 
-pub refreshed_keeps : {id one : TableId} {k : Key} {v : View} {h : GroupHeld} {w next : Fields} (me me' : Seat) → group_of id me v ≡ h → one ≡ id → HaveGone k v.tier w next me me' (first_stepped Refresh v.tier w me.0) → KeepsAll 1 h (group_of one me' v)
-refreshed_keeps {id} {one} {k} {v} {h} {w} {next} me me' is same g =
+pub refreshed_keeps : {id one : TableId} {k : Key} {v : View} {count : ℕ} {h : GroupHeld} {w next : Fields} (me me' : Seat) → AreSeated me v count → group_of id me v ≡ h → one ≡ id → HaveGone k v.tier w next me me' (first_stepped Refresh v.tier w me.0) → KeepsAll 1 h (group_of one me' v)
+refreshed_keeps {id} {one} {k} {v} {count} {h} {w} {next} me me' seated is same g =
     let key = refreshed_key v.tier w me me' g.now in
     let a : KeepsAll 1 (group_of id me v) (group_of one me' v) = record {
       tree = λ i. record { id = same i; key = key i };
       view = still v;
       below = λ h. refl;
       tokens = subst (Each (Did OnlyLooks 1) me.0) (sym g.now) (each_first v.tier w me.0);
+      spent = subst (HasSpent 1 me.0) (sym g.now) (spent_first v.tier w me.0 (let a = seated.long in let b = seated.some in omega arith));
     } in
     subst (λ (z : GroupHeld). KeepsAll 1 z (group_of one me' v)) is a
 
@@ -238,7 +260,7 @@ pub lost_keeps : {id one : TableId} {v u : View} {count : ℕ} {h : GroupHeld} {
 lost_keeps {id} {one} {v} {u} {count} {h} {n} {w} {z} me me' seated is own none same lost at =
     let key : (sight_of me).key ≡ n.key = ap (λ (y : GroupHeld). y.tree.key) is ∙ ap (λ (y : Named). y.key) own in
     let r : AllLooked v.tier z 1 h (group_of one me' u) = all_looked me me' seated lost.bare is key same lost.looked at in
-    looked_keeps 1 (omega arith) (ap (λ (y : GroupHeld). y.view.tier) is) (let a : v.arrived ≡ 0 = ap (λ (y : GroupHeld). y.view.arrived) is ∙ none in λ e. yet v seated.view a (subst (λ (y : GroupHeld). y.view.arrived ≡ y.view.size) (sym is) e)) r
+    looked_keeps (ap (λ (y : GroupHeld). y.view.tier) is) (let a : v.arrived ≡ 0 = ap (λ (y : GroupHeld). y.view.arrived) is ∙ none in λ e. yet v seated.view a (subst (λ (y : GroupHeld). y.view.arrived ≡ y.view.size) (sym is) e)) r
 
 -- what a word found by all tells of it
 pub last_count : {t : ℕ} {w : Fields} {old new : GroupHeld} → AllLooked t w 0 old new → CanPass t w new.view → length new.tokens ≤ w.unarrived
@@ -295,7 +317,7 @@ last_then {a} {b} {first} {rest} m o few p q = record {
 
 -- of a load by all tokens that are to arrive
 pub looked_yet : {t : ℕ} {w : Fields} {old new : GroupHeld} → AllLooked t w 0 old new → t ≡ old.view.tier → old.view.arrived ≡ 0 → KeepsAll 0 old new
-looked_yet {t} {w} {old} {new} r here none = looked_keeps 0 (omega arith) here (yet old.view r.was.view none) r
+looked_yet {t} {w} {old} {new} r here none = looked_keeps here (yet old.view r.was.view none) r
 
 pub none_now : {tries : ℕ} {old new : GroupHeld} → KeepsAll tries old new → old.view.arrived ≡ 0 → new.view.arrived ≡ 0
 none_now {tries} {old} {new} k none = k.view.same.arrived ∙ none
@@ -313,7 +335,14 @@ behind {t} {w} {old} {new} r here none lag =
 pub lost_after : {t : ℕ} {w z : Fields} {a b c : GroupHeld} → AllLooked t w 0 a b → t ≡ a.view.tier → a.view.arrived ≡ 0 → AllLost w z b c → KeepsAll 1 a c
 lost_after {t} {w} {z} {a} {b} {c} r here none lost =
     let k = looked_yet r here none in
-    keeps_then 0 1 1 (omega arith) k (looked_keeps 1 (omega arith) refl (yet b.view r.group.view (none_now k none)) lost.looked)
+    keeps_then 0 1 1 refl k (looked_keeps refl (yet b.view r.group.view (none_now k none)) lost.looked)
+
+-- a try by which nobody arrived last
+pub early_tried : {t : ℕ} {w : Fields} {a b : GroupHeld} (c : GroupHeld) (r : TriedAll) (lost : Option Fields) → AllLooked t w 0 a b → t ≡ a.view.tier → a.view.arrived ≡ 0 → MatchOption lost (AllArrived w b c) (λ z. AllLost w z b c)
+    → MatchOption lost (r ≡ tried.Done c) (λ z. r ≡ tried.Yet c) → TriesAll 1 a r
+early_tried {t} {w} {a} {b} c r None l here none came is =
+    let k = looked_yet l here none in subst (TriesAll 1 a) (sym is) (counts_then 0 1 (omega arith) k (arrived_counts (none_now k none) came))
+early_tried {t} {w} {a} {b} c r (Some z) l here none lost is = subst (TriesAll 1 a) (sym is) (lost_after l here none lost)
 
 -- only the root ends
 pub end_shown_all : {t tries : ℕ} {w : Fields} {old new : GroupHeld} → AllLooked t w tries old new → w.ended ≡ true → new.view.end_seen ≡ Some w.phase
@@ -326,24 +355,24 @@ end_shown_all {t = suc t} {tries} {w} {old} {new} r e =
     absurd (let x : true ≡ false = sym e ∙ (ap (λ (z : Fields). z.ended) (sym b.word) ∙ f) in cc)
 
 pub keeps_none : (c : GroupHeld) → KeepsAll 0 c c
-keeps_none c = record { tree = refl; view = still c.view; below = λ h. refl; tokens = each_still 0 c.tokens }
+keeps_none c = record { tree = refl; view = still c.view; below = λ h. refl; tokens = each_still 0 c.tokens; spent = omega arith }
 
-wider : (P : List Kind → List Kind → Type 0) (m n : ℕ) → m ≤ n → (xs ys : List Sight) → Each (Did P m) xs ys → Each (Did P n) xs ys
-wider P m n h [] [] a = tt
-wider P m n h [] (y ∷ ys) a = absurd a
-wider P m n h (x ∷ xs) [] a = absurd a
-wider P m n h (x ∷ xs) (y ∷ ys) a = let t = a.0.tried in (record { key = a.0.key; tried = omega arith; steps = a.0.steps; opened = a.0.opened }, wider P m n h xs ys a.1)
+pub keeps_soon : {a b : GroupHeld} (m n : ℕ) → m ≤ n → KeepsAll m a b → KeepsSoon n a b
+keeps_soon m n h k = record { used = m; few = h; kept = k }
 
--- one more try
-pub comes_then : {a b : GroupHeld} (m o : ℕ) → m + 1 ≤ o → KeepsAll m a b → (r : TriedAll) → TriesAll 1 b r → TriesAll o a r
-comes_then {a} {b} m o few k (tried.Yet group) q = keeps_then m 1 o few k q
-comes_then {a} {b} m o few k (tried.Done group) q = counts_then m o few k q
-comes_then {a} {b} m o few k (tried.Owing errand rest) q = last_then m o few k q
-comes_then {a} {b} m o few k (tried.Ended group word) q = (keeps_then m 1 o few k q.0, q.1, q.2)
+pub soon_then : {a b c : GroupHeld} (m n o : ℕ) → m + n ≤ o → KeepsAll m a b → KeepsSoon n b c → KeepsSoon o a c
+soon_then m n o few p q = let h = q.few in record { used = m + q.used; few = omega arith; kept = keeps_then m q.used (m + q.used) refl p q.kept }
+
+-- one more try, unless none of the members has arrived by it
+pub comes_then : {a b : GroupHeld} (m o : ℕ) → m + 1 ≤ o → KeepsAll m a b → (r : TriedAll) → ((group : GroupHeld) → r ≢ tried.Yet group) → TriesAll 1 b r → TriesAll o a r
+comes_then {a} {b} m o few k (tried.Yet group) other q = absurd (other group refl)
+comes_then {a} {b} m o few k (tried.Done group) other q = counts_then m o few k q
+comes_then {a} {b} m o few k (tried.Owing errand rest) other q = last_then m o few k q
+comes_then {a} {b} m o few k (tried.Ended group word) other q = (soon_then m 1 o few k q.0, q.1, q.2)
 
 first_tokens : (w : Fields) (l : List Sight) → Each (Did Looks 0) l (looked_all 0 w 0 l)
 first_tokens w [] = tt
-first_tokens w (x ∷ xs) = (record { key = refl; tried = omega arith; steps = refl; opened = refl }, first_tokens w xs)
+first_tokens w (x ∷ xs) = (record { key = refl; tried = omega arith; since = omega arith; steps = refl; opened = refl }, first_tokens w xs)
 
 looked_unled : (w : Fields) (v : View) → (looked w v).led ≡ false
 looked_unled w v = looked_cases (λ u. u.led ≡ false) w v (λ e. refl) (λ e. refl) (λ e. refl)
@@ -382,12 +411,15 @@ pub record Waited (tries : ℕ) (old new : GroupHeld) : Type 0 where
   pub looked : IsLooked old.view new.view
   pub tokens : Each (Did HasLooked tries) old.tokens new.tokens
 
-pub waited : {old mid new : GroupHeld} (tries : ℕ) → FirstLook old mid → KeepsAll tries mid new → Waited tries old new
+pub waited : {old mid new : GroupHeld} (tries : ℕ) → FirstLook old mid → KeepsSoon tries mid new → Waited tries old new
 waited {old} {mid} {new} tries f k = record {
-  tree = k.tree ∙ f.tree;
-  looked = looked_same old.view mid.view new.view f.looked k.view.same;
-  tokens = each_then Looks OnlyLooks HasLooked 0 tries tries looks_waits (omega arith) old.tokens mid.tokens new.tokens f.tokens k.tokens;
+  tree = k.kept.tree ∙ f.tree;
+  looked = looked_same old.view mid.view new.view f.looked k.kept.view.same;
+  tokens = each_then Looks OnlyLooks HasLooked 0 k.used tries looks_waits (let h = k.few in omega arith) old.tokens mid.tokens new.tokens f.tokens k.kept.tokens;
 }
+
+pub spent_since : {old mid new : GroupHeld} (tries : ℕ) → FirstLook old mid → KeepsAll tries mid new → HasSpent tries old.tokens new.tokens
+spent_since {old} {mid} {new} tries f k = spent_then 0 tries tries old.tokens mid.tokens new.tokens (omega arith) (spent_none Looks old.tokens mid.tokens f.tokens) k.spent
 
 passed_by : {a b c : View} → IsLooked a b → b.led ≡ false → AllHere b c → HavePassed a c
 passed_by {a} {b} {c} l unled h = record { from = b; looked = l; here = h; unled = h.unled unled }
@@ -411,23 +443,23 @@ owing_all {old} {mid} {first} {rest} tries f k = (
 )
 
 pub no_more : {old mid : GroupHeld} (tries : ℕ) → FirstLook old mid → Waited tries old mid
-no_more {old} {mid} tries f = let k : KeepsAll 0 mid mid = keeps_none mid in let w = waited 0 f k in record { tree = w.tree; looked = w.looked; tokens = wider HasLooked 0 tries (omega arith) old.tokens mid.tokens w.tokens }
+no_more {old} {mid} tries f = waited tries f (keeps_soon 0 tries (omega arith) (keeps_none mid))
 
 -- a member that is not counted as arrived is to arrive
 pub to_arrive : (v : View) → IsOne v → v.arrived ≢ 1 → v.arrived ≡ 0
 to_arrive v one never = let a = one.within in omega arith
 
 -- the root is looked at once, before
-pub fresh_still : {w : Fields} {old mid new : GroupHeld} (tries : ℕ) → AllLooked 0 w 0 old mid → w.ended ≡ false → KeepsAll tries mid new → (mid.view.tier ≡ 0 → new.view ≡ mid.view) → IsFresh new.view
+pub fresh_still : {w : Fields} {old mid new : GroupHeld} (tries : ℕ) → AllLooked 0 w 0 old mid → w.ended ≡ false → KeepsSoon tries mid new → (mid.view.tier ≡ 0 → new.view ≡ mid.view) → IsFresh new.view
 fresh_still {w} {old} {mid} {new} tries r going k at_root =
-    let same : new.view ≡ mid.view = ⊎_elim at_root (λ (no_root : mid.view.tier ≢ 0). k.below (omega arith)) (cases_eq mid.view.tier 0) in
+    let same : new.view ≡ mid.view = ⊎_elim at_root (λ (no_root : mid.view.tier ≢ 0). k.kept.below (omega arith)) (cases_eq mid.view.tier 0) in
     subst IsFresh (sym same) (first_fresh_all r going)
 
 -- if the look has brought the tokens into another phase, all had arrived in the one before
-pub all_waited : {w : Fields} {old mid new : GroupHeld} {phase : ℕ} (tries : ℕ) → AllLooked 0 w 0 old mid → w.ended ≡ false → KeepsAll tries mid new → (mid.view.tier ≡ 0 → new.view ≡ mid.view) → phase ≡ new.view.phase
+pub all_waited : {w : Fields} {old mid new : GroupHeld} {phase : ℕ} (tries : ℕ) → AllLooked 0 w 0 old mid → w.ended ≡ false → KeepsSoon tries mid new → (mid.view.tier ≡ 0 → new.view ≡ mid.view) → phase ≡ new.view.phase
     → new.view.phase ≢ old.view.phase → AllSawAdvance old new phase
 all_waited {w} {old} {mid} {new} {phase} tries r going k at_root is other =
-    let same : new.view ≡ mid.view = ⊎_elim at_root (λ (no_root : mid.view.tier ≢ 0). k.below (omega arith)) (cases_eq mid.view.tier 0) in
+    let same : new.view ≡ mid.view = ⊎_elim at_root (λ (no_root : mid.view.tier ≢ 0). k.kept.below (omega arith)) (cases_eq mid.view.tier 0) in
     let saw : new.view ≡ looked w old.view = same ∙ r.view in
     let view : new.view.phase ≡ (looked w old.view).phase = ap (λ (v : View). v.phase) saw in
     record {
@@ -455,6 +487,3 @@ passed_on old new one l none other = ⊎_elim
     (λ (z : (new.phase ≡ old.phase) × (new.arrived ≡ old.arrived)). absurd (other z.0))
     (λ (z : (old.arrived ≡ old.size) × (new.phase ≡ next_phase_of old.phase) × (new.arrived ≡ 0)). record { all = z.0 ∙ one.one; next = z.1; nobody = z.2 })
     l.phase
-
-pub keeps_wider : {a b : GroupHeld} (m n : ℕ) → m ≤ n → KeepsAll m a b → KeepsAll n a b
-keeps_wider {a} {b} m n h k = record { tree = k.tree; view = k.view; below = k.below; tokens = wider OnlyLooks m n h a.tokens b.tokens k.tokens }

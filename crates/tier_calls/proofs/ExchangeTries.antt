@@ -22,15 +22,16 @@ use Rattle.tier_calls.specs.ArrivesWith.{HasExchanged, TriesWith, OnlySplit}
 use Rattle.tier_calls.specs.declared.arriving_with.TriedWith.{TriedWith}
 use Rattle.tier_calls.specs.declared.arriving_with.TriedWith.TheVariants as went
 use Rattle.tier_calls.proofs.Grouping.{looked_cases, looked_long}
-use Rattle.tier_calls.proofs.ArrivingAll.{each_looked, glanced_here, glanced_below, looked_yet, none_now, first_fresh_all, among_beside, keeps_then, keeps_wider, here_then}
+use Rattle.tier_calls.proofs.ArrivingAll.{each_looked, all_spent, glanced_here, glanced_below, looked_yet, none_now, first_fresh_all, among_beside, keeps_then, soon_then, here_then}
 
 -- a lost try
-pub lost_pass : {b c : GroupHeld} (z : Fields) → b.view.arrived ≢ b.view.size → c.tree ≡ b.tree → c.view ≡ glanced b.view.tier z b.view → c.tokens ≡ looked_all b.view.tier z 1 b.tokens → KeepsAll 1 b c
-lost_pass {b} {c} z some' tree view tokens = record {
+pub lost_pass : {b c : GroupHeld} (z : Fields) → 0 < length b.tokens → b.view.arrived ≢ b.view.size → c.tree ≡ b.tree → c.view ≡ glanced b.view.tier z b.view → c.tokens ≡ looked_all b.view.tier z 1 b.tokens → KeepsAll 1 b c
+lost_pass {b} {c} z any some' tree view tokens = record {
   tree = tree;
   view = subst (StillHere b.view) (sym view) (glanced_here b.view.tier z b.view some');
   below = λ h. view ∙ glanced_below b.view.tier z b.view h;
   tokens = subst (Each (Did OnlyLooks 1) b.tokens) (sym tokens) (each_looked b.view.tier z 1 b.tokens);
+  spent = all_spent b.view.tier z 1 b.tokens c.tokens any tokens;
 }
 
 -- tokens that are to arrive and have found their tier open
@@ -76,7 +77,9 @@ passed_from {old} {mid} {pool} {tree} {view} {e} {n} word joining leaving tokens
   mid = mid;
   word = word;
   pool = pool;
-  kept = keeps_wider 0 1 (omega arith) kept;
+  used = 0;
+  few = omega arith;
+  kept = kept;
   fresh = subst (λ (z : Named). AreSat z joining pool) (sym own) fresh;
   same = same ∙ kept.tree;
   here = here_then old.view mid.view view kept.view (arrived_here mid.view view e is);
@@ -102,7 +105,9 @@ passed_then {a} {b} {tree} {view} {tokens} m o joining leaving few k p = record 
   mid = p.mid;
   word = p.word;
   pool = p.pool;
-  kept = keeps_then m 1 o few k p.kept;
+  used = m + p.used;
+  few = let h = p.few in omega arith;
+  kept = keeps_then m p.used (m + p.used) refl k p.kept;
   fresh = subst (λ (z : Named). AreSat z joining p.pool) k.tree p.fresh;
   same = p.same ∙ k.tree;
   here = here_then a.view b.view view k.view p.here;
@@ -111,14 +116,14 @@ passed_then {a} {b} {tree} {view} {tokens} m o joining leaving few k p = record 
   those = p.those;
 }
 
--- one more try
-pub went_then : {a b : GroupHeld} (m o joining leaving : ℕ) → m + 1 ≤ o → KeepsAll m a b → (r : TriedWith) → TriesWith 1 joining leaving b r → TriesWith o joining leaving a r
-went_then {a} {b} m o joining leaving few k (went.Yet group) q = keeps_then m 1 o few k q
-went_then {a} {b} m o joining leaving few k (went.Done group) q = passed_then m o joining leaving few k q
-went_then {a} {b} m o joining leaving few k (went.Owing errand rest) q =
+-- one more try, unless nothing was counted by it
+pub went_then : {a b : GroupHeld} (m o joining leaving : ℕ) → m + 1 ≤ o → KeepsAll m a b → (r : TriedWith) → ((group : GroupHeld) → r ≢ went.Yet group) → TriesWith 1 joining leaving b r → TriesWith o joining leaving a r
+went_then {a} {b} m o joining leaving few k (went.Yet group) other q = absurd (other group refl)
+went_then {a} {b} m o joining leaving few k (went.Done group) other q = passed_then m o joining leaving few k q
+went_then {a} {b} m o joining leaving few k (went.Owing errand rest) other q =
     (passed_then m o joining leaving few k q.0, λ c is. (let r = q.1 c is in (r.0 ∙ k.tree, here_then a.view b.view c.view k.view r.1)))
-went_then {a} {b} m o joining leaving few k (went.Full group count) q = (keeps_then m 1 o few k q.0, q.1)
-went_then {a} {b} m o joining leaving few k (went.Ended group word) q = (keeps_then m 1 o few k q.0, q.1, q.2)
+went_then {a} {b} m o joining leaving few k (went.Full group count) other q = let h = q.1 in (m + q.0, (omega arith), keeps_then m q.0 (m + q.0) refl k q.2, q.3)
+went_then {a} {b} m o joining leaving few k (went.Ended group word) other q = (soon_then m 1 o few k q.0, q.1, q.2)
 
 -- the loop's state
 pub record Still (tries : ℕ) (old new : GroupHeld) : Type 0 where

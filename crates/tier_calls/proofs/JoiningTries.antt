@@ -1,14 +1,15 @@
 -- One try by which new tokens join beside a group, and what follows from it.
-use Rattle.std.proofs.Common.{◌≡◌, ℕ, ◌+◌, ◌<◌, ◌≤◌, sym, ◌∙◌, subst, arith}
+use Rattle.std.proofs.Common.{◌≡◌, ◌≢◌, ℕ, refl, ◌+◌, ◌<◌, ◌≤◌, sym, ◌∙◌, subst, arith}
 use Rattle.phaser_word.specs.Fields.{Fields}
 use Rattle.tier_calls.specs.Holding.{Named}
 use Rattle.tier_calls.specs.Groups.{GroupHeld, AllLooked}
 use Rattle.tier_calls.specs.ArrivesAll.{KeepsAll}
 use Rattle.tier_calls.specs.NewTokens.{TokensHeld, AreSat, IsEager}
-use Rattle.tier_calls.specs.JoinsAll.{sights_joined, HasJoined, FindsFull, TriesToJoin, OnlyTried}
+use Rattle.tier_calls.specs.ArrivesWith.{FindsFull, OnlyTried}
+use Rattle.tier_calls.specs.JoinsAll.{sights_joined, HasJoined, TriesToJoin}
 use Rattle.tier_calls.specs.declared.joining_all.TriedJoin.{TriedJoin}
 use Rattle.tier_calls.specs.declared.joining_all.TriedJoin.TheVariants as went
-use Rattle.tier_calls.proofs.ArrivingAll.{keeps_then, keeps_wider, first_look}
+use Rattle.tier_calls.proofs.ArrivingAll.{keeps_then, soon_then, first_look}
 
 -- the exchange was won
 pub joined_from : {old mid new : GroupHeld} {pool : TokensHeld} {n : Named} (word : Fields) (count : ℕ) → KeepsAll 0 old mid → IsEager mid.view → old.tree ≡ n → AreSat n count pool → word.parties + count ≤ 65535
@@ -17,7 +18,9 @@ joined_from {old} {mid} {new} {pool} {n} word count kept eager own fresh room sa
   mid = mid;
   word = word;
   pool = pool;
-  kept = keeps_wider 0 1 (omega arith) kept;
+  used = 0;
+  few = omega arith;
+  kept = kept;
   eager = eager;
   fresh = subst (λ (z : Named). AreSat z count pool) (sym own) fresh;
   room = room;
@@ -31,7 +34,9 @@ joined_then {a} {b} {new} m o count few k p = record {
   mid = p.mid;
   word = p.word;
   pool = p.pool;
-  kept = keeps_then m 1 o few k p.kept;
+  used = m + p.used;
+  few = let h = p.few in omega arith;
+  kept = keeps_then m p.used (m + p.used) refl k p.kept;
   eager = p.eager;
   fresh = subst (λ (z : Named). AreSat z count p.pool) k.tree p.fresh;
   room = p.room;
@@ -40,12 +45,12 @@ joined_then {a} {b} {new} m o count few k p = record {
   tokens = p.tokens;
 }
 
--- one more try
-pub joins_then : {a b : GroupHeld} (m o count : ℕ) → m + 1 ≤ o → KeepsAll m a b → (r : TriedJoin) → TriesToJoin 1 count b r → TriesToJoin o count a r
-joins_then {a} {b} m o count few k (went.Yet group) q = keeps_then m 1 o few k q
-joins_then {a} {b} m o count few k (went.Joined group) q = joined_then m o count few k q
-joins_then {a} {b} m o count few k (went.Full group parties) q = (keeps_then m 1 o few k q.0, q.1)
-joins_then {a} {b} m o count few k (went.Ended group word) q = (keeps_then m 1 o few k q.0, q.1, q.2)
+-- one more try, unless nobody has joined by it
+pub joins_then : {a b : GroupHeld} (m o count : ℕ) → m + 1 ≤ o → KeepsAll m a b → (r : TriedJoin) → ((group : GroupHeld) → r ≢ went.Yet group) → TriesToJoin 1 count b r → TriesToJoin o count a r
+joins_then {a} {b} m o count few k (went.Yet group) other q = absurd (other group refl)
+joins_then {a} {b} m o count few k (went.Joined group) other q = joined_then m o count few k q
+joins_then {a} {b} m o count few k (went.Full group parties) other q = let h = q.1 in (m + q.0, (omega arith), keeps_then m q.0 (m + q.0) refl k q.2, q.3)
+joins_then {a} {b} m o count few k (went.Ended group word) other q = (soon_then m 1 o few k q.0, q.1, q.2)
 
 -- the tier has no room
 pub finds_full : {t parties : ℕ} {w : Fields} {old mid : GroupHeld} (n : ℕ) → AllLooked t w 0 old mid → t ≡ old.view.tier → KeepsAll 0 old mid → parties ≡ w.parties → 65535 < parties + n → FindsFull n mid parties

@@ -95,7 +95,7 @@ last_is_owed above (suc t) b = tt
 
 pub each_left : (t : ℕ) (v : View) (w : Fields) (l : List Sight) → Each (Did LeavesOnce 1) l (all_stepped Leave 1 t v w l)
 each_left t v w [] = tt
-each_left t v w (x ∷ xs) = (record { key = refl; tried = omega arith; steps = (x.steps, made_none is_quiet x.steps, refl); opened = refl }, each_left t v w xs)
+each_left t v w (x ∷ xs) = (record { key = refl; tried = omega arith; since = omega arith; steps = (x.steps, made_none is_quiet x.steps, refl); opened = refl }, each_left t v w xs)
 
 -- those that leave before the last one owe nothing
 spare_before : (k : Key) (t : ℕ) (v : View) (w : Fields) (l : List Sight) → AreAlike k v l → v.size ≡ 1 → length l < w.unarrived → w.unarrived ≤ w.parties → AllByRecursion IsSpare (all_stepped Leave 1 t v w l)

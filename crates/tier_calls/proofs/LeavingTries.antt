@@ -1,5 +1,5 @@
 -- What each of some tokens did that leave their tier together.
-use Rattle.std.proofs.Common.{◌≡◌, ℕ, ◌+◌, ◌<◌, ◌≤◌, List, ◌∷◌, ◌==◌, length, sym, ◌∙◌, subst, arith}
+use Rattle.std.proofs.Common.{◌≡◌, ◌≢◌, ℕ, refl, ◌+◌, ◌<◌, ◌≤◌, List, ◌∷◌, ◌==◌, length, sym, ◌∙◌, subst, arith}
 use Rattle.phaser_word.specs.Fields.{Fields}
 use Rattle.tier_shape.specs.Parents.{parent_of}
 use Rattle.tier_steps.specs.declared.view.View.{View}
@@ -16,7 +16,7 @@ use Rattle.tier_calls.specs.LeavesAll.{all_left, owed_by_last, LeavesOnce, Looks
 use Rattle.tier_calls.specs.declared.leaving_all.TriedLeaving.{TriedLeaving}
 use Rattle.tier_calls.specs.declared.leaving_all.TriedLeaving.TheVariants as tried
 use Rattle.tier_calls.proofs.Making.{made_then}
-use Rattle.tier_calls.proofs.ArrivingAll.{each_then, keeps_then}
+use Rattle.tier_calls.proofs.ArrivingAll.{each_then, soon_then}
 use Rattle.tier_calls.proofs.ExchangeTries.{kept_many, each_many}
 
 waits_leaves : (a b c : List Kind) → OnlyLooks a b → LeavesOnce b c → LeavesOnce a c
@@ -76,12 +76,12 @@ pub left_last : {a b : GroupHeld} {first : Holding} → KeepsAll 0 a b → HasCo
     → first.view.errand ≡ owed_by_last (parent_of (shape_of first) b.view.tier) b.view.tier (w.parties == length b.tokens) → HasCounted Departure a.view first.view × LeftLast LeavesOnce 1 a first
 left_last {a} {b} {first} k q w h all owes = left_last_after 0 1 (omega arith) k q w h all owes
 
--- one more try
-pub leaves_then : {a b : GroupHeld} (m o : ℕ) → m + 1 ≤ o → KeepsAll m a b → (r : TriedLeaving) → TriesLeaving 1 b r → TriesLeaving o a r
-leaves_then {a} {b} m o few k (tried.Yet group) q = keeps_then m 1 o few k q
-leaves_then {a} {b} m o few k (tried.Left door) q = left_after m o few k q.0 q.1.0 q.1.1 q.1.2
-leaves_then {a} {b} m o few k (tried.Owing errand) q = left_last_after m o few k q.0 q.1.0 q.1.1 q.1.2 q.1.3
-leaves_then {a} {b} m o few k (tried.Ended group word) q = (keeps_then m 1 o few k q.0, q.1, q.2)
+-- one more try, unless none of the members has left by it
+pub leaves_then : {a b : GroupHeld} (m o : ℕ) → m + 1 ≤ o → KeepsAll m a b → (r : TriedLeaving) → ((group : GroupHeld) → r ≢ tried.Yet group) → TriesLeaving 1 b r → TriesLeaving o a r
+leaves_then {a} {b} m o few k (tried.Yet group) other q = absurd (other group refl)
+leaves_then {a} {b} m o few k (tried.Left door) other q = left_after m o few k q.0 q.1.0 q.1.1 q.1.2
+leaves_then {a} {b} m o few k (tried.Owing errand) other q = left_last_after m o few k q.0 q.1.0 q.1.1 q.1.2 q.1.3
+leaves_then {a} {b} m o few k (tried.Ended group word) other q = (soon_then m 1 o few k q.0, q.1, q.2)
 
 -- a call whose members have left, from its first look on
 passed_since : {old mid : GroupHeld} (first : Holding) → FirstLook old mid → HasCounted Departure mid.view first.view → HasPassed Departure old.view first.view

@@ -75,8 +75,8 @@ came crew tries group phase zero some' a = absurd (omega arith)
 came crew tries group phase (suc n) some' a = a
 
 left : {tier : ℕ} (n tries : ℕ) (crew : Holding) (group : GroupHeld) (why : Halt) → IsJoined tier 1 crew.view → JoinsAll tries n (alone (split_once crew)) (stopped group why) → IsFirst tier crew.view.phase group
-left {tier} n tries crew group (halt.Full count) j a = first_still (first_joined crew j) a.0.first a.0.kept
-left {tier} n tries crew group (halt.Ended shown) j a = first_still (first_joined crew j) a.1 a.2
+left {tier} n tries crew group (halt.Full count) j a = first_still (first_joined crew j) a.2.first a.2.kept
+left {tier} n tries crew group (halt.Ended shown) j a = first_still (first_joined crew j) a.1 a.2.kept
 left {tier} n tries crew group halt.Busy j a = first_still (first_joined crew j) a.first a.kept
 
 pub others_all : {tier n tries at : ℕ} {h crew : Holding} → 1 < n → RegistersFirst h tier tries (first.Joined crew at) → (r : RegisteredAll) → OthersJoin crew (n - 1) tries r → RegistersAll h tier n tries r

@@ -6,7 +6,7 @@ use Rattle.tier_steps.specs.declared.view.Passage.TheVariants.{Arrival}
 use Rattle.tier_steps.specs.declared.kind.Kind.{Kind}
 use Rattle.tier_steps.specs.declared.kind.Kind.TheVariants.{Arrive, Look}
 use Rattle.tier_rule.specs.declared.sight.Sight.{Sight}
-use Rattle.tier_calls.specs.Holding.{Holding, sight_held}
+use Rattle.tier_calls.specs.Holding.{Holding, first_of, no_sight, sight_held}
 use Rattle.tier_calls.specs.Made.{MadeOnly, is_quiet, HasLooked, HasStepped}
 use Rattle.tier_calls.specs.Passes.{IsSame, EndSeen, IsFresh}
 use Rattle.tier_calls.specs.Arrives.{IsLooked}
@@ -31,8 +31,13 @@ Each R (x ∷ xs) (y ∷ ys) = R x y × Each R xs ys
 pub record Did (P : List Kind → List Kind → Type 0) (tries : ℕ) (x y : Sight) : Type 0 where
   pub key : y.key ≡ x.key
   pub tried : y.tried ≤ x.tried + tries
+  pub since : x.tried ≤ y.tried
   pub steps : P x.steps y.steps
   pub opened : y.opened ≡ x.opened
+
+-- The first token of some made exactly so many tries. Each try of a call is one exchange of a word by all its tokens, or by the first one for all of them.
+abbrev pub HasSpent : ℕ → List Sight → List Sight → Type 0
+HasSpent tries old new = (first_of no_sight new).tried ≡ (first_of no_sight old).tried + tries
 
 -- looks and refreshes, which count nothing
 abbrev pub OnlyLooks : List Kind → List Kind → Type 0
@@ -55,13 +60,20 @@ pub record AllHere (old new : View) : Type 0 where
   pub arrived : new.arrived ≡ 1
   pub unled : old.led ≡ false → new.led ≡ false
 
--- nothing was counted
+-- nothing was counted, by exactly so many tries
 pub record KeepsAll (tries : ℕ) (old new : GroupHeld) : Type 0 where
   pub tree : new.tree ≡ old.tree
   pub view : StillHere old.view new.view
   -- below the root nobody looked at it
   pub below : 0 < old.view.tier → new.view ≡ old.view
   pub tokens : Each (Did OnlyLooks tries) old.tokens new.tokens
+  pub spent : HasSpent tries old.tokens new.tokens
+
+-- the same by at most so many tries
+pub record KeepsSoon (tries : ℕ) (old new : GroupHeld) : Type 0 where
+  pub used : ℕ
+  pub few : used ≤ tries
+  pub kept : KeepsAll used old new
 
 -- every token's member has arrived, once
 pub record CountsAll (P : List Kind → List Kind → Type 0) (tries : ℕ) (old new : GroupHeld) : Type 0 where
@@ -81,13 +93,12 @@ abbrev pub TriesAll : ℕ → GroupHeld → TriedAll → Type 0
 TriesAll tries old (tried.Yet group) = KeepsAll tries old group
 TriesAll tries old (tried.Done group) = CountsAll ArrivesOnce tries old group
 TriesAll tries old (tried.Owing errand rest) = CountsLast ArrivesOnce tries old errand.token rest
-TriesAll tries old (tried.Ended group word) = KeepsAll tries old group × (word.ended ≡ true) × (group.view.end_seen ≡ Some word.phase)
+TriesAll tries old (tried.Ended group word) = KeepsSoon tries old group × (word.ended ≡ true) × (group.view.end_seen ≡ Some word.phase)
 
 -- one look at the root
 abbrev pub Looks : List Kind → List Kind → Type 0
 Looks old new = new ≡ Look ∷ old
 
--- the members after a look at the root
 -- the views of tokens that have looked at the root, and whose members have arrived then
 pub record HavePassed (old new : View) : Type 0 where
   pub from : View
@@ -95,14 +106,15 @@ pub record HavePassed (old new : View) : Type 0 where
   pub here : AllHere from new
   pub unled : new.led ≡ false
 
--- What each answer says. After Done nobody owes anything. After Owing the errand's token owes a climb or the advance. After the other answers nothing was counted.
+-- What each answer says. After Done nobody owes anything. After Owing the errand's token owes a climb or the advance. After the other answers nothing was counted, and before Busy all tries
+-- were made.
 abbrev pub ArrivesAll : GroupHeld → ℕ → ArrivedAll → Type 0
 ArrivesAll old tries (answer.Done group phase) = (group.tree ≡ old.tree) × HavePassed old.view group.view × (phase ≡ group.view.phase) × Each (Did (HasStepped Arrival) tries) old.tokens group.tokens
 ArrivesAll old tries (answer.Owing errand rest) = (errand.token.tree ≡ old.tree) × HavePassed old.view errand.token.view × ((c : GroupHeld) → rest ≡ Some c → (c.tree ≡ old.tree) × HavePassed old.view c.view × AreTogether errand.token.view c.view)
     × Each (Did (HasStepped Arrival) tries) old.tokens (sight_held errand.token ∷ tokens_in rest)
 ArrivesAll old tries (answer.AlreadyArrived group phase) = (group.tree ≡ old.tree) × IsLooked old.view group.view × IsFresh group.view × (group.view.arrived ≡ 1) × (phase ≡ group.view.phase) × Each (Did HasLooked tries) old.tokens group.tokens
 ArrivesAll old tries (answer.Ended group shown) = (group.tree ≡ old.tree) × IsLooked old.view group.view × EndSeen group.view shown × Each (Did HasLooked tries) old.tokens group.tokens
-ArrivesAll old tries (answer.Busy group) = (group.tree ≡ old.tree) × IsLooked old.view group.view × (group.view.arrived ≡ 0) × Each (Did HasLooked tries) old.tokens group.tokens
+ArrivesAll old tries (answer.Busy group) = (group.tree ≡ old.tree) × IsLooked old.view group.view × (group.view.arrived ≡ 0) × Each (Did HasLooked tries) old.tokens group.tokens × HasSpent tries old.tokens group.tokens
 
 -- all members had arrived in the phase before, and this one is the next
 pub record AllPassedOn (old new : View) : Type 0 where

@@ -8,10 +8,10 @@ use Rattle.tier_rule.specs.declared.sight.Sight.{Sight}
 use Rattle.tier_rule.specs.Group.{all_stepped, looked_all}
 use Rattle.tier_calls.specs.Holding.{Named}
 use Rattle.tier_calls.specs.Passes.{EndSeen, IsFresh}
-use Rattle.tier_calls.specs.Groups.{GroupHeld, glanced, AllLooked}
-use Rattle.tier_calls.specs.ArrivesAll.{KeepsAll}
+use Rattle.tier_calls.specs.Groups.{GroupHeld, glanced}
+use Rattle.tier_calls.specs.ArrivesAll.{KeepsAll, KeepsSoon}
 use Rattle.tier_calls.specs.NewTokens.{TokensHeld, AreBlank, AreSat, IsEager}
-use Rattle.tier_calls.specs.ArrivesWith.{FirstLook}
+use Rattle.tier_calls.specs.ArrivesWith.{FirstLook, OnlyTried, FindsFull}
 use Rattle.tier_calls.specs.declared.joining_all.JoinTry.{JoinTry}
 use Rattle.tier_calls.specs.declared.joining_all.JoinTry.TheVariants as tried
 use Rattle.tier_calls.specs.declared.joining_all.TriedJoin.{TriedJoin}
@@ -45,8 +45,10 @@ pub record HasJoined (tries n : ℕ) (old new : GroupHeld) : Type 0 where
   pub mid : GroupHeld
   pub word : Fields
   pub pool : TokensHeld
-  -- nothing was counted before
-  pub kept : KeepsAll tries old mid
+  -- nothing was counted before, by the other tries
+  pub used : ℕ
+  pub few : used < tries
+  pub kept : KeepsAll used old mid
   -- the members had not arrived, and the root was open
   pub eager : IsEager mid.view
   -- the tokens are new, and there was room for them at the tier
@@ -56,31 +58,16 @@ pub record HasJoined (tries n : ℕ) (old new : GroupHeld) : Type 0 where
   pub view : new.view ≡ mid.view
   pub tokens : new.tokens ≡ sights_joined mid pool word
 
--- At the last look at the tier, it had this many parties, and no room for `n` more.
-pub record FindsFull (n : ℕ) (group : GroupHeld) (count : ℕ) : Type 0 where
-  pub before : GroupHeld
-  pub word : Fields
-  pub found : AllLooked group.view.tier word 0 before group
-  pub parties : count ≡ word.parties
-  pub full : 65535 < count + n
-
 abbrev pub TriesToJoin : ℕ → ℕ → GroupHeld → TriedJoin → Type 0
 TriesToJoin tries n old (went.Yet group) = KeepsAll tries old group
 TriesToJoin tries n old (went.Joined group) = HasJoined tries n old group
-TriesToJoin tries n old (went.Full group count) = KeepsAll tries old group × FindsFull n group count
-TriesToJoin tries n old (went.Ended group word) = KeepsAll tries old group × (word.ended ≡ true) × (group.view.end_seen ≡ Some word.phase)
+TriesToJoin tries n old (went.Full group count) = (used : ℕ) × (used < tries) × KeepsAll used old group × FindsFull n group count
+TriesToJoin tries n old (went.Ended group word) = KeepsSoon tries old group × (word.ended ≡ true) × (group.view.end_seen ≡ Some word.phase)
 
--- One look at the root, which found members that had not arrived, and then some looks and refreshes, which counted nothing.
-pub record OnlyTried (tries : ℕ) (old new : GroupHeld) : Type 0 where
-  pub mid : GroupHeld
-  pub first : FirstLook old mid
-  pub none : mid.view.arrived ≡ 0
-  pub kept : KeepsAll tries mid new
-
--- What each answer says, after one look at the root.
+-- What each answer says, after one look at the root. Before Busy all tries were made.
 abbrev pub JoinsAll : ℕ → ℕ → GroupHeld → JoinedAll → Type 0
 JoinsAll tries n old (answer.Joined group phase) = (mid : GroupHeld) × FirstLook old mid × HasJoined tries n mid group × (phase ≡ group.view.phase)
-JoinsAll tries n old (answer.Full group count) = OnlyTried tries old group × FindsFull n group count
+JoinsAll tries n old (answer.Full group count) = (used : ℕ) × (used < tries) × OnlyTried used old group × FindsFull n group count
 JoinsAll tries n old (answer.AlreadyArrived group phase) = FirstLook old group × IsFresh group.view × (group.view.arrived ≡ 1) × (phase ≡ group.view.phase)
-JoinsAll tries n old (answer.Ended group shown) = (mid : GroupHeld) × FirstLook old mid × KeepsAll tries mid group × EndSeen group.view shown
+JoinsAll tries n old (answer.Ended group shown) = (mid : GroupHeld) × FirstLook old mid × KeepsSoon tries mid group × EndSeen group.view shown
 JoinsAll tries n old (answer.Busy group) = OnlyTried tries old group

@@ -6,12 +6,13 @@ ghost use Rattle.tier_steps.specs.Step.{CanPass, CanRefresh};
 ghost use Rattle.tier_rule.specs.Group.{AreOf, Among, LookedAll};
 ghost use Rattle.tier_calls.specs.Splits.{SplitAt, AreTogether, Together};
 ghost use Rattle.tier_calls.specs.Settles.{HaveAllArrived, Settles};
-ghost use Rattle.tier_calls.specs.ArrivesAll.{KeepsAll, TriesAll, ArrivesAll, PollsAll};
+ghost use Rattle.tier_calls.specs.ArrivesAll.{KeepsAll, KeepsSoon, TriesAll, ArrivesAll, PollsAll};
 ghost use Rattle.tier_calls.specs.Waited.{PollAllWaited};
 ghost use Rattle.tier_rule.specs.declared.sight.Key.{Key};
 ghost use Rattle.tier_calls.specs.Holding.{sight_held};
 ghost use Rattle.tier_rule.specs.Reach.{those, front_of, rest_of};
 ghost use Rattle.tier_calls.specs.LastOnes.{IsLast, TriesLast};
+ghost use Rattle.tier_calls.specs.declared.groups.TriedAll.TheVariants as tried;
 ghost use Rattle.tier_calls.specs.Groups.{AreSeated, group_of, AllLooked, glanced, MayGo, HaveGone, HaveLost, AllArrived, AllLost};
 
 use crate::going::Going;
@@ -145,6 +146,16 @@ pub(crate) fn view_glanced(tier: u16, word: Word, view: View) -> View
     if tier == 0 { look(word, view) } else { view }
 }
 
+/// Returns how a try came out by which nobody arrived last. `lost` is the other word if the try was lost.
+fn tried_early(group: Group, lost: Option<Word>) -> TriedAll
+    ensures { MatchOption lost (result ≡ tried.Done group) (λ z. result ≡ tried.Yet group) }
+{
+    match lost {
+        None => TriedAll::Done(group),
+        Some(_) => TriedAll::Yet(group),
+    }
+}
+
 impl Group {
     /// Makes one of a crew with one member.
     pub fn of(crew: Crew) -> Group
@@ -161,6 +172,19 @@ impl Group {
             view,
             count: 1,
         }
+    }
+
+    /// Returns its seat.
+    pub(crate) fn into_seat(self) -> Seat<Kind, Sights>
+        ensures table { result.table_id ≡ self.tree.id }
+        ensures seat { result.me ≡ (self.tokens, []) }
+    {
+        let Group {
+            seat,
+            view: _,
+            count: _,
+        } = self;
+        seat
     }
 
     /// Returns the number of tokens, which is the number of members.
@@ -367,10 +391,8 @@ impl Tiers {
             return TriedAll::Yet(group);
         }
         if word.unarrived > group.size() {
-            return match self.arrive_early(&mut group, word) {
-                None => TriedAll::Done(group),
-                Some(_) => TriedAll::Yet(group),
-            };
+            let lost = self.arrive_early(&mut group, word);
+            return tried_early(group, lost);
         }
         match self.arrive_last(group, word) {
             LastTry::Owing(errand, others) => TriedAll::Owing(errand, others),
@@ -430,7 +452,7 @@ impl Tiers {
         requires own { group.old.tree ≡ self.now }
         requires place { group.old.view.tier < length self.now.key.shape }
         requires unarrived { group.old.view.arrived ≡ 0 }
-        ensures kept { KeepsAll 1 group.old group.new }
+        ensures kept { KeepsSoon 1 group.old group.new }
         ensures root { group.old.view.tier ≡ 0 → group.new.view ≡ group.old.view }
     {
         let tier = group.tier();

@@ -33,12 +33,21 @@
 //! * `tokens.rt`: the tokens; `seen.rt`: words as the numbers in the table, which a step unpacks only in part;
 //!   `tiers.rt`: single loads and exchanges; `going.rt`: calls that go on; `stepping.rt`: the steps of arrivals and
 //!   departures, by kind; `writing.rt`: what a step writes into a view; `arriving.rt`, `in_place.rt` (an arrival whose
-//!   crew isn't moved), `joining.rt`, `beside.rt` (`join_here`), `polling.rt`, `forcing.rt`, `closing.rt`: the calls.
+//!   crew isn't moved), `joining.rt`, `beside.rt` (`join_here`), `polling.rt`, `forcing.rt`, `closing.rt`: the calls;
+//!   `next.rt`: which tier a call looks for; `seated.rt`: a token's seat.
+//! * `groups.rt`: groups, their arrivals and polls, how they split and go together; `arriving_with.rt`: an arrival with
+//!   which others join and leave, and the new tokens for it; `joining_all.rt`: registrations beside a group;
+//!   `registering_all.rt`: those of a new group at any tier; `leaving_all.rt`: all departures; `finishing.rt`: the rest of
+//!   an arrival that was counted, and the group as a whole.
 //! * `proofs/Seating.antt`: a token's seat; `Turning.antt` and `Running.antt`: the loop; `Tries.antt`: those steps;
 //!   `Settling.antt`, `Staying.antt`, `Coming.antt`, `Waits.antt`: the answers; `Sitting.antt` and `Pairing.antt`:
 //!   new seats, and two that look at once; `StayingHere.antt` and `Greeting.antt`: a door beside a crew;
 //!   `Making.antt`, `Entering.antt` and `Breaking.antt`: which kinds of step a call takes (`specs/Made.antt`);
 //!   `Gathering.antt`: the end; `Ending.antt`: the end that was seen.
+//! * `proofs/Grouping.antt`: a group's seat; `Arrivals.antt`, `LastOnes.antt`, `LeavingAll.antt`, `Exchanging.antt`: their
+//!   exchanges; `ExchangeTry.antt`, `JoiningTry.antt`: one try of these; `ArrivingAll.antt`, `ExchangeTries.antt`,
+//!   `JoiningTries.antt`, `LeavingTries.antt`: what each token did; `Splitting.antt`, `Few.antt`, `Settled.antt`: groups that
+//!   split and go together; `Registering.antt`: a new group.
 #![tactic(auto)]
 
 pub mod arriving;

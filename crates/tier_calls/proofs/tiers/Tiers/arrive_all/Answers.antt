@@ -1,4 +1,4 @@
-use Rattle.std.proofs.Common.{rules, ◌<◌, length, sym, ap, subst, ◌∙◌}
+use Rattle.std.proofs.Common.{rules, ◌<◌, length, sym, ap, subst, ◌∙◌, arith}
 use Rattle.std.proofs.lemmas.Int.{to_z-of_z}
 use mir.Syntax.{w32}
 use mir.Val.{SFits}
@@ -6,7 +6,7 @@ use Rattle.phaser_word.specs.Fields.{Fields}
 use Rattle.phaser_word.specs.Phase.{shown_of}
 use Rattle.tier_calls.specs.Holding.{Named}
 use Rattle.tier_calls.specs.Groups.{GroupHeld}
-use Rattle.tier_calls.proofs.ArrivingAll.{first_look, first_fresh_all, end_shown_all, no_more, waited, done_all, owing_all, to_arrive}
+use Rattle.tier_calls.proofs.ArrivingAll.{first_look, first_fresh_all, end_shown_all, no_more, waited, keeps_soon, spent_since, done_all, owing_all, to_arrive}
 use Rattle.tier_calls.proofs.tiers.Tiers.arrive_all.Goals as goal
 
 pub returns-then-root : goal.returns-then-root
@@ -39,8 +39,8 @@ try_all-requires-clause-unarrived c =
 
 pub returns-in-Yet : goal.returns-in-Yet
 returns-in-Yet c =
-    let w = waited c.args.tries (first_look c.look_all-root.ensures) c.in-Yet.ensures in
-    (w.tree, w.looked, c.in-Yet.ensures.view.same.arrived ∙ to_arrive c.look_all-root.new.group.view c.look_all-root.ensures.group.view (λ e. c.if-group-eq1.false (ap (λ (z : GroupHeld). z.view.arrived) c.group.view_is ∙ e)), w.tokens)
+    let w = waited c.args.tries (first_look c.look_all-root.ensures) (keeps_soon c.args.tries c.args.tries (omega arith) c.in-Yet.ensures) in
+    (w.tree, w.looked, c.in-Yet.ensures.view.same.arrived ∙ to_arrive c.look_all-root.new.group.view c.look_all-root.ensures.group.view (λ e. c.if-group-eq1.false (ap (λ (z : GroupHeld). z.view.arrived) c.group.view_is ∙ e)), w.tokens, spent_since c.args.tries (first_look c.look_all-root.ensures) c.in-Yet.ensures)
 
 pub returns-in-Done : goal.returns-in-Done
 returns-in-Done c = done_all c.args.tries _ (first_look c.look_all-root.ensures) c.in-Done.ensures c.phase-phase-in-Done.ensures

@@ -6,8 +6,9 @@ use Rattle.phaser_word.specs.Fields.{Fields}
 use Rattle.phaser_word.specs.Phase.{shown_of}
 use Rattle.tier_calls.specs.Holding.{Named}
 use Rattle.tier_calls.specs.Groups.{GroupHeld}
-use Rattle.tier_calls.proofs.ArrivingAll.{first_look, first_fresh_all, end_shown_all, keeps_none, keeps_wider, to_arrive}
+use Rattle.tier_calls.proofs.ArrivingAll.{first_look, first_fresh_all, end_shown_all, keeps_none, keeps_soon, to_arrive}
 use Rattle.tier_calls.proofs.ExchangeTries.{eager_first, still_many}
+use Rattle.tier_calls.proofs.JoiningTries.{only_tried}
 use Rattle.tier_calls.proofs.tiers.Tiers.arrive_with.Goals as goal
 
 pub returns-then-root-clause-answer : goal.returns-then-root-clause-answer
@@ -16,7 +17,7 @@ returns-then-root-clause-answer c =
     let f : SFits w32 c.shown.result = search rules in (
       c.look_all-root.new.group,
       first_look c.look_all-root.ensures,
-      keeps_wider 0 c.args.tries (omega arith) (keeps_none c.look_all-root.new.group),
+      keeps_soon 0 c.args.tries (omega arith) (keeps_none c.look_all-root.new.group),
       (c.look_all-root.result.phase, end_shown_all c.look_all-root.ensures e, to_z-of_z w32 c.shown.result f ∙ c.shown.ensures ∙ ap (shown_of c.look_all-root.result.phase) e),
     )
 
@@ -43,7 +44,8 @@ pub try_with-requires-clause-come : goal.try_with-requires-clause-come
 try_with-requires-clause-come c = let a = still_many c.look_all-root.ensures in let b = c.requires.come in omega arith
 
 pub returns-in-Yet-clause-answer : goal.returns-in-Yet-clause-answer
-returns-in-Yet-clause-answer c = (c.look_all-root.new.group, first_look c.look_all-root.ensures, c.in-Yet.ensures.went)
+returns-in-Yet-clause-answer c =
+    only_tried c.look_all-root.ensures (to_arrive c.look_all-root.new.group.view c.look_all-root.ensures.group.view (λ e. c.if-group-eq1.false (ap (λ (z : GroupHeld). z.view.arrived) c.group.view_is ∙ e))) c.in-Yet.ensures.went
 
 pub returns-in-Done-clause-answer : goal.returns-in-Done-clause-answer
 returns-in-Done-clause-answer c = (c.look_all-root.new.group, first_look c.look_all-root.ensures, c.in-Done.ensures.went, c.phase-phase-in-Done.ensures)
@@ -52,7 +54,9 @@ pub returns-in-Owing-clause-answer : goal.returns-in-Owing-clause-answer
 returns-in-Owing-clause-answer c = (c.look_all-root.new.group, first_look c.look_all-root.ensures, c.in-Owing.ensures.went.0, c.in-Owing.ensures.went.1)
 
 pub returns-in-Full-clause-answer : goal.returns-in-Full-clause-answer
-returns-in-Full-clause-answer c = (c.look_all-root.new.group, first_look c.look_all-root.ensures, c.in-Full.ensures.went.0, c.in-Full.ensures.went.1)
+returns-in-Full-clause-answer c =
+    let w = c.in-Full.ensures.went in
+    (w.0, w.1, only_tried c.look_all-root.ensures (to_arrive c.look_all-root.new.group.view c.look_all-root.ensures.group.view (λ e. c.if-group-eq1.false (ap (λ (z : GroupHeld). z.view.arrived) c.group.view_is ∙ e))) w.2, w.3)
 
 pub returns-in-Ended-clause-answer : goal.returns-in-Ended-clause-answer
 returns-in-Ended-clause-answer c =

@@ -6,7 +6,7 @@ use Rattle.phaser_word.specs.Fields.{Fields}
 use Rattle.phaser_word.specs.Phase.{shown_of}
 use Rattle.tier_calls.specs.Holding.{Named}
 use Rattle.tier_calls.specs.Groups.{GroupHeld}
-use Rattle.tier_calls.proofs.ArrivingAll.{first_look, first_fresh_all, end_shown_all, keeps_none, keeps_wider, to_arrive}
+use Rattle.tier_calls.proofs.ArrivingAll.{first_look, first_fresh_all, end_shown_all, keeps_none, keeps_soon, to_arrive}
 use Rattle.tier_calls.proofs.ExchangeTries.{eager_first}
 use Rattle.tier_calls.proofs.JoiningTries.{only_tried}
 use Rattle.tier_calls.proofs.tiers.Tiers.join_all.Goals as goal
@@ -17,7 +17,7 @@ returns-then-root-clause-answer c =
     let f : SFits w32 c.shown.result = search rules in (
       c.look_all-root.new.group,
       first_look c.look_all-root.ensures,
-      keeps_wider 0 c.args.tries (omega arith) (keeps_none c.look_all-root.new.group),
+      keeps_soon 0 c.args.tries (omega arith) (keeps_none c.look_all-root.new.group),
       (c.look_all-root.result.phase, end_shown_all c.look_all-root.ensures e, to_z-of_z w32 c.shown.result f ∙ c.shown.ensures ∙ ap (shown_of c.look_all-root.result.phase) e),
     )
 
@@ -47,7 +47,8 @@ returns-in-Joined-clause-answer c = (c.look_all-root.new.group, first_look c.loo
 pub returns-in-Full-clause-answer : goal.returns-in-Full-clause-answer
 returns-in-Full-clause-answer c =
     let none = to_arrive c.look_all-root.new.group.view c.look_all-root.ensures.group.view (λ e. c.if-group-eq1.false (ap (λ (z : GroupHeld). z.view.arrived) c.group.view_is ∙ e)) in
-    (only_tried c.look_all-root.ensures none c.in-Full.ensures.went.0, c.in-Full.ensures.went.1)
+    let w = c.in-Full.ensures.went in
+    (w.0, w.1, only_tried c.look_all-root.ensures none w.2, w.3)
 
 pub returns-in-Ended-clause-answer : goal.returns-in-Ended-clause-answer
 returns-in-Ended-clause-answer c =

@@ -1,4 +1,4 @@
-use Rattle.std.proofs.Common.{rules, ◌<◌, length, sym, ap, subst, ◌∙◌}
+use Rattle.std.proofs.Common.{rules, ◌<◌, length, sym, ap, subst, ◌∙◌, arith}
 use Rattle.std.proofs.lemmas.Int.{to_z-of_z}
 use mir.Syntax.{w32}
 use mir.Val.{SFits}
@@ -6,7 +6,7 @@ use Rattle.phaser_word.specs.Fields.{Fields}
 use Rattle.phaser_word.specs.Phase.{shown_of}
 use Rattle.tier_calls.specs.Holding.{Named}
 use Rattle.tier_calls.specs.Groups.{GroupHeld}
-use Rattle.tier_calls.proofs.ArrivingAll.{first_look, first_fresh_all, end_shown_all, no_more, waited, to_arrive}
+use Rattle.tier_calls.proofs.ArrivingAll.{first_look, first_fresh_all, end_shown_all, no_more, waited, keeps_soon, spent_since, to_arrive}
 use Rattle.tier_calls.proofs.LeavingTries.{left_all, left_owing}
 use Rattle.tier_calls.proofs.tiers.Tiers.leave_all.Goals as goal
 
@@ -40,8 +40,8 @@ try_leaving-requires-clause-unarrived c =
 
 pub returns-in-Yet : goal.returns-in-Yet
 returns-in-Yet c =
-    let w = waited c.args.tries (first_look c.look_all-root.ensures) c.in-Yet.ensures in
-    (w.tree, w.looked, c.in-Yet.ensures.view.same.arrived ∙ to_arrive c.look_all-root.new.group.view c.look_all-root.ensures.group.view (λ e. c.if-group-eq1.false (ap (λ (z : GroupHeld). z.view.arrived) c.group.view_is ∙ e)), w.tokens)
+    let w = waited c.args.tries (first_look c.look_all-root.ensures) (keeps_soon c.args.tries c.args.tries (omega arith) c.in-Yet.ensures) in
+    (w.tree, w.looked, c.in-Yet.ensures.view.same.arrived ∙ to_arrive c.look_all-root.new.group.view c.look_all-root.ensures.group.view (λ e. c.if-group-eq1.false (ap (λ (z : GroupHeld). z.view.arrived) c.group.view_is ∙ e)), w.tokens, spent_since c.args.tries (first_look c.look_all-root.ensures) c.in-Yet.ensures)
 
 pub returns-in-Left : goal.returns-in-Left
 returns-in-Left c = left_all c.args.tries (first_look c.look_all-root.ensures) c.in-Left.ensures c.phase-phase-in-Left.ensures.phase

@@ -33,14 +33,14 @@ returns-then-phase-before-clause-answer c =
     let w = waited 1 (first_look c.look_all-word.ensures) c.catch_up_all.ensures.kept in
     let none = to_arrive c.look_all-word.new.group.view c.look_all-word.ensures.group.view (λ e. c.if-group-eq1.false (ap (λ (z : GroupHeld). z.view.arrived) c.group.view_is ∙ e)) in
     let fresh = fresh_still 1 c.look_all-word.ensures (ap (λ (w : Fields). w.ended) (sym c.word.view_is) ∙ c.if-word.false) c.catch_up_all.ensures.kept c.catch_up_all.ensures.root in
-    (w.tree, w.looked, fresh, c.catch_up_all.ensures.kept.view.same.arrived ∙ none, c.phase-phase.ensures, w.tokens)
+    (w.tree, w.looked, fresh, c.catch_up_all.ensures.kept.kept.view.same.arrived ∙ none, c.phase-phase.ensures, w.tokens)
 
 pub returns-clause-answer : goal.returns-clause-answer
 returns-clause-answer c =
     let w = waited 1 (first_look c.look_all-word.ensures) c.catch_up_all.ensures.kept in
     let none = to_arrive c.look_all-word.new.group.view c.look_all-word.ensures.group.view (λ e. c.if-group-eq1.false (ap (λ (z : GroupHeld). z.view.arrived) c.group.view_is ∙ e)) in
     let fresh = fresh_still 1 c.look_all-word.ensures (ap (λ (w : Fields). w.ended) (sym c.word.view_is) ∙ c.if-word.false) c.catch_up_all.ensures.kept c.catch_up_all.ensures.root in
-    let on = passed_on c.args.group.now.view c.catch_up_all.new.group.view c.look_all-word.ensures.was.view w.looked (c.catch_up_all.ensures.kept.view.same.arrived ∙ none)
+    let on = passed_on c.args.group.now.view c.catch_up_all.new.group.view c.look_all-word.ensures.was.view w.looked (c.catch_up_all.ensures.kept.kept.view.same.arrived ∙ none)
     (λ e. c.if-phase-before.false (c.phase-phase.ensures ∙ (e ∙ sym c.phase-before.ensures))) in
     (w.tree, w.looked, fresh, on, c.phase-phase.ensures, w.tokens)
 

@@ -21,4 +21,4 @@ returns-in-Some c =
     lost_keeps c.group.inside.seat.me c.go_together.new.seat.me c.group.invariant c.group.view_is c.requires.own c.requires.unarrived c.go_together.ensures.table c.in-Some.ensures.gone c.view_glanced-group-inside.ensures
 
 pub returns-in_default : goal.returns-in_default
-returns-in_default c = refreshed_keeps c.group.inside.seat.me c.go_together.new.seat.me c.group.view_is c.go_together.ensures.table c.in_default.ensures.gone
+returns-in_default c = refreshed_keeps c.group.inside.seat.me c.go_together.new.seat.me c.group.invariant c.group.view_is c.go_together.ensures.table c.in_default.ensures.gone

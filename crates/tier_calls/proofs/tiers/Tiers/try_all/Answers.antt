@@ -1,4 +1,4 @@
-use Rattle.std.proofs.Common.{◌+◌, arith}
+use Rattle.std.proofs.Common.{◌+◌, refl, arith}
 use Rattle.tier_calls.proofs.ArrivingAll.{keeps_none, keeps_then, comes_then}
 use Rattle.tier_calls.proofs.tiers.Tiers.try_all.Goals as goal
 
@@ -6,7 +6,7 @@ pub loop-init : goal.loop-init
 loop-init c = keeps_none c.args.group
 
 pub returns-in_default : goal.returns-in_default
-returns-in_default c = comes_then c.loop.counter c.args.tries (let a = c.loop-test.true in omega arith) c.loop.invariant c.try_all_once.result c.try_all_once.ensures
+returns-in_default c = comes_then c.loop.counter c.args.tries (let a = c.loop-test.true in omega arith) c.loop.invariant c.try_all_once.result (λ group is. c.in_default.not-Yet group is) c.try_all_once.ensures
 
 pub loop-preserved : goal.loop-preserved
-loop-preserved c = keeps_then c.loop.counter 1 (c.loop.counter + 1) (omega arith) c.loop.invariant c.in-Yet.ensures
+loop-preserved c = keeps_then c.loop.counter 1 (c.loop.counter + 1) refl c.loop.invariant c.in-Yet.ensures

@@ -1,31 +1,26 @@
-use Rattle.std.proofs.Common.{ℕ, sym, ap, subst, ◌∙◌, arith}
+use Rattle.std.proofs.Common.{ℕ, refl, sym, ap, subst, ◌∙◌, arith}
 use Rattle.phaser_word.specs.Fields.{Fields}
 use Rattle.tier_core.specs.Turn.{lags}
 use Rattle.tier_steps.specs.Step.{CanPass}
 use Rattle.tier_calls.specs.Groups.{GroupHeld}
-use Rattle.tier_calls.proofs.ArrivingAll.{looked_yet, none_now, ready, lost_after, keeps_then, arrived_counts, counts_then, last_counts, last_then, last_count, end_shown_all, looked_keeps, yet}
+use Rattle.tier_calls.proofs.ArrivingAll.{looked_yet, ready, lost_after, keeps_then, early_tried, last_counts, last_then, last_count, end_shown_all, keeps_soon}
 use Rattle.tier_calls.proofs.tiers.Tiers.try_all_once.Goals as goal
 
 pub returns-then-word : goal.returns-then-word
 returns-then-word c =
     let e = ap (λ (w : Fields). w.ended) (sym c.word.view_is) ∙ c.if-word.true in
-    (looked_keeps 1 (omega arith) c.tier-tier.ensures (yet c.args.group.view c.look_all-word.ensures.was.view c.requires.unarrived) c.look_all-word.ensures, e, end_shown_all c.look_all-word.ensures e)
+    (keeps_soon 0 1 (omega arith) (looked_yet c.look_all-word.ensures c.tier-tier.ensures c.requires.unarrived), e, end_shown_all c.look_all-word.ensures e)
 
 pub returns-then-is_behind : goal.returns-then-is_behind
-returns-then-is_behind c = keeps_then 0 1 1 (omega arith) (looked_yet c.look_all-word.ensures c.tier-tier.ensures c.requires.unarrived) c.refresh_first.ensures
+returns-then-is_behind c = keeps_then 0 1 1 refl (looked_yet c.look_all-word.ensures c.tier-tier.ensures c.requires.unarrived) c.refresh_first.ensures
 
-pub arrive_early-requires-clause-may : goal.arrive_early-requires-clause-may
-arrive_early-requires-clause-may c =
+pub arrive_early-lost-requires-clause-may : goal.arrive_early-lost-requires-clause-may
+arrive_early-lost-requires-clause-may c =
     ready c.look_all-word.ensures c.tier-tier.ensures c.requires.unarrived (ap (λ (w : Fields). w.ended) (sym c.word.view_is) ∙ c.if-word.false)
     (ap (λ (z : GroupHeld). lags c.look_all-word.result z.view) (sym c.group.view_is) ∙ (sym c.is_behind.ensures ∙ c.if-is_behind.false))
 
-pub returns-in-None : goal.returns-in-None
-returns-in-None c =
-    let k = looked_yet c.look_all-word.ensures c.tier-tier.ensures c.requires.unarrived in
-    counts_then 0 1 (omega arith) k (arrived_counts (none_now k c.requires.unarrived) c.in-None.ensures)
-
-pub returns-in-Some : goal.returns-in-Some
-returns-in-Some c = lost_after c.look_all-word.ensures c.tier-tier.ensures c.requires.unarrived c.in-Some.ensures
+pub returns-then-word-size : goal.returns-then-word-size
+returns-then-word-size c = early_tried _ c.tried_early.result c.arrive_early-lost.result c.look_all-word.ensures c.tier-tier.ensures c.requires.unarrived c.arrive_early-lost.ensures c.tried_early.ensures
 
 pub arrive_last-requires-clause-may : goal.arrive_last-requires-clause-may
 arrive_last-requires-clause-may c =

@@ -1,9 +1,9 @@
-use Rattle.std.proofs.Common.{ℕ, sym, ap, subst, ◌∙◌, arith}
+use Rattle.std.proofs.Common.{ℕ, refl, sym, ap, subst, ◌∙◌, arith}
 use Rattle.phaser_word.specs.Fields.{Fields, IsLegal}
 use Rattle.tier_core.specs.Turn.{lags}
 use Rattle.tier_steps.specs.Step.{CanPass}
 use Rattle.tier_calls.specs.Groups.{GroupHeld}
-use Rattle.tier_calls.proofs.ArrivingAll.{looked_yet, ready, lost_after, keeps_then, last_count, end_shown_all, looked_keeps, yet}
+use Rattle.tier_calls.proofs.ArrivingAll.{looked_yet, ready, lost_after, keeps_then, last_count, end_shown_all, keeps_soon}
 use Rattle.tier_calls.proofs.ExchangeTries.{has_parties}
 use Rattle.tier_calls.proofs.LeavingTries.{left_first, left_last}
 use Rattle.tier_calls.proofs.tiers.Tiers.try_leaving_once.Goals as goal
@@ -11,10 +11,10 @@ use Rattle.tier_calls.proofs.tiers.Tiers.try_leaving_once.Goals as goal
 pub returns-then-word : goal.returns-then-word
 returns-then-word c =
     let e = ap (λ (w : Fields). w.ended) (sym c.word.view_is) ∙ c.if-word.true in
-    (looked_keeps 1 (omega arith) c.tier-tier.ensures (yet c.args.group.view c.look_all-word.ensures.was.view c.requires.unarrived) c.look_all-word.ensures, e, end_shown_all c.look_all-word.ensures e)
+    (keeps_soon 0 1 (omega arith) (looked_yet c.look_all-word.ensures c.tier-tier.ensures c.requires.unarrived), e, end_shown_all c.look_all-word.ensures e)
 
 pub returns-then-is_behind : goal.returns-then-is_behind
-returns-then-is_behind c = keeps_then 0 1 1 (omega arith) (looked_yet c.look_all-word.ensures c.tier-tier.ensures c.requires.unarrived) c.refresh_first.ensures
+returns-then-is_behind c = keeps_then 0 1 1 refl (looked_yet c.look_all-word.ensures c.tier-tier.ensures c.requires.unarrived) c.refresh_first.ensures
 
 pub leave_together-requires-clause-may : goal.leave_together-requires-clause-may
 leave_together-requires-clause-may c =

@@ -1,4 +1,4 @@
-use Rattle.std.proofs.Common.{ℕ, ◌∷◌, sym, ap, subst, ◌∙◌, arith}
+use Rattle.std.proofs.Common.{ℕ, refl, ◌∷◌, sym, ap, subst, ◌∙◌, arith}
 use Rattle.phaser_word.specs.Fields.{Fields}
 use Rattle.tier_steps.specs.Step.{CanPass}
 use Rattle.tier_core.specs.Turn.{lags}
@@ -6,21 +6,24 @@ use Rattle.tier_calls.specs.Holding.{sight_held}
 use Rattle.tier_calls.specs.LastOnes.{tokens_in}
 use Rattle.tier_calls.specs.Groups.{GroupHeld}
 use Rattle.tier_calls.proofs.NewTokens.{are_blank, are_many}
-use Rattle.tier_calls.proofs.ArrivingAll.{looked_yet, none_now, ready, keeps_then, keeps_wider, last_count, end_shown_all, looked_keeps, yet}
+use Rattle.tier_calls.proofs.ArrivingAll.{looked_yet, none_now, ready, keeps_then, last_count, end_shown_all, keeps_soon, yet}
 use Rattle.tier_calls.proofs.ExchangeTries.{lost_pass, eager_now, has_parties, still_many, passed_from, others_from}
+use Rattle.tier_calls.proofs.JoiningTries.{finds_full}
 use Rattle.tier_calls.proofs.tiers.Tiers.try_with_once.Goals as goal
 
 pub returns-then-word-clause-went : goal.returns-then-word-clause-went
 returns-then-word-clause-went c =
     let e = ap (λ (w : Fields). w.ended) (sym c.word.view_is) ∙ c.if-word.true in
-    (looked_keeps 1 (omega arith) c.tier-tier.ensures (yet c.args.group.view c.look_all-word.ensures.was.view c.requires.unarrived) c.look_all-word.ensures, e, end_shown_all c.look_all-word.ensures e)
+    (keeps_soon 0 1 (omega arith) (looked_yet c.look_all-word.ensures c.tier-tier.ensures c.requires.unarrived), e, end_shown_all c.look_all-word.ensures e)
 
 pub returns-then-is_behind-clause-went : goal.returns-then-is_behind-clause-went
-returns-then-is_behind-clause-went c = keeps_then 0 1 1 (omega arith) (looked_yet c.look_all-word.ensures c.tier-tier.ensures c.requires.unarrived) c.refresh_first.ensures
+returns-then-is_behind-clause-went c = keeps_then 0 1 1 refl (looked_yet c.look_all-word.ensures c.tier-tier.ensures c.requires.unarrived) c.refresh_first.ensures
 
 pub returns-then-joining-word-clause-went : goal.returns-then-joining-word-clause-went
 returns-then-joining-word-clause-went c =
-    (keeps_wider 0 1 (omega arith) (looked_yet c.look_all-word.ensures c.tier-tier.ensures c.requires.unarrived), (let a = c.if-joining-word.true in omega arith))
+    let k = looked_yet c.look_all-word.ensures c.tier-tier.ensures c.requires.unarrived in
+    let d = ap (λ (z : Fields). z.parties) c.word-2.view_is in
+    (0, (omega arith), k, finds_full c.args.joining c.look_all-word.ensures c.tier-tier.ensures k d (let a = c.if-joining-word.true in let e = c.word-2.invariant.parties in omega arith))
 
 pub exchange_early-requires-clause-blank : goal.exchange_early-requires-clause-blank
 exchange_early-requires-clause-blank c = are_blank c.new_tokens-new_tokens.ensures.new
@@ -89,7 +92,7 @@ pub returns-in-Lost-clause-went : goal.returns-in-Lost-clause-went
 returns-in-Lost-clause-went c =
     let k = looked_yet c.look_all-word.ensures c.tier-tier.ensures c.requires.unarrived in
     let e = c.in-Lost.ensures in
-    keeps_then 0 1 1 (omega arith) k (lost_pass _ (yet c.look_all-word.new.group.view c.look_all-word.ensures.group.view (none_now k c.requires.unarrived)) e.1 e.2 e.3)
+    keeps_then 0 1 1 refl k (lost_pass _ c.look_all-word.ensures.group.some (yet c.look_all-word.new.group.view c.look_all-word.ensures.group.view (none_now k c.requires.unarrived)) e.1 e.2 e.3)
 
 pub returns-in-Owing-clause-went : goal.returns-in-Owing-clause-went
 returns-in-Owing-clause-went c =
@@ -103,4 +106,4 @@ pub returns-in-Lost-exchange_last-clause-went : goal.returns-in-Lost-exchange_la
 returns-in-Lost-exchange_last-clause-went c =
     let k = looked_yet c.look_all-word.ensures c.tier-tier.ensures c.requires.unarrived in
     let e = c.in-Lost-exchange_last.ensures in
-    keeps_then 0 1 1 (omega arith) k (lost_pass _ (yet c.look_all-word.new.group.view c.look_all-word.ensures.group.view (none_now k c.requires.unarrived)) e.1 e.2 e.3)
+    keeps_then 0 1 1 refl k (lost_pass _ c.look_all-word.ensures.group.some (yet c.look_all-word.new.group.view c.look_all-word.ensures.group.view (none_now k c.requires.unarrived)) e.1 e.2 e.3)
