@@ -4,6 +4,7 @@ use Rattle.std.specs.List.{AllByRecursion}
 use lib.ListN.{get_or-append, get_elem?}
 use mathlib.Core.List.{map-append}
 use mathlib.Core.Option.{some, some-injective, some-ne-none}
+use Rattle.std.proofs.lemmas.List.{append-nil}
 use Rattle.std.proofs.lemmas.List.Sums.{sum_by-append}
 use Rattle.atomic_table.specs.Table.{Me, State, Final, Seen}
 use Rattle.atomic_table.specs.Seated.{TableId}
@@ -21,20 +22,36 @@ use Rattle.tier_rule.proofs.Reaching.{reached_states_tally}
 use Rattle.tier_rule.proofs.Seats.{all_front, all_back, all_append}
 use Rattle.tier_calls.specs.declared.tokens.Token.{Token}
 use Rattle.tier_calls.specs.Holding.{Named, Holding, sight_held}
-use Rattle.tier_calls.specs.Closes.{held, views_in, sights_in, IsAmong, IsLeftBy, IsShut}
+use Rattle.tier_calls.specs.Groups.{GroupHeld}
+use Rattle.tier_calls.specs.Closes.{held, views_in, sights_in, sights_together, views_together, TallyWithOthers, IsAmong, IsLeftBy, IsShut}
 
--- the last of some tokens
-pub kept_front : {n : Named} (all front : List Token) (t : Token) → all ≡ front ++ t ∷ [] → All (λ (t : Token). (held t).tree ≡ n) all → All (λ (t : Token). (held t).tree ≡ n) front
-kept_front {n} all front t is own k d lt =
-    let P : Token → Type 0 = λ t. (held t).tree ≡ n in
-    subst P (get_or-append front (t ∷ []) d k lt) (subst (λ (xs : List Token). All P xs) is own k d (omega (arith, length-append front (t ∷ []))))
+-- what holds of all holds of all but the last, and of the last
+front_all : {X : Type 0} (P : X → Type 0) (all front : List X) (t : X) → all ≡ front ++ t ∷ [] → All P all → All P front
+front_all P all front t is own k d lt =
+    subst P (get_or-append front (t ∷ []) d k lt) (subst (All P) is own k d (omega (arith, length-append front (t ∷ []))))
 
-pub last_tree : {n : Named} (all front : List Token) (t : Token) → all ≡ front ++ t ∷ [] → All (λ (t : Token). (held t).tree ≡ n) all → (held t).tree ≡ n
-last_tree {n} all front t is own = go front (subst (λ (xs : List Token). All (λ (t : Token). (held t).tree ≡ n) xs) is own)
+last_all : {X : Type 0} (P : X → Type 0) (all front : List X) (t : X) → all ≡ front ++ t ∷ [] → All P all → P t
+last_all {X} P all front t is own = go front (subst (All P) is own)
   where
-    go : (xs : List Token) → All (λ (t : Token). (held t).tree ≡ n) (xs ++ t ∷ []) → (held t).tree ≡ n
+    go : (xs : List X) → All P (xs ++ t ∷ []) → P t
     go [] own = own 0 t (omega arith)
     go (x ∷ xs) own = go xs (λ k d lt. own (suc k) d (omega arith))
+
+pub kept_front : {n : Named} (all front : List Token) (t : Token) → all ≡ front ++ t ∷ [] → All (λ (t : Token). (held t).tree ≡ n) all → All (λ (t : Token). (held t).tree ≡ n) front
+kept_front {n} all front t is own = front_all (λ (t : Token). (held t).tree ≡ n) all front t is own
+
+pub last_tree : {n : Named} (all front : List Token) (t : Token) → all ≡ front ++ t ∷ [] → All (λ (t : Token). (held t).tree ≡ n) all → (held t).tree ≡ n
+last_tree {n} all front t is own = last_all (λ (t : Token). (held t).tree ≡ n) all front t is own
+
+pub kept_groups : {n : Named} (all front : List GroupHeld) (g : GroupHeld) → all ≡ front ++ g ∷ [] → All (λ (g : GroupHeld). g.tree ≡ n) all → All (λ (g : GroupHeld). g.tree ≡ n) front
+kept_groups {n} all front g is own = front_all (λ (g : GroupHeld). g.tree ≡ n) all front g is own
+
+pub last_group : {n : Named} (all front : List GroupHeld) (g : GroupHeld) → all ≡ front ++ g ∷ [] → All (λ (g : GroupHeld). g.tree ≡ n) all → g.tree ≡ n
+last_group {n} all front g is own = last_all (λ (g : GroupHeld). g.tree ≡ n) all front g is own
+
+-- a group's seat is of its tree's table
+pub group_id : {id id' : TableId} {k : Key} {n : Named} (g : GroupHeld) → record { id = id; key = k } ≡ n → g.tree ≡ n → id' ≡ g.tree.id → id' ≡ id
+group_id {id} {id'} {k} {n} g tree own at = at ∙ (ap (λ (z : Named). z.id) own ∙ ap (λ (z : Named). z.id) (sym tree))
 
 pub same_id : {id id' : TableId} {k : Key} {n : Named} {h h' : Holding} → record { id = id; key = k } ≡ n → h.tree ≡ n → h' ≡ h → id' ≡ h'.tree.id → id' ≡ id
 same_id {id} {id'} {k} {n} {h} {h'} tree own same at =
@@ -58,6 +75,28 @@ pub gathered_all : (all front : List Token) (t : Token) (me : Me Kind (List Sigh
 gathered_all all front t me {h} {one} same seat is told =
     let d : sights_in all ≡ sights_in front ++ sight_held (held t) ∷ [] = ap (map (λ (t : Token). sight_held (held t))) is ∙ map-append (λ (t : Token). sight_held (held t)) front (t ∷ []) in
     told ∙ (ap (λ (m : Me Kind (List Sight)). sights_in front ++ m.0) seat ∙ (ap (λ (z : Holding). sights_in front ++ sight_held z ∷ []) same ∙ sym d))
+
+sights_apart : (front : List GroupHeld) (g : GroupHeld) → sights_together (front ++ g ∷ []) ≡ sights_together front ++ g.tokens
+sights_apart [] g = append-nil g.tokens
+sights_apart (x ∷ xs) g = ap (λ (l : List Sight). x.tokens ++ l) (sights_apart xs g) ∙ sym (append_assoc x.tokens (sights_together xs) g.tokens)
+
+-- one more group's seat takes in what was gathered
+pub gathered_group : (all front : List GroupHeld) (g : GroupHeld) (me : Me Kind (List Sight)) {one me' : Me Kind (List Sight)} → one ≡ (g.tokens, []) → all ≡ front ++ g ∷ [] → me' ≡ (one.0 ++ me.0, one.1)
+    → sights_together front ++ me'.0 ≡ sights_together all ++ me.0
+gathered_group all front g me {one} {me'} seat is joined =
+    let a : me'.0 ≡ g.tokens ++ me.0 = ap (λ (m : Me Kind (List Sight)). m.0) joined ∙ ap (λ (m : Me Kind (List Sight)). m.0 ++ me.0) seat in
+    let d : sights_together all ≡ sights_together front ++ g.tokens = ap sights_together is ∙ sights_apart front g in
+    ap (λ (l : List Sight). sights_together front ++ l) a ∙ (sym (append_assoc (sights_together front) g.tokens me.0) ∙ ap (λ (l : List Sight). l ++ me.0) (sym d))
+
+-- all of them, the last one first, and then all tokens
+pub gathered_both : (tokens : List Token) (all front : List GroupHeld) (g : GroupHeld) (one me me' : Me Kind (List Sight)) → one ≡ (g.tokens, []) → all ≡ front ++ g ∷ [] → me.0 ≡ sights_together front ++ one.0 → me'.0 ≡ sights_in tokens ++ me.0
+    → me'.0 ≡ sights_in tokens ++ sights_together all
+gathered_both tokens all front g one me me' seat is told both =
+    let d : sights_together all ≡ sights_together front ++ g.tokens = ap sights_together is ∙ sights_apart front g in
+    both ∙ ap (λ (l : List Sight). sights_in tokens ++ l) (told ∙ (ap (λ (m : Me Kind (List Sight)). sights_together front ++ m.0) seat ∙ sym d))
+
+pub shut_none : {k : Key} {numbers : List ℕ} (tokens : List Token) (groups : List GroupHeld) → groups ≡ [] → IsShut k numbers (sights_in tokens) → IsShut k numbers (sights_in tokens ++ sights_together groups)
+shut_none {k} {numbers} tokens groups none shut = subst (IsShut k numbers) (sym (ap (λ (gs : List GroupHeld). sights_in tokens ++ sights_together gs) none ∙ append-nil (sights_in tokens))) shut
 
 views_told : (tokens : List Token) → those (sights_in tokens) ≡ views_in tokens
 views_told [] = refl
@@ -167,28 +206,33 @@ take_next (w ∷ ws) (suc i) lt = ap (λ (z : List Fields). w ∷ z) (take_next 
 pub take_more : (ws : List Fields) (i : ℕ) → i < length ws → take (i + 1) ws ≡ take i ws ++ word_at ws i ∷ []
 take_more ws i lt = let e : i + 1 ≡ suc i = omega arith in ap (λ (n : ℕ). take n ws) e ∙ take_next ws i lt
 
-pub count_long : {k : Key} {numbers shape : List ℕ} {l : List Sight} {count : ℕ} → (z : Last k numbers l) → shape ≡ k.shape → count ≡ length shape → length z.words ≡ count
-count_long {k} {numbers} {shape} {l} {count} z same long = z.long ∙ (ap length (sym same) ∙ sym long)
-
 pub take_whole : (ws : List Fields) (i : ℕ) → length ws ≤ i → take i ws ≡ ws
 take_whole [] zero h = refl
 take_whole [] (suc i) h = refl
 take_whole (w ∷ ws) zero h = absurd (omega arith)
 take_whole (w ∷ ws) (suc i) h = ap (λ (z : List Fields). w ∷ z) (take_whole ws i (omega arith))
 
-pub closed_tally : {k : Key} {numbers : List ℕ} {items : List Fields} (tokens : List Token) → (z : Last k numbers (sights_in tokens)) → items ≡ z.words
-    → (others : List View) × Tallies k.shape items (views_in tokens ++ others)
-closed_tally {k} {numbers} {items} tokens z same = (
-  z.rest,
-  subst (λ (ws : List Fields). Tallies k.shape ws (views_in tokens ++ z.rest)) (sym same)
-      (subst (λ (vs : List View). Tallies k.shape z.words (vs ++ z.rest)) (views_told tokens) z.tally),
-)
-
-pub closed_left : {k : Key} {numbers shape : List ℕ} {items : List Fields} {count tier : ℕ} (tokens : List Token) → (shut : IsShut k numbers (sights_in tokens)) → shape ≡ k.shape → count ≡ length shape → count ≤ tier
-    → ((ws : List Fields) → numbers ≡ map packed ws → ((t : ℕ) → t < length ws → IsLegal (word_at ws t)) → length ws ≡ count → items ≡ take tier ws)
-    → IsLeftBy k items (sights_in tokens)
+-- the words at the end tally with the tokens that one seat had
+pub left_tally : {k : Key} {words : List Fields} (l : List Sight) → IsLeftBy k words l → TallyWithOthers k.shape words (those l)
 unfolding last_of
-closed_left {k} {numbers} {shape} {items} {count} {tier} tokens shut same is past told =
+left_tally {k} {words} l left = let z = last_of {numbers = map packed words} (record { words = words; packed_so = refl; left = left }) in (z.rest, z.tally)
+
+pub closed_tally : {k : Key} {words : List Fields} (tokens : List Token) → IsLeftBy k words (sights_in tokens) → TallyWithOthers k.shape words (views_in tokens)
+closed_tally {k} {words} tokens left = subst (TallyWithOthers k.shape words) (views_told tokens) (left_tally (sights_in tokens) left)
+
+those_append : (l m : List Sight) → those (l ++ m) ≡ those l ++ those m
+those_append [] m = refl
+those_append (x ∷ xs) m = ap (λ (vs : List View). x.view ∷ vs) (those_append xs m)
+
+pub all_tally : {k : Key} {words : List Fields} (tokens : List Token) (groups : List GroupHeld) → IsLeftBy k words (sights_in tokens ++ sights_together groups) → TallyWithOthers k.shape words (views_in tokens ++ views_together groups)
+all_tally {k} {words} tokens groups left =
+    subst (TallyWithOthers k.shape words) (those_append (sights_in tokens) (sights_together groups) ∙ ap (λ (vs : List View). vs ++ views_together groups) (views_told tokens)) (left_tally (sights_in tokens ++ sights_together groups) left)
+
+pub closed_left : {k : Key} {numbers : List ℕ} {items : List Fields} {count tier : ℕ} {l : List Sight} → (shut : IsShut k numbers l) → length k.shape ≡ count → count ≤ tier
+    → ((ws : List Fields) → numbers ≡ map packed ws → ((t : ℕ) → t < length ws → IsLegal (word_at ws t)) → length ws ≡ count → items ≡ take tier ws)
+    → IsLeftBy k items l
+unfolding last_of
+closed_left {k} {numbers} {items} {count} {tier} {l} shut is past told =
     let z = last_of shut in
-    let long : length shut.words ≡ count = count_long z same is in
-    subst (λ (ws : List Fields). IsLeftBy k ws (sights_in tokens)) (sym (told shut.words shut.packed_so z.legal long ∙ take_whole shut.words tier (omega arith))) shut.left
+    let long : length shut.words ≡ count = z.long ∙ is in
+    subst (λ (ws : List Fields). IsLeftBy k ws l) (sym (told shut.words shut.packed_so z.legal long ∙ take_whole shut.words tier (omega arith))) shut.left

@@ -1,11 +1,11 @@
 -- What closing a tree answers (own).
-use Rattle.std.specs.Prelude.{◌≡◌, ℕ, ◌-◌, List, [], ◌∷◌, ◌++◌, map}
+use Rattle.std.specs.Prelude.{◌≡◌, ℕ, ◌-◌, ◌==◌, if◌then◌else◌, List, [], ◌∷◌, ◌++◌, map, length}
 use mathlib.Core.Option.{some}
 use lib.ListN.{get_elem?}
 use Rattle.phaser_word.specs.Packed.{packed}
 use Rattle.tier_rule.specs.declared.sight.Key.{Key}
 use Rattle.tier_rule.specs.declared.sight.Sight.{Sight}
-use Rattle.tier_rule.specs.Reach.{Reached}
+use Rattle.tier_rule.specs.Reach.{Reached, those}
 use Rattle.phaser_word.specs.Fields.{Fields}
 use Rattle.tier_steps.specs.declared.view.View.{View}
 use Rattle.tier_steps.specs.Tally.{Tallies}
@@ -13,6 +13,7 @@ use Rattle.tier_calls.specs.declared.tokens.Token.{Token}
 use Rattle.tier_calls.specs.declared.tokens.Token.TheVariants.{Crew, Door}
 use Rattle.tier_calls.specs.declared.closing.ClosedToken.{ClosedToken}
 use Rattle.tier_calls.specs.Holding.{Holding, sight_held}
+use Rattle.tier_calls.specs.Groups.{GroupHeld}
 
 -- the token itself
 abbrev pub held : Token → Holding
@@ -28,6 +29,21 @@ plain_of v = record { tier = v.tier; size = v.size; unarrived = v.size - v.arriv
 
 abbrev pub plain_tokens : List Token → List ClosedToken
 plain_tokens tokens = map (λ t. plain_of (held t).view) tokens
+
+-- what the tokens of some groups know, one group after another
+abbrev pub sights_together : List GroupHeld → List Sight
+sights_together [] = []
+sights_together (g ∷ gs) = g.tokens ++ sights_together gs
+
+abbrev pub views_together : List GroupHeld → List View
+views_together groups = those (sights_together groups)
+
+-- the members of a group as plain numbers
+abbrev pub plain_group : GroupHeld → ClosedToken
+plain_group g = record { tier = g.view.tier; size = length g.tokens; unarrived = (if g.view.arrived == 0 then length g.tokens else 0); phase = g.view.phase }
+
+abbrev pub plain_groups : List GroupHeld → List ClosedToken
+plain_groups groups = map plain_group groups
 
 -- words that tally with these views and those of tokens that weren't handed in
 abbrev pub TallyWithOthers : List ℕ → List Fields → List View → Type 0

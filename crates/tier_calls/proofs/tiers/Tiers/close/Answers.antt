@@ -1,36 +1,12 @@
-use Rattle.std.proofs.Common.{rules, ◌++◌, ◌∷◌, [], ap, sym, ◌∙◌, arith, length, length-append}
-use Rattle.tier_calls.proofs.Seating.{is_some, unpacked}
-use Rattle.tier_calls.proofs.Gathering.{last_of, word_read, take_more, take_whole, count_long, closed_tally, closed_left}
+use Rattle.std.proofs.Common.{sym, ap, ◌∙◌, length}
+use Rattle.tier_calls.proofs.Gathering.{closed_tally}
 use Rattle.tier_calls.proofs.tiers.Tiers.close.Goals as goal
 
-pub unwrap-requires : goal.unwrap-requires
-unwrap-requires c =
-    let z = last_of c.shut-closed.ensures.words in
-    let long = count_long z c.shape.ensures.value c.count-count.ensures.value in
-    let t = c.loop-tier-test.true in
-    is_some _ _ (word_read z.words z.packed_so z.legal (omega arith) c.word.ensures c.unpack.ensures.again)
-
-pub push_reserved-requires : goal.push_reserved-requires
-push_reserved-requires c = search rules
-
-pub loop-tier-preserved : goal.loop-tier-preserved
-loop-tier-preserved c = (
-  λ ws is legal long.
-      let lt = c.loop-tier-test.true in
-      let w = unpacked _ _ _ c.unwrap.ensures (word_read ws is legal (omega arith) c.word.ensures c.unpack.ensures.again) in
-      c.push_reserved.ensures.items ∙ ((λ i. c.loop-tier.invariant.0 ws is legal long i ++ w i ∷ []) ∙ sym (take_more ws c.loop-tier.tier (omega arith))),
-  c.push_reserved.ensures.capacity ∙ c.loop-tier.invariant.1,
-  (let a = ap length c.push_reserved.ensures.items in let b = length-append c.loop-tier.words.items (c.unwrap.result ∷ []) in let d = c.loop-tier.invariant.2 in omega arith),
-)
-
-pub returns-clause-tally : goal.returns-clause-tally
-returns-clause-tally c =
-    let z = last_of c.shut-closed.ensures.words in
-    let long = count_long z c.shape.ensures.value c.count-count.ensures.value in
-    let past = c.loop-tier-test.false in
-    closed_tally c.args.tokens.items z (c.loop-tier.invariant.0 z.words z.packed_so z.legal long ∙ take_whole z.words c.loop-tier.tier (omega arith))
+pub words_of-requires-clause-shut : goal.words_of-requires-clause-shut
+words_of-requires-clause-shut c = (_, _, c.shut-closed.ensures.words, ap length (sym c.shape.ensures.value) ∙ sym c.count-count.ensures.value)
 
 pub returns-clause-left : goal.returns-clause-left
-returns-clause-left c =
-    let past = c.loop-tier-test.false in
-    closed_left c.args.tokens.items c.shut-closed.ensures.words c.shape.ensures.value c.count-count.ensures.value (omega arith) (λ ws is legal long. c.loop-tier.invariant.0 ws is legal long)
+returns-clause-left c = c.words_of.ensures _ _ c.shut-closed.ensures.words (ap length (sym c.shape.ensures.value) ∙ sym c.count-count.ensures.value)
+
+pub returns-clause-tally : goal.returns-clause-tally
+returns-clause-tally c = closed_tally c.args.tokens.items (c.words_of.ensures _ _ c.shut-closed.ensures.words (ap length (sym c.shape.ensures.value) ∙ sym c.count-count.ensures.value))

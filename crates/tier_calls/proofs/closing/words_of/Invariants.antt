@@ -3,7 +3,7 @@ use Rattle.std.specs.Slots.{slots_items}
 use Rattle.phaser_word.specs.Fields.{Fields, IsLegal}
 use Rattle.phaser_word.specs.Packed.{packed}
 use Rattle.tier_steps.specs.Tally.{word_at}
-use Rattle.tier_calls.proofs.tiers.Tiers.close.Given as goal
+use Rattle.tier_calls.proofs.closing.words_of.Given as goal
 
 abbrev pub invariant-loop-tier : goal.invariant-loop-tier
 invariant-loop-tier l =
