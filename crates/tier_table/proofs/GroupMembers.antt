@@ -5,7 +5,7 @@ use Rattle.tier_calls.specs.Arrives.{IsLooked}
 use Rattle.tier_calls.specs.Joins.{IsJoined}
 use Rattle.tier_calls.specs.Groups.{GroupHeld}
 use Rattle.tier_calls.specs.Splits.{alone}
-use Rattle.tier_calls.specs.JoinsAll.{OnlyTried}
+use Rattle.tier_calls.specs.ArrivesWith.{OnlyTried}
 use Rattle.tier_calls.specs.RegistersAll.{AreRegistered}
 use Rattle.tier_calls.proofs.Registering.{IsFirst, first_joined, first_looked, first_still, all_registered}
 use Rattle.tier_table.specs.declared.waiting.RegisteredAtLast.TheVariants as admitted
@@ -59,18 +59,18 @@ others_at_last tier k tries at n crew more f (group_registered.Joined group phas
     let g = first_before tier crew.view.phase (alone (split_once crew)) a.0 (first_joined crew f.1) a.1 in
     (crew, (f.0, f.1, f.2, refl), registers tries crew group phase (k - 1) (omega arith) a, all_registered {n = k} phase more g a.2.1 a.2.2 a.2.3, a.2.2.tree ∙ (a.2.1.tree ∙ (before_tree {a = alone (split_once crew)} {b = a.0} a.1 ∙ f.0)))
 others_at_last tier k tries at n crew more f (group_registered.Partly group parties) a =
-    let g = first_before tier crew.view.phase (alone (split_once crew)) a.0 (first_joined crew f.1) a.1 in (crew, (f.0, f.1, f.2, refl), a, more, (first_still g a.2.0.first a.2.0.kept).count)
+    let g = first_before tier crew.view.phase (alone (split_once crew)) a.0 (first_joined crew f.1) a.1 in (crew, (f.0, f.1, f.2, refl), a, more, (first_still g a.2.2.first a.2.2.kept).count)
 others_at_last tier k tries at n crew more f (group_registered.PartlyEnded group shown) a =
-    let g = first_before tier crew.view.phase (alone (split_once crew)) a.0 (first_joined crew f.1) a.1 in (crew, (f.0, f.1, f.2, refl), a, more, (first_still g a.2.1 a.2.2).count)
+    let g = first_before tier crew.view.phase (alone (split_once crew)) a.0 (first_joined crew f.1) a.1 in (crew, (f.0, f.1, f.2, refl), a, more, (first_still g a.2.1 a.2.2.kept).count)
 others_at_last tier k tries at n crew more f (group_registered.Full door parties) a = absurd a
 others_at_last tier k tries at n crew more f (group_registered.Ended door shown) a = absurd a
 
 -- an answer returns tokens of the same tree
 pub joins_tree : (tries n : ℕ) (a : GroupHeld) (r : GroupJoined) → JoinsAllAtLast tries n a r → (tokens_joined r).tree ≡ a.tree
 joins_tree tries n a (group_joined.Joined new phase) told = told.2.2.tree ∙ (told.2.1.tree ∙ before_tree {a = a} {b = told.0} told.1)
-joins_tree tries n a (group_joined.Full new parties) told = told.2.0.kept.tree ∙ (told.2.0.first.tree ∙ before_tree {a = a} {b = told.0} told.1)
+joins_tree tries n a (group_joined.Full new parties) told = told.2.2.kept.tree ∙ (told.2.2.first.tree ∙ before_tree {a = a} {b = told.0} told.1)
 joins_tree tries n a (group_joined.AlreadyArrived new phase) told = told.2.0.tree ∙ before_tree {a = a} {b = told.0} told.1
-joins_tree tries n a (group_joined.Ended new shown) told = told.2.2.tree ∙ (told.2.1.tree ∙ before_tree {a = a} {b = told.0} told.1)
+joins_tree tries n a (group_joined.Ended new shown) told = told.2.2.kept.tree ∙ (told.2.1.tree ∙ before_tree {a = a} {b = told.0} told.1)
 
 pub leaves_tree : (tries : ℕ) (a : GroupHeld) (r : GroupLeft) → LeavesAllAtLast tries a r → tree_left r ≡ a.tree
 leaves_tree tries a (group_left.Left door phase led) told =

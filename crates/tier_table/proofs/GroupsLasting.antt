@@ -115,6 +115,6 @@ all_tree tries a (group_arrived.Ended new shown) told = told.2.0 ∙ before_tree
 pub with_tree : (tries joining leaving : ℕ) (a : GroupHeld) (r : GroupArrived) → ArrivesWithAtLast tries joining leaving a r → (tokens_arrived r).tree ≡ a.tree
 with_tree tries joining leaving a (group_arrived.Done new phase led) told =
     ⊎_elim (λ z. z.0.2.same ∙ z.0.1.tree) (λ z. finished_tree z.0.token z.1 new phase led z.3 ∙ (z.2.2.same ∙ z.2.1.tree)) told.2 ∙ before_tree {a = a} {b = told.0} told.1
-with_tree tries joining leaving a (group_arrived.Full new parties) told = told.2.2.tree ∙ (told.2.1.tree ∙ before_tree {a = a} {b = told.0} told.1)
+with_tree tries joining leaving a (group_arrived.Full new parties) told = told.2.2.kept.tree ∙ (told.2.2.first.tree ∙ before_tree {a = a} {b = told.0} told.1)
 with_tree tries joining leaving a (group_arrived.AlreadyArrived new phase) told = told.2.0.tree ∙ before_tree {a = a} {b = told.0} told.1
-with_tree tries joining leaving a (group_arrived.Ended new shown) told = told.2.2.tree ∙ (told.2.1.tree ∙ before_tree {a = a} {b = told.0} told.1)
+with_tree tries joining leaving a (group_arrived.Ended new shown) told = told.2.2.kept.tree ∙ (told.2.1.tree ∙ before_tree {a = a} {b = told.0} told.1)
