@@ -1,5 +1,6 @@
 pub mod InPlace
 pub mod Listed
+pub mod Regrouping
 pub mod Runs
 pub mod Apart
 pub mod Course
