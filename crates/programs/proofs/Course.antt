@@ -211,8 +211,7 @@ module _ {S T : Type 0} (p : Reads S T) (law : (t : S) → p.says.path (p.meant 
   numbered_told arrays step [] (u ∷ us) (d ∷ ds) h = absurd h
   numbered_told arrays step (t ∷ live) (u ∷ us) (d ∷ ds) h =
       let spawned = (p.says.segment t arrays step).spawns in
-      let count : length spawned ≡ length d.spawns = ap length (sym h.1.0) ∙ length-map d.spawns p.meant in
-      (
+      let count : length spawned ≡ length d.spawns = ap length (sym h.1.0) ∙ length-map d.spawns p.meant in (
         (p.says.begun t, read d.spawns ∙ ap (map p.says.path) h.1.0 ∙ numbers t arrays step ∙ (λ i. children (sym h.0 i) (p.says.begun t) (count i))),
         numbered_told arrays step live us ds h.2,
       )

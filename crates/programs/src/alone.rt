@@ -168,7 +168,7 @@ fn take_superstep<P: TaskLoop>(
     }
 }
 
-// Takes supersteps until the run ends, and returns how it ended. 
+// Takes supersteps until the run ends, and returns how it ended.
 fn run_within<P: TaskLoop, W: Watch>(
     alloc: Global,
     program: &P,

@@ -57,7 +57,7 @@ pub struct Regrouping<T> {
     pub waiting: Vec<T>,
 }
 
-impl<T> Regrouping<T> {
+impl<T: OnPath> Regrouping<T> {
     /// No room yet.
     pub fn new(alloc: Global) -> Self {
         Regrouping {
