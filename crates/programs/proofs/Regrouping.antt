@@ -1,6 +1,6 @@
 -- Tasks that live on, put in path order from the first to the last: spawned ones wait until no task in front of them is left.
-use Rattle.std.proofs.Common.{◌≡◌, ℕ, zero, suc, ◌+◌, ◌<◌, ◌≤◌, Bool, true, false, List, [], ◌∷◌, ◌++◌, length, map, refl, sym, ap, subst, ◌∙◌, append_assoc, append-nil, arith}
-use Rattle.std.specs.Prelude.{if◌then◌else◌, nat_lt, cond, ◌==◌, ◌&&◌}
+use Rattle.std.proofs.Common.{◌≡◌, ℕ, zero, suc, ◌<◌, ◌≤◌, Bool, true, false, List, [], ◌∷◌, ◌++◌, length, map, refl, sym, ap, subst, ◌∙◌, append_assoc, append-nil, arith}
+use Rattle.std.specs.Prelude.{if◌then◌else◌, nat_lt, cond, ◌==◌, ◌-◌, take}
 use Rattle.std.specs.List.{AllByRecursion}
 use Rattle.std.specs.Ordering.{nat_cmp, ordering_then, ordering_reverse}
 use Rattle.std.specs.Cmp.{nat_cmp_total}
@@ -14,7 +14,8 @@ use Rattle.superstep_memory.proofs.Merged.{put_all_append}
 use Rattle.programs.specs.Meaning.{children}
 use Rattle.programs.specs.DeedValue.{DeedValue}
 use Rattle.programs.specs.InPlace.{kept, living_with}
-use Rattle.programs.specs.Regroup.{AreNumbered, IsNextAfter, HasMoved, HasPut}
+use Rattle.programs.specs.Regroup.{AreNumbered, IsNextAfter, IsBeforeNext, HasMoved, HasMovedEarly, HasPut}
+use Rattle.programs.specs.DeedsView.{behind as behind_these}
 
 -- ---- paths
 
@@ -287,6 +288,36 @@ module _ {A : Type 0} (path : A → List ℕ) where
       one (w ∷ ws) k l =
           ((λ i. path_lt (r.0 i) (l.0.2 i)) ∙ between l.0.0 (path u) l.0.1 b l.0.3.0 (ap (path_lt (path u)) (sym l.0.2) ∙ k.0), one ws k.1 l.1)
 
+  -- ---- one task, as the code puts it
+
+  pub take_split : (n left : ℕ) (now rest : List A) → length now ≡ n - left → left ≤ n → take n (now ++ rest) ≡ now ++ take left rest
+  take_split n left [] rest l h = let e : n ≡ left = omega (arith, l, h) in ap (λ k. take k rest) e
+  take_split zero left (x ∷ now) rest l h = absurd (omega (arith, l))
+  take_split (suc n) left (x ∷ now) rest l h = ap (λ (zs : List A). x ∷ zs) (take_split n left now rest (omega (arith, l)) (omega (arith, l, h)))
+
+  pub behind_split : (n left : ℕ) (now rest : List A) → length now ≡ n - left → left ≤ n → behind_these n (now ++ rest) ≡ behind_these left rest
+  behind_split n left [] rest l h = let e : n ≡ left = omega (arith, l, h) in ap (λ k. behind_these k rest) e
+  behind_split zero left (x ∷ now) rest l h = absurd (omega (arith, l))
+  behind_split (suc n) left (x ∷ now) rest l h = behind_split n left now rest (omega (arith, l)) (omega (arith, l, h))
+
+  pub puts : (p : List ℕ) (task : A) (b : Bool) (us spawned rest before mid with_task after waited back waits : List A) (count left : ℕ)
+      → p ≡ path task → HasMoved path p before mid waited back → IsNextAfter path p back → with_task ≡ mid ++ kept b task
+      → HasMovedEarly path us with_task after spawned rest (count - left) → left ≤ count → waits ≡ take left rest ++ back
+      → HasPut path task b us (take count spawned) before after waited waits
+  puts p task b us spawned rest before mid with_task after waited back waits count left e m n k r l w = record {
+    front = m.front;
+    back = back;
+    now = r.now;
+    later = take left rest;
+    cut = m.cut;
+    passed = subst (λ x. AllByRecursion (λ y. path_lt x (path y) ≡ false) m.front) e m.passed;
+    rest = subst (λ x. IsNextAfter path x back) e n;
+    all = ap (take count) r.cut ∙ take_split count left r.now rest r.many l;
+    early = r.early;
+    put = r.moved ∙ ap (λ (xs : List A). xs ++ r.now) (k ∙ ap (λ (xs : List A). xs ++ kept b task) m.moved);
+    wait = w;
+  }
+
   -- ---- all of them
 
   lt_not : (p r s : List ℕ) → path_lt p r ≡ true → path_lt s r ≡ false → path_lt p s ≡ true
@@ -338,35 +369,100 @@ module _ {A : Type 0} (path : A → List ℕ) where
   pub begins : (us : List A) (ds : List (DeedValue A)) → is_rising (map path us) ≡ true → AreNumbered path us ds → IsAlong (in_path_order path (living_with us ds)) [] [] us ds
   begins us ds r n = record { items = refl; sorted = tt; spawned = tt; rising = r; numbered = n }
 
+  -- those that come before the next task come before all that follow
+  none_next : (us : List A) (ds : List (DeedValue A)) (n : A) → IsBeforeNext path us n → is_rising (map path us) ≡ true → AreNumbered path us ds → NoneBefore (path n) (living_with us ds)
+  none_next [] [] n e r h = tt
+  none_next [] (d ∷ ds) n e r h = tt
+  none_next (u ∷ us) [] n e r h = tt
+  none_next (u ∷ us) (d ∷ ds) n e r h =
+      none_earlier (path u) (path n) (living_with (u ∷ us) (d ∷ ds)) (lt_asym (path n) (path u) e)
+      (none_append (path u) (kept d.synced u ++ d.spawns) (living_with us ds)
+      (none_append (path u) (kept d.synced u) d.spawns (kept_none d.synced u) (none_after (path u) d.spawns (run_after (path u) h.0.0 d.spawns (is_run (path u) h.0.0 d.spawns h.0.1))))
+      (none_living (path u) us ds (after_more (path u) us (rising_all (path u) (map path us) r)) h.1))
+
+  early_first : (ns ls vs us : List A) (ds : List (DeedValue A)) → Sorted (ns ++ ls) → AllByRecursion (λ c. AllAfter (path c) vs) (ns ++ ls)
+      → AllByRecursion (IsBeforeNext path us) ns → is_rising (map path us) ≡ true → AreNumbered path us ds
+      → AllByRecursion (λ n. NoneBefore (path n) (put_all path (ls ++ vs) (in_path_order path (living_with us ds)))) ns
+  early_first [] ls vs us ds s cv e r h = tt
+  early_first (n ∷ ns) ls vs us ds s cv e r h = (
+    none_all (path n) (ls ++ vs) (in_path_order path (living_with us ds))
+        (none_append (path n) ls vs (last ns s.0) (none_after (path n) vs cv.0))
+        (none_all (path n) (living_with us ds) [] (none_next us ds n e.0 r h) tt),
+    early_first ns ls vs us ds s.1 cv.1 e.1 r h,
+  )
+    where
+      last : (gs : List A) → NoneBefore (path n) (gs ++ ls) → NoneBefore (path n) ls
+      last [] m = m
+      last (g ∷ gs) m = last gs m.1
+
+  later_cross : (ns ls vs : List A) → AllByRecursion (λ c. AllAfter (path c) vs) (ns ++ ls) → AllByRecursion (λ c. AllAfter (path c) vs) ls
+  later_cross [] ls vs h = h
+  later_cross (n ∷ ns) ls vs h = later_cross ns ls vs h.1
+
   -- one task more
   pub goes_along : (end living ws us new waits : List A) (u : A) (d : DeedValue A) (ds : List (DeedValue A)) → IsAlong end living ws (u ∷ us) (d ∷ ds)
-      → HasPut path u d.synced d.spawns living new ws waits → IsAlong end new waits us ds
+      → HasPut path u d.synced us d.spawns living new ws waits → IsAlong end new waits us ds
   goes_along end living ws us new waits u d ds h p =
-      let s : Sorted (p.front ++ p.back) = subst Sorted p.cut h.sorted in
-      let kids : AreChildren (u ∷ us) (p.front ++ p.back) = subst (AreChildren (u ∷ us)) p.cut h.spawned in
-      let vs = sorted_back p.front p.back s in
-      let behind_u = children_back (u ∷ us) p.front p.back kids in
-      let av = all_after (path u) p.back p.rest vs in
-      let run = is_run (path u) h.numbered.0.0 d.spawns h.numbered.0.1 in
-      let later : AllAfter (path u) us = after_more (path u) us (rising_all (path u) (map path us) h.rising) in
-      let cv = run_first u us d.spawns p.back h.numbered.0.0 run av behind_u in
-      let ac = run_after (path u) h.numbered.0.0 d.spawns run in
       record {
         items =
-            (λ i. p.put i ++ put_all path (p.wait i) (in_path_order path (living_with us ds)))
-            ∙ ap (λ (xs : List A). xs ++ put_all path (d.spawns ++ p.back) (in_path_order path (living_with us ds))) (append_assoc living p.front (kept d.synced u))
-            ∙ append_assoc living (p.front ++ kept d.synced u) (put_all path (d.spawns ++ p.back) (in_path_order path (living_with us ds)))
-            ∙ ap (λ (xs : List A). living ++ xs)
-            (sym (one_task d.synced u p.front p.back d.spawns (living_with us ds) s p.passed av ac cv (none_living (path u) us ds later h.numbered.1))
-            ∙ ap (λ (xs : List A). put_all path xs (in_path_order path ((kept d.synced u ++ d.spawns) ++ living_with us ds))) (sym p.cut))
+            (λ i. p.put i ++ put_all path (p.wait i) xs)
+            ∙ append_assoc ((living ++ p.front) ++ kept d.synced u) p.now (put_all path (p.later ++ p.back) xs)
+            ∙ (λ i. append_assoc living p.front (kept d.synced u) i ++ (p.now ++ put_all path (p.later ++ p.back) xs))
+            ∙ append_assoc living (p.front ++ kept d.synced u) (p.now ++ put_all path (p.later ++ p.back) xs)
+            ∙ ap (λ (zs : List A). living ++ ((p.front ++ kept d.synced u) ++ zs)) (sym first)
+            ∙ ap (λ (zs : List A). living ++ zs)
+            (sym (one_task d.synced u p.front p.back d.spawns (living_with us ds) s p.passed av ac cv (none_living (path u) us ds after h.numbered.1))
+            ∙ ap (λ (zs : List A). put_all path zs (in_path_order path ((kept d.synced u ++ d.spawns) ++ living_with us ds))) (sym p.cut))
             ∙ h.items;
-        sorted = subst Sorted (sym p.wait) (sorted_append d.spawns p.back (run_sorted (path u) h.numbered.0.0 d.spawns run) vs cv);
+        sorted = subst Sorted (sym p.wait) (sorted_append p.later p.back (sorted_back p.now p.later sorted) vs (later_cross p.now p.later p.back cross));
         spawned = subst (AreChildren us) (sym p.wait)
-            (children_append us d.spawns p.back (run_children (path u) h.numbered.0.0 us d.spawns later run) (fewer u us p.back behind_u));
+            (children_append us p.later p.back (children_back us p.now p.later (subst (AreChildren us) p.all (run_children (path u) h.numbered.0.0 us d.spawns after run))) (fewer u us p.back behind_u));
         rising = rising_rest (path u) (map path us) h.rising;
         numbered = h.numbered.1;
       }
     where
+      xs : List A
+      xs = in_path_order path (living_with us ds)
+
+      s : Sorted (p.front ++ p.back)
+      s = subst Sorted p.cut h.sorted
+
+      vs : Sorted p.back
+      vs = sorted_back p.front p.back s
+
+      behind_u : AreChildren (u ∷ us) p.back
+      behind_u = children_back (u ∷ us) p.front p.back (subst (AreChildren (u ∷ us)) p.cut h.spawned)
+
+      av : AllAfter (path u) p.back
+      av = all_after (path u) p.back p.rest vs
+
+      run : IsRun (path u) h.numbered.0.0 d.spawns
+      run = is_run (path u) h.numbered.0.0 d.spawns h.numbered.0.1
+
+      after : AllAfter (path u) us
+      after = after_more (path u) us (rising_all (path u) (map path us) h.rising)
+
+      ac : AllAfter (path u) d.spawns
+      ac = run_after (path u) h.numbered.0.0 d.spawns run
+
+      cv : AllByRecursion (λ c. AllAfter (path c) p.back) d.spawns
+      cv = run_first u us d.spawns p.back h.numbered.0.0 run av behind_u
+
+      cross : AllByRecursion (λ c. AllAfter (path c) p.back) (p.now ++ p.later)
+      cross = subst (AllByRecursion (λ c. AllAfter (path c) p.back)) p.all cv
+
+      sorted : Sorted (p.now ++ p.later)
+      sorted = subst Sorted p.all (run_sorted (path u) h.numbered.0.0 d.spawns run)
+
+      -- those that follow at once are first
+      first : put_all path (d.spawns ++ p.back) xs ≡ p.now ++ put_all path (p.later ++ p.back) xs
+      first =
+          (λ i. put_all path (p.all i ++ p.back) xs)
+          ∙ ap (λ (zs : List A). put_all path zs xs) (append_assoc p.now p.later p.back)
+          ∙ put_all_append path p.now (p.later ++ p.back) xs
+          ∙ fronts p.now (put_all path (p.later ++ p.back) xs) (sorted_front p.now p.later sorted)
+          (early_first p.now p.later p.back us ds sorted cross p.early (rising_rest (path u) (map path us) h.rising) h.numbered.1)
+
       sorted_append : (cs vs : List A) → Sorted cs → Sorted vs → AllByRecursion (λ c. AllAfter (path c) vs) cs → Sorted (cs ++ vs)
       sorted_append [] vs s t h = t
       sorted_append (c ∷ cs) vs s t h = (none_append (path c) cs vs s.0 (none_after (path c) vs h.0), sorted_append cs vs s.1 t h.1)

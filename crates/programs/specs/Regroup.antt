@@ -25,13 +25,30 @@ module _ {S : Type 0} where
     pub cut : waited ≡ front ++ waits
     pub passed : AllByRecursion (λ w. path_lt p (q w) ≡ false) front
 
-  -- A task was put in its place, if it goes on: after those that waited and don't come after it. The tasks that it spawned
-  -- wait in front of the others.
-  pub record HasPut (q : S → List ℕ) (task : S) (synced : Bool) (spawned before after waited waits : List S) : Type 0 where
+  -- this one comes before the first of these tasks, if there is one
+  abbrev pub IsBeforeNext : (S → List ℕ) → List S → S → Type 0
+  IsBeforeNext q [] c = Unit {0}
+  IsBeforeNext q (t ∷ ts) c = path_lt (q c) (q t) ≡ true
+
+  -- the first of the spawned tasks, so many, were moved to the end of others; they come before the next task
+  pub record HasMovedEarly (q : S → List ℕ) (next before after spawned rest : List S) (count : ℕ) : Type 0 where
+    pub now : List S
+    pub moved : after ≡ before ++ now
+    pub cut : spawned ≡ now ++ rest
+    pub many : length now ≡ count
+    pub early : AllByRecursion (IsBeforeNext q next) now
+
+  -- A task was put in its place, if it goes on: after those that waited and don't come after it. Of the tasks that it spawned the
+  -- first follow at once, which come before the next task. The others wait in front of those that waited.
+  pub record HasPut (q : S → List ℕ) (task : S) (synced : Bool) (next spawned before after waited waits : List S) : Type 0 where
     pub front : List S
     pub back : List S
+    pub now : List S
+    pub later : List S
     pub cut : waited ≡ front ++ back
     pub passed : AllByRecursion (λ w. path_lt (q task) (q w) ≡ false) front
     pub rest : IsNextAfter q (q task) back
-    pub put : after ≡ (before ++ front) ++ kept synced task
-    pub wait : waits ≡ spawned ++ back
+    pub all : spawned ≡ now ++ later
+    pub early : AllByRecursion (IsBeforeNext q next) now
+    pub put : after ≡ ((before ++ front) ++ kept synced task) ++ now
+    pub wait : waits ≡ later ++ back

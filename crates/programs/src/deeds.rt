@@ -1,10 +1,10 @@
 //! What live tasks did in their places, and all that they spawned in one list.
-ghost use Rattle.std.specs.Prelude.{◌≡◌, ◌≤◌, ◌<◌, ◌+◌, ◌^◌, ◌++◌, ◌∷◌, ◌↔◌, ◌⊎◌, [], true, IsTrue, IfOk, OnOk, OnErr, length, map, reverse, take};
+ghost use Rattle.std.specs.Prelude.{◌≡◌, ◌≤◌, ◌<◌, ◌+◌, ◌-◌, ◌^◌, ◌++◌, ◌∷◌, ◌↔◌, ◌⊎◌, [], true, IsTrue, IfOk, OnOk, OnErr, length, map, reverse, take};
 ghost use Rattle.std.specs.Option.{option_map};
 ghost use Rattle.std.specs.Vec.{vec_len, vec_capacity};
 ghost use Rattle.superstep_memory.specs.Paths.{is_rising};
 ghost use Rattle.superstep_memory.specs.PathOrder.{in_path_order};
-ghost use Rattle.programs.specs.Regroup.{AreNumbered, IsNextAfter, HasMoved, HasPut};
+ghost use Rattle.programs.specs.Regroup.{AreNumbered, IsNextAfter, IsBeforeNext, HasMoved, HasMovedEarly, HasPut};
 ghost use Rattle.programs.specs.DeedsView.{deeds_with, spawned_by, stopped_by, behind};
 ghost use Rattle.programs.specs.Changes.{change_of, change_in};
 ghost use Rattle.programs.specs.InPlace.{one_left, told_at, told_in, maker, kept, living_with, left_in, spawned_in};
@@ -130,28 +130,85 @@ fn let_wait<T: OnPath>(waiting: &mut Vec<T>, spawns: &mut Vec<T>, count: usize)
     waiting[from..].reverse();
 }
 
-// Puts a task, if it goes on, after those that wait and come before it. Those that it spawned wait then: the last `count` of a
-// list, the last one first.
+// Whether a task comes before the next one, if there is one: the last of these.
+fn is_early<T: OnPath>(task: &T, tasks: &[T]) -> bool
+    ensures { IsTrue result → IsBeforeNext T.path_of (reverse tasks.now) task.now }
+{
+    match tasks.last() {
+        Some(next) => is_before(task.path().as_slice(), next.path().as_slice()),
+        None => true,
+    }
+}
+
+// Moves spawned tasks from the end of a list, as long as they come before the next task, and at most `count`. Returns how many
+// of these are left.
+fn move_early<T: OnPath>(
+    living: &mut Vec<T>,
+    spawns: &mut Vec<T>,
+    count: usize,
+    tasks: &[T],
+) -> usize
+    requires enough { count ≤ length spawns.old.items }
+    requires room { vec_len living.old + count ≤ vec_capacity living.old }
+    ensures moved { HasMovedEarly T.path_of (reverse tasks.now) living.old.items living.new.items (reverse spawns.old.items) (reverse spawns.new.items) (count - result) }
+    ensures left { result ≤ count }
+    ensures enough { result ≤ length spawns.new.items }
+    ensures room { vec_capacity living.new ≡ vec_capacity living.old }
+    ensures count { vec_len living.new + result ≡ vec_len living.old + count }
+{
+    let mut left = count;
+    while left > 0 {
+        let Some(first) = spawns.last() else {
+            unreachable!()
+        };
+        if !is_early(first, tasks) {
+            break;
+        }
+        match spawns.pop() {
+            Some(task) => living.push_reserved(task),
+            None => unreachable!(),
+        }
+        left -= 1;
+    }
+    left
+}
+
+// Appends a task, if it goes on.
+fn push_kept<T: OnPath>(living: &mut Vec<T>, task: T, synced: bool)
+    requires room { vec_len living.old + length (kept synced task) ≤ vec_capacity living.old }
+    ensures items { living.new.items ≡ living.old.items ++ kept synced task }
+    ensures room { vec_capacity living.new ≡ vec_capacity living.old }
+    ensures count { vec_len living.new ≡ vec_len living.old + length (kept synced task) }
+{
+    if synced {
+        living.push_reserved(task);
+    }
+}
+
+// Puts a task, if it goes on, after those that wait and come before it. `spawns` ends with those that it spawned, the last one
+// first. They follow as long as they come before the next task: the last of `tasks`. The others wait.
 fn put_next<T: OnPath>(
     living: &mut Vec<T>,
     waiting: &mut Vec<T>,
     task: T,
     deed: Deed,
     spawns: &mut Vec<T>,
+    tasks: &[T],
 )
     requires enough { deed.spawned ≤ length spawns.old.items }
-    requires room { vec_len living.old + vec_len waiting.old + length (kept deed.synced task) ≤ vec_capacity living.old }
+    requires room { vec_len living.old + vec_len waiting.old + (length (kept deed.synced task) + deed.spawned) ≤ vec_capacity living.old }
     requires wait { vec_len waiting.old + deed.spawned ≤ vec_capacity waiting.old }
-    ensures put { HasPut T.path_of task deed.synced (take deed.spawned (reverse spawns.old.items)) living.old.items living.new.items (reverse waiting.old.items) (reverse waiting.new.items) }
+    ensures put { HasPut T.path_of task deed.synced (reverse tasks.now) (take deed.spawned (reverse spawns.old.items)) living.old.items living.new.items (reverse waiting.old.items) (reverse waiting.new.items) }
     ensures rest { reverse spawns.new.items ≡ behind deed.spawned (reverse spawns.old.items) }
     ensures room { (vec_capacity living.new ≡ vec_capacity living.old) × (vec_capacity waiting.new ≡ vec_capacity waiting.old) }
     ensures count { vec_len living.new + vec_len waiting.new ≡ vec_len living.old + vec_len waiting.old + (length (kept deed.synced task) + deed.spawned) }
     ensures wait { vec_len waiting.new ≤ vec_len waiting.old + deed.spawned }
 {
     move_before(living, waiting, task.path().as_slice());
-    let_wait(waiting, spawns, deed.spawned);
-    if deed.synced {
-        living.push_reserved(task);
+    push_kept(living, task, deed.synced);
+    let left = move_early(living, spawns, deed.spawned, tasks);
+    if left > 0 {
+        let_wait(waiting, spawns, left);
     }
 }
 
@@ -178,7 +235,7 @@ fn put_in_order<T: OnPath>(
 {
     while let Some(deed) = each.pop() {
         match tasks.pop() {
-            Some(task) => put_next(living, waiting, task, deed, spawns),
+            Some(task) => put_next(living, waiting, task, deed, spawns, tasks),
             None => unreachable!(),
         }
     }

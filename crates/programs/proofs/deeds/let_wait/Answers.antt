@@ -1,5 +1,5 @@
-use Rattle.std.proofs.Common.{◌∙◌, ap, arith, reverse, length}
-use Rattle.std.specs.Prelude.{◌++◌, take}
+use Rattle.std.proofs.Common.{◌∙◌, ap, arith, reverse}
+use Rattle.std.specs.Prelude.{◌++◌}
 use Rattle.programs.proofs.Turned.{tail_turned, take_first}
 use Rattle.programs.proofs.deeds.let_wait.Goals as goal
 

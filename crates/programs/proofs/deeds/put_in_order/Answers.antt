@@ -2,9 +2,9 @@ use Rattle.std.proofs.Common.{◌≡◌, ◌+◌, ◌++◌, ◌∷◌, List, ari
 use Rattle.std.specs.Prelude.{take}
 use Rattle.std.proofs.lemmas.List.{length-append, length-reverse}
 use Rattle.superstep_memory.specs.PathOrder.{in_path_order}
-use Rattle.programs.specs.DeedValue.{DeedValue}
 use Rattle.programs.specs.DeedsView.{behind, deeds_with, spawned_by}
 use Rattle.programs.specs.InPlace.{living_with, kept}
+use Rattle.programs.specs.Regroup.{HasPut}
 use Rattle.programs.proofs.Listed.{behind_length, take_length}
 use Rattle.programs.proofs.Regrouping.{IsAlong, goes_along, ends_along}
 use Rattle.programs.proofs.Turned.{reverse_last, reverse_none}
@@ -43,7 +43,9 @@ loop-deed-preserved g c =
       along =
           subst (λ (xs : List g.row.T.Denot). IsAlong q end c.put_next.new.living.items (reverse c.put_next.new.waiting.items) us (deeds_with es xs)) (sym left)
           (goes_along q end c.loop-deed.living.items (reverse c.loop-deed.waiting.items) us c.put_next.new.living.items (reverse c.put_next.new.waiting.items) u
-          (record { synced = d.synced; puts = d.puts; spawns = take d.spawned ss }) (deeds_with es (behind d.spawned ss)) along c.put_next.ensures.put);
+          (record { synced = d.synced; puts = d.puts; spawns = take d.spawned ss }) (deeds_with es (behind d.spawned ss)) along
+          (subst (λ (xs : List g.row.T.Denot). HasPut q u d.synced (reverse xs) (take d.spawned ss) c.loop-deed.living.items c.put_next.new.living.items (reverse c.loop-deed.waiting.items) (reverse c.put_next.new.waiting.items))
+          c.deref.ensures.value c.put_next.ensures.put));
       room = omega (arith, v.room, many, split, parts, taken, fewer, c.put_next.ensures.count, c.put_next.ensures.room.0);
       wait = omega (arith, v.wait, c.put_next.ensures.wait, c.put_next.ensures.room.1, rest, long, shorter);
     }
