@@ -20,6 +20,7 @@ use Rattle.programs.specs.Meaning.{children}
 use Rattle.programs.specs.DeedValue.{DeedValue}
 use Rattle.programs.specs.Superstep.{State, ended_by}
 use Rattle.programs.specs.Supersteps.{so_far, status, status_of}
+use Rattle.programs.specs.Regroup.{AreNumbered}
 use Rattle.programs.specs.InPlace.{living_with, left_in, spawned_in, told_in, told_at, maker}
 use Rattle.programs.proofs.Reached.{starts_read}
 use Rattle.program_stretches.specs.declared.fault.Outcome.{Outcome}
@@ -63,12 +64,13 @@ module _ {Q S T : Type 0} (m : Q → Reading S T) (v : StretchesValue Q S) (law 
         pub all : length ds ≡ v.count
         pub living : length (living_with us ds) + left_in ds ≡ length ds + spawned_in ds
         pub rising : is_rising (map (m v.program).path us) ≡ true
+        pub numbered : AreNumbered (m v.program).path us ds
 
       pub fit : Fit
       fit =
           let f = fits (m v.program) law v.most begun.begun.first.arrays (map (m v.program).meant (live_of begun.begun.first)) v.limit v.given start_paths (state_of o) begun.reached going (live_of o) refl few_tasks
           None puts us ds after d refl in
-          record { same = f.same; all = f.all ∙ sym (length-map (live_of o) (m v.program).meant) ∙ sym begun.count; living = f.living; rising = f.rising }
+          record { same = f.same; all = f.all ∙ sym (length-map (live_of o) (m v.program).meant) ∙ sym begun.count; living = f.living; rising = f.rising; numbered = f.numbered }
 
       -- too many tasks end it
       pub ends_many : v.most + left_in ds < length ds + spawned_in ds → IsStepTo (m v.program).frame (m v.program).may v.most (state_of o) (ended_by (state_of o) (7, [])) TooMany

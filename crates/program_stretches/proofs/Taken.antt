@@ -17,6 +17,7 @@ use Rattle.programs.specs.Reads.{reads}
 use Rattle.programs.specs.DeedValue.{DeedValue}
 use Rattle.programs.specs.Superstep.{State, superstep, closed, fault_in, log_of, prints_of, record_of, ended_by, segments, first_fault, next_live, too_many, overflow, live_paths}
 use Rattle.programs.specs.Supersteps.{so_far, status, told}
+use Rattle.programs.specs.Regroup.{AreNumbered}
 use Rattle.programs.specs.InPlace.{IsAllDone, Told, living_with, left_in, spawned_in, told_in, told_at, maker}
 use Rattle.programs.specs.History.{Entry, AreOf, IsEntered, says_in, says_by, segments_in, living_after}
 use Rattle.programs.proofs.History.{numbers_by, stays_by, all_formed, numbers_in, stays_in, entries_rise, agrees}
@@ -199,6 +200,7 @@ module _ {S T : Type 0} (r : Reading S T) (law : (t : S) → r.frame.path (r.mea
           pub same : length us ≡ length ds
           pub living : length (living_with us ds) + left_in ds ≡ length ds + spawned_in ds
           pub rising : is_rising (map r.path us) ≡ true
+          pub numbered : AreNumbered r.path us ds
           pub all : length ds ≡ length ts
 
         count_all : (s : Says T) (as_ : List (List ℕ × List ℤ)) (step : ℕ) (xs : List T) → length (segments s as_ step xs) ≡ length xs
@@ -212,7 +214,7 @@ module _ {S T : Type 0} (r : Reading S T) (law : (t : S) → r.frame.path (r.mea
             let f = fits_in p law numbers stays st us ds all_done.done (omega (arith, l, few)) (paths_rise st h) in
             let k = counted p us ds (segments (says_in r.frame most d.entries) st.arrays st.step st.live) all_done.done in
             let n = count_all (says_in r.frame most d.entries) st.arrays st.step st.live in
-            record { deeds = f.few; same = f.same; living = f.living; rising = f.rising; all = k.deeds ∙ n ∙ l }
+            record { deeds = f.few; same = f.same; living = f.living; rising = f.rising; numbered = f.numbered; all = k.deeds ∙ n ∙ l }
 
         -- too many tasks end it
         pub many : most < length (living_with us ds) → Next (ended_by st (7, [])) TooMany

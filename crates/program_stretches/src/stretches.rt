@@ -430,7 +430,7 @@ impl<'t, 'p, P: Program> Stretches<'t, 'p, P> {
     {
         let count = (told.parties - told.left) as usize;
         make_room(&parts, &mut self.prints, &mut self.records)?;
-        let room = room_for(alloc, count)?;
+        let room = room_for(alloc, count, told.spawned as usize)?;
         let mut gathered = gather(alloc, &mut parts)?;
         match land_shared(alloc, &mut self.arrays, puts, &parts, &mut self.olds)? {
             Some(place) => {

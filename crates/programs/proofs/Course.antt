@@ -22,6 +22,7 @@ use Rattle.programs.specs.DeedValue.{DeedValue}
 use Rattle.programs.specs.Superstep.{State, superstep, closed, ended_by, segments, first_fault, too_many, overflow, fault_eight, or_next, next_live, log_of, prints_of, record_of, live_paths}
 use Rattle.programs.specs.Supersteps.{initial, so_far, status, status_of, told, report_of}
 use Rattle.programs.specs.InPlace.{AllDone, deeds_of, IsAllDone, Told, maker, told_at, living_with, left_in, spawned_in, told_in}
+use Rattle.programs.specs.Regroup.{AreNumbered}
 use Rattle.programs.specs.Course.{course_state, HasFaulted, HasGone, HasTakenOne, left_by}
 use Rattle.programs.specs.declared.alone.Course.{Course}
 use Rattle.superstep_memory.proofs.InOrder.{put_all_mapped, count_in_order}
@@ -200,6 +201,24 @@ module _ {S T : Type 0} (p : Reads S T) (law : (t : S) → p.says.path (p.meant 
     pub same : length us ≡ length ds
     pub living : length (living_with us ds) + left_in ds ≡ length ds + spawned_in ds
     pub rising : is_rising (map p.path us) ≡ true
+    pub numbered : AreNumbered p.path us ds
+
+  -- tasks number those that they spawn
+  numbered_told : (arrays : List (List ℕ × List ℤ)) (step : ℕ) (live : List T) (us : List S) (ds : List (DeedValue S)) → AllDone p us ds (segments p.says arrays step live)
+      → AreNumbered p.path us ds
+  numbered_told arrays step live [] ds h = tt
+  numbered_told arrays step live (u ∷ us) [] h = tt
+  numbered_told arrays step [] (u ∷ us) (d ∷ ds) h = absurd h
+  numbered_told arrays step (t ∷ live) (u ∷ us) (d ∷ ds) h =
+      let spawned = (p.says.segment t arrays step).spawns in
+      let count : length spawned ≡ length d.spawns = ap length (sym h.1.0) ∙ length-map d.spawns p.meant in (
+        (p.says.begun t, read d.spawns ∙ ap (map p.says.path) h.1.0 ∙ numbers t arrays step ∙ (λ i. children (sym h.0 i) (p.says.begun t) (count i))),
+        numbered_told arrays step live us ds h.2,
+      )
+    where
+      read : (ts : List S) → map p.path ts ≡ map p.says.path (map p.meant ts)
+      read [] = refl
+      read (x ∷ ts) = λ i. sym (law x) i ∷ read ts i
 
   pub fits_in : (st : State T) (us : List S) (ds : List (DeedValue S)) → AllDone p us ds (deeds_at st)
       → length st.live ≤ p.says.most → is_rising (live_paths p.says st) ≡ true → Fits us ds
@@ -213,6 +232,7 @@ module _ {S T : Type 0} (p : Reads S T) (law : (t : S) → p.says.path (p.meant 
         same = k.tasks;
         living = k.living;
         rising = ap is_rising e ∙ r;
+        numbered = numbered_told st.arrays st.step st.live us ds h;
       }
 
   -- who lives on and who left are those that the record counts

@@ -1,5 +1,7 @@
 pub mod InPlace
 pub mod Listed
+pub mod Regrouping
+pub mod Turned
 pub mod Runs
 pub mod Apart
 pub mod Course

@@ -6,6 +6,7 @@ pub mod Superstep
 pub mod Supersteps
 pub mod InPlace
 pub mod DeedsView
+pub mod Regroup
 pub mod Course
 pub mod History
 pub mod Done

@@ -5,12 +5,13 @@ ghost use Rattle.phase_records.specs.Status.{IsShort};
 ghost use Rattle.phase_records.specs.StatusSeen.{status_seen};
 ghost use Rattle.superstep_memory.specs.PathOrder.{in_path_order};
 ghost use Rattle.programs.specs.InPlace.{living_with, left_in, spawned_in};
+ghost use Rattle.programs.specs.Regroup.{AreNumbered};
 ghost use Rattle.programs.specs.History.{HasRun, HasRunTo};
 ghost use Rattle.programs.specs.Meaning.{children};
 ghost use Rattle.programs.specs.Course.{HasTaken, left_by};
 
 use crate::blame::{Blame, too_many};
-use crate::deeds::Deeds;
+use crate::deeds::{Deeds, Regrouping};
 use crate::in_place::{StepScene, do_all};
 use crate::program::{OnPath, TaskLoop};
 use crate::watch::{NoWatch, Watch};
@@ -30,18 +31,18 @@ struct Course<T> {
     records: Vec<PhaseRecord>,
 }
 
-// Room for a superstep, kept from one to the next. What it holds between two means nothing.
+// Working space for a superstep, kept from one to the next. What it holds between two means nothing.
 #[derive(Drop)]
-struct Room<T> {
+struct Space<T> {
     work: Work<T>,
     deeds: Deeds<T>,
-    living: Vec<T>,
+    room: Regrouping<T>,
     olds: Vec<i64>,
 }
 
-// No room yet.
-fn no_room<T: OnPath>(alloc: Global) -> Room<T> {
-    Room {
+// No space yet.
+fn no_space<T: OnPath>(alloc: Global) -> Space<T> {
+    Space {
         work: Work {
             puts: Puts::new(alloc),
             own: Puts::new(alloc),
@@ -49,7 +50,7 @@ fn no_room<T: OnPath>(alloc: Global) -> Room<T> {
             spawns: Vec::new(alloc),
         },
         deeds: Deeds::new(alloc),
-        living: Vec::new(alloc),
+        room: Regrouping::new(alloc),
         olds: Vec::new(alloc),
     }
 }
@@ -65,7 +66,7 @@ fn all_stay(told: PhaseRecord) -> bool
 fn renew<T: OnPath>(
     tasks: &mut Vec<T>,
     deeds: &mut Deeds<T>,
-    living: &mut Vec<T>,
+    room: &mut Regrouping<T>,
     told: PhaseRecord,
 ) -> Result<(), AllocError>
     requires same { length tasks.old.items ≡ length deeds.old }
@@ -73,36 +74,38 @@ fn renew<T: OnPath>(
     requires spawned { told.spawned ≡ spawned_in deeds.old }
     requires count { length (living_with tasks.old.items deeds.old) + told.left ≡ told.parties }
     requires rising { is_rising (map T.path_of tasks.old.items) ≡ true }
+    requires numbered { AreNumbered T.path_of tasks.old.items deeds.old }
     ensures { OnOk result (tasks.new.items ≡ in_path_order T.path_of (living_with tasks.old.items deeds.old)) }
 {
     if all_stay(told) {
         return Ok(());
     }
     let count = (told.parties - told.left) as usize;
-    deeds.regroup(tasks, living, count)
+    deeds.regroup(tasks, room, count)
 }
 
 // Records what the tasks did, whose log has landed, and goes on to the next live tasks.
 fn go_on<T: OnPath>(
     course: &mut Course<T>,
-    room: &mut Room<T>,
+    space: &mut Space<T>,
     told: PhaseRecord,
 ) -> Result<(), AllocError>
-    requires same { length course.old.tasks.items ≡ length room.old.deeds }
-    requires left { told.left ≡ left_in room.old.deeds }
-    requires spawned { told.spawned ≡ spawned_in room.old.deeds }
-    requires count { length (living_with course.old.tasks.items room.old.deeds) + told.left ≡ told.parties }
+    requires same { length course.old.tasks.items ≡ length space.old.deeds }
+    requires left { told.left ≡ left_in space.old.deeds }
+    requires spawned { told.spawned ≡ spawned_in space.old.deeds }
+    requires count { length (living_with course.old.tasks.items space.old.deeds) + told.left ≡ told.parties }
     requires rising { is_rising (map T.path_of course.old.tasks.items) ≡ true }
+    requires numbered { AreNumbered T.path_of course.old.tasks.items space.old.deeds }
     requires below { course.old.step + 1 < 2 ^ 32 }
     ensures step { OnOk result (course.new.step ≡ course.old.step + 1) }
     ensures arrays { OnOk result (course.new.arrays ≡ course.old.arrays) }
     ensures tasks { OnOk result (course.new.tasks.items
-        ≡ in_path_order T.path_of (living_with course.old.tasks.items room.old.deeds)) }
+        ≡ in_path_order T.path_of (living_with course.old.tasks.items space.old.deeds)) }
     ensures prints { OnOk result (course.new.prints.items ≡ course.old.prints.items) }
     ensures records { OnOk result (course.new.records.items ≡ course.old.records.items ++ told ∷ []) }
 {
     course.records.push(told)?;
-    renew(&mut course.tasks, &mut room.deeds, &mut room.living, told)?;
+    renew(&mut course.tasks, &mut space.deeds, &mut space.room, told)?;
     course.step += 1;
     Ok(())
 }
@@ -113,7 +116,7 @@ fn take_superstep<P: TaskLoop>(
     program: &P,
     most: u32,
     course: &mut Course<P::Task>,
-    room: &mut Room<P::Task>,
+    space: &mut Space<P::Task>,
 ) -> Result<Option<Blame>, AllocError>
     requires ready { P.ready program.now }
     requires most { most < 2 ^ 31 }
@@ -124,8 +127,8 @@ fn take_superstep<P: TaskLoop>(
         HasTaken (P.frame p) (P.may p) most (P.meant p) P.Task.path_of fault course.old course.new) }
 {
     let printed = course.prints.len();
-    room.work.puts.clear();
-    room.deeds.clear();
+    space.work.puts.clear();
+    space.deeds.clear();
     let scene = StepScene {
         program,
         arrays: &course.arrays,
@@ -135,8 +138,8 @@ fn take_superstep<P: TaskLoop>(
         alloc,
         &scene,
         &mut course.tasks,
-        &mut room.work,
-        &mut room.deeds,
+        &mut space.work,
+        &mut space.deeds,
         &mut course.prints,
     )?;
     match fault {
@@ -145,19 +148,19 @@ fn take_superstep<P: TaskLoop>(
             Ok(Some(blame))
         }
         None => {
-            if !room.deeds.are_few(most) {
+            if !space.deeds.are_few(most) {
                 course.prints.truncate(printed);
                 return Ok(Some(too_many(alloc)));
             }
-            let told = room.deeds.record(course.step);
-            let over = room.work.puts.land(&mut course.arrays, &mut room.olds)?;
+            let told = space.deeds.record(course.step);
+            let over = space.work.puts.land(&mut course.arrays, &mut space.olds)?;
             match over {
                 Some(place) => {
                     course.prints.truncate(printed);
-                    Ok(room.deeds.blame_at(&course.tasks, place))
+                    Ok(space.deeds.blame_at(&course.tasks, place))
                 }
                 None => {
-                    go_on(course, room, told)?;
+                    go_on(course, space, told)?;
                     Ok(None)
                 }
             }
@@ -165,14 +168,14 @@ fn take_superstep<P: TaskLoop>(
     }
 }
 
-// Takes supersteps until the run ends, and returns how it ended. The room is working space.
+// Takes supersteps until the run ends, and returns how it ended.
 fn run_within<P: TaskLoop, W: Watch>(
     alloc: Global,
     program: &P,
     most: u32,
     limit: u32,
     course: &mut Course<P::Task>,
-    room: &mut Room<P::Task>,
+    space: &mut Space<P::Task>,
     watch: &mut W,
 ) -> Result<JobStatus, AllocError>
     requires ready { P.ready program.now }
@@ -192,7 +195,7 @@ fn run_within<P: TaskLoop, W: Watch>(
         if !watch.goes_on(course.step, &course.arrays, course.tasks.len()) {
             return Ok(JobStatus::Limit(course.step));
         }
-        let fault = take_superstep(alloc, program, most, course, room)?;
+        let fault = take_superstep(alloc, program, most, course, space)?;
         match fault {
             Some(blame) => {
                 course.tasks.clear();
@@ -227,8 +230,8 @@ fn run_on<P: TaskLoop, W: Watch>(
         HasRunTo W.stops W.goes (P.frame p) (P.may p) most course.old.arrays (map (P.meant p) course.old.tasks.items) limit (left_by course.new (status_seen s)) (map (P.meant p) course.new.tasks.items)) }
     ensures short { IfOk result (λ s. IsShort (status_seen s)) }
 {
-    let mut room = no_room(alloc);
-    run_within(alloc, program, most, limit, course, &mut room, watch)
+    let mut space = no_space(alloc);
+    run_within(alloc, program, most, limit, course, &mut space, watch)
 }
 
 /// What a run leaves.

@@ -1,19 +1,20 @@
 //! What live tasks did in their places, and all that they spawned in one list.
-ghost use Rattle.std.specs.Prelude.{◌≡◌, ◌≤◌, ◌<◌, ◌+◌, ◌-◌, ◌^◌, ◌++◌, ◌∷◌, ◌↔◌, [], IsTrue, IfOk, OnOk, OnErr, length, map, reverse, take};
+ghost use Rattle.std.specs.Prelude.{◌≡◌, ◌≤◌, ◌<◌, ◌+◌, ◌-◌, ◌^◌, ◌++◌, ◌∷◌, ◌↔◌, ◌⊎◌, [], true, IsTrue, IfOk, OnOk, OnErr, length, map, reverse, take};
 ghost use Rattle.std.specs.Option.{option_map};
 ghost use Rattle.std.specs.Vec.{vec_len, vec_capacity};
-ghost use Rattle.superstep_memory.specs.PathOrder.{put_all, in_path_order};
+ghost use Rattle.superstep_memory.specs.Paths.{is_rising};
+ghost use Rattle.superstep_memory.specs.PathOrder.{in_path_order};
+ghost use Rattle.programs.specs.Regroup.{AreNumbered, IsNextAfter, IsBeforeNext, HasMoved, HasMovedEarly, HasPut};
 ghost use Rattle.programs.specs.DeedsView.{deeds_with, spawned_by, stopped_by, behind};
 ghost use Rattle.programs.specs.Changes.{change_of, change_in};
 ghost use Rattle.programs.specs.InPlace.{one_left, told_at, told_in, maker, kept, living_with, left_in, spawned_in};
 
 use crate::blame::{Blame, overflowed, task_path};
-use crate::next::put_task;
 use crate::program::OnPath;
 use phase_records::PhaseRecord;
 use std::alloc::{AllocError, Global};
 use std::marker::Model;
-use superstep_memory::path::Path;
+use superstep_memory::path::{Path, is_before};
 
 // What a task did: whether it goes on, how many puts it made, which are its part of the log, and how many tasks it
 // spawned.
@@ -47,63 +48,198 @@ impl<T> Model for Deeds<T> {
     ghost invariant = { IsInside };
 }
 
-// Puts the last tasks of `spawns` in their places among those that live on. There are `count` spawned tasks to place.
-fn put_last<T: OnPath>(living: &mut Vec<T>, spawns: &mut Vec<T>, count: usize)
-    requires enough { count ≤ length spawns.old.items }
-    requires room { vec_len living.old + count ≤ vec_capacity living.old }
-    ensures items { living.new.items ≡ reverse (put_all T.path_of (behind (length spawns.old.items - count) spawns.old.items) (reverse living.old.items)) }
-    ensures rest { spawns.new.items ≡ take (length spawns.old.items - count) spawns.old.items }
-    ensures more { vec_len living.new ≡ vec_len living.old + count }
-    ensures room { vec_capacity living.new ≡ vec_capacity living.old }
+/// Working space for [`Deeds::regroup`]: a list of the next live tasks, and one of spawned tasks that wait for their places.
+#[derive(Drop)]
+pub struct Regrouping<T> {
+    /// The next live tasks so far.
+    pub living: Vec<T>,
+    /// Spawned tasks that come after tasks that aren't in `living` yet, the first by path last.
+    pub waiting: Vec<T>,
+}
+
+impl<T: OnPath> Regrouping<T> {
+    /// No room yet.
+    pub fn new(alloc: Global) -> Self {
+        Regrouping {
+            living: Vec::new(alloc),
+            waiting: Vec::new(alloc),
+        }
+    }
+
+    /// Empties the lists, and makes room for so many tasks in each.
+    pub fn reserve(&mut self, count: usize, spawned: usize) -> Result<(), AllocError>
+        ensures empty { OnOk result ((self.new.living.items ≡ []) × (self.new.waiting.items ≡ [])) }
+        ensures room { OnOk result ((count ≤ vec_capacity self.new.living) × (spawned ≤ vec_capacity self.new.waiting)) }
+        ensures full { OnErr result ((vec_capacity self.old.living < count) ⊎ (vec_capacity self.old.waiting < spawned)) }
+    {
+        self.living.clear();
+        self.waiting.clear();
+        self.living.reserve(count)?;
+        self.waiting.reserve(spawned)
+    }
+}
+
+// Moves the tasks that wait and don't come after this path, the first by path first.
+fn move_before<T: OnPath>(living: &mut Vec<T>, waiting: &mut Vec<T>, path: &[u16])
+    requires room { vec_len living.old + vec_len waiting.old ≤ vec_capacity living.old }
+    ensures moved { HasMoved T.path_of path.now living.old.items living.new.items (reverse waiting.old.items) (reverse waiting.new.items) }
+    ensures rest { IsNextAfter T.path_of path.now (reverse waiting.new.items) }
+    ensures room { (vec_capacity living.new ≡ vec_capacity living.old) × (vec_capacity waiting.new ≡ vec_capacity waiting.old) }
+    ensures count { vec_len living.new + vec_len waiting.new ≡ vec_len living.old + vec_len waiting.old }
 {
+    while let Some(first) = waiting.last() {
+        if is_before(path, first.path().as_slice()) {
+            break;
+        }
+        match waiting.pop() {
+            Some(task) => living.push_reserved(task),
+            None => unreachable!(),
+        }
+    }
+}
+
+// Moves all tasks that wait, the first by path first.
+fn move_all<T: OnPath>(living: &mut Vec<T>, waiting: &mut Vec<T>)
+    requires room { vec_len living.old + vec_len waiting.old ≤ vec_capacity living.old }
+    ensures moved { living.new.items ≡ living.old.items ++ reverse waiting.old.items }
+    ensures none { waiting.new.items ≡ [] }
+{
+    while let Some(task) = waiting.pop() {
+        living.push_reserved(task);
+    }
+}
+
+// Lets the last `count` tasks of a list wait, the last one first.
+fn let_wait<T: OnPath>(waiting: &mut Vec<T>, spawns: &mut Vec<T>, count: usize)
+    requires enough { count ≤ length spawns.old.items }
+    requires room { vec_len waiting.old + count ≤ vec_capacity waiting.old }
+    ensures waiting { reverse waiting.new.items ≡ take count (reverse spawns.old.items) ++ reverse waiting.old.items }
+    ensures rest { reverse spawns.new.items ≡ behind count (reverse spawns.old.items) }
+    ensures room { vec_capacity waiting.new ≡ vec_capacity waiting.old }
+    ensures count { vec_len waiting.new ≡ vec_len waiting.old + count }
+{
+    let from = waiting.len();
     let mut left = count;
     while left > 0 {
         match spawns.pop() {
-            Some(task) => put_task(living, task),
+            Some(task) => waiting.push_reserved(task),
             None => unreachable!(),
         }
         left -= 1;
     }
+    waiting[from..].reverse();
 }
 
-// Puts a task, if it goes on, and those that it spawned in their places.
-fn put_deed<T: OnPath>(living: &mut Vec<T>, task: T, deed: Deed, spawns: &mut Vec<T>)
-    requires enough { deed.spawned ≤ length spawns.old.items }
-    requires room { vec_len living.old + (length (kept deed.synced task) + deed.spawned) ≤ vec_capacity living.old }
-    ensures items { living.new.items ≡ reverse (put_all T.path_of
-        (kept deed.synced task ++ behind (length spawns.old.items - deed.spawned) spawns.old.items) (reverse living.old.items)) }
-    ensures rest { spawns.new.items ≡ take (length spawns.old.items - deed.spawned) spawns.old.items }
-    ensures more { vec_len living.new ≡ vec_len living.old + (length (kept deed.synced task) + deed.spawned) }
-    ensures room { vec_capacity living.new ≡ vec_capacity living.old }
+// Whether a task comes before the next one, if there is one: the last of these.
+fn is_early<T: OnPath>(task: &T, tasks: &[T]) -> bool
+    ensures { IsTrue result → IsBeforeNext T.path_of (reverse tasks.now) task.now }
 {
-    put_last(living, spawns, deed.spawned);
-    if deed.synced {
-        put_task(living, task);
+    match tasks.last() {
+        Some(next) => is_before(task.path().as_slice(), next.path().as_slice()),
+        None => true,
     }
 }
 
-// The tasks that go on and those that they spawned, the last by path first.
-fn collect<T: OnPath>(
+// Moves spawned tasks from the end of a list, as long as they come before the next task, and at most `count`. Returns how many
+// of these are left.
+fn move_early<T: OnPath>(
+    living: &mut Vec<T>,
+    spawns: &mut Vec<T>,
+    count: usize,
+    tasks: &[T],
+) -> usize
+    requires enough { count ≤ length spawns.old.items }
+    requires room { vec_len living.old + count ≤ vec_capacity living.old }
+    ensures moved { HasMovedEarly T.path_of (reverse tasks.now) living.old.items living.new.items (reverse spawns.old.items) (reverse spawns.new.items) (count - result) }
+    ensures left { result ≤ count }
+    ensures enough { result ≤ length spawns.new.items }
+    ensures room { vec_capacity living.new ≡ vec_capacity living.old }
+    ensures count { vec_len living.new + result ≡ vec_len living.old + count }
+{
+    let mut left = count;
+    while left > 0 {
+        let Some(first) = spawns.last() else {
+            unreachable!()
+        };
+        if !is_early(first, tasks) {
+            break;
+        }
+        match spawns.pop() {
+            Some(task) => living.push_reserved(task),
+            None => unreachable!(),
+        }
+        left -= 1;
+    }
+    left
+}
+
+// Appends a task, if it goes on.
+fn push_kept<T: OnPath>(living: &mut Vec<T>, task: T, synced: bool)
+    requires room { vec_len living.old + length (kept synced task) ≤ vec_capacity living.old }
+    ensures items { living.new.items ≡ living.old.items ++ kept synced task }
+    ensures room { vec_capacity living.new ≡ vec_capacity living.old }
+    ensures count { vec_len living.new ≡ vec_len living.old + length (kept synced task) }
+{
+    if synced {
+        living.push_reserved(task);
+    }
+}
+
+// Puts a task, if it goes on, after those that wait and come before it. `spawns` ends with those that it spawned, the last one
+// first. They follow as long as they come before the next task: the last of `tasks`. The others wait.
+fn put_next<T: OnPath>(
+    living: &mut Vec<T>,
+    waiting: &mut Vec<T>,
+    task: T,
+    deed: Deed,
+    spawns: &mut Vec<T>,
+    tasks: &[T],
+)
+    requires enough { deed.spawned ≤ length spawns.old.items }
+    requires room { vec_len living.old + vec_len waiting.old + (length (kept deed.synced task) + deed.spawned) ≤ vec_capacity living.old }
+    requires wait { vec_len waiting.old + deed.spawned ≤ vec_capacity waiting.old }
+    ensures put { HasPut T.path_of task deed.synced (reverse tasks.now) (take deed.spawned (reverse spawns.old.items)) living.old.items living.new.items (reverse waiting.old.items) (reverse waiting.new.items) }
+    ensures rest { reverse spawns.new.items ≡ behind deed.spawned (reverse spawns.old.items) }
+    ensures room { (vec_capacity living.new ≡ vec_capacity living.old) × (vec_capacity waiting.new ≡ vec_capacity waiting.old) }
+    ensures count { vec_len living.new + vec_len waiting.new ≡ vec_len living.old + vec_len waiting.old + (length (kept deed.synced task) + deed.spawned) }
+    ensures wait { vec_len waiting.new ≤ vec_len waiting.old + deed.spawned }
+{
+    move_before(living, waiting, task.path().as_slice());
+    push_kept(living, task, deed.synced);
+    let left = move_early(living, spawns, deed.spawned, tasks);
+    if left > 0 {
+        let_wait(waiting, spawns, left);
+    }
+}
+
+// The tasks that go on and those that they spawned, in path order. The lists of tasks, deeds and spawned tasks are read from their
+// ends.
+fn put_in_order<T: OnPath>(
     tasks: &mut Vec<T>,
     each: &mut Vec<Deed>,
     spawns: &mut Vec<T>,
     living: &mut Vec<T>,
+    waiting: &mut Vec<T>,
 )
     requires same { length tasks.old.items ≡ length each.old.items }
-    requires all { spawned_by each.old.items ≡ length spawns.old.items }
-    requires none_yet { living.old.items ≡ [] }
-    requires room { length (living_with tasks.old.items (deeds_with each.old.items spawns.old.items)) ≤ vec_capacity living.old }
-    ensures living { living.new.items ≡ reverse (in_path_order T.path_of (living_with tasks.old.items (deeds_with each.old.items spawns.old.items))) }
+    requires all { spawned_by (reverse each.old.items) ≡ length spawns.old.items }
+    requires none_yet { (living.old.items ≡ []) × (waiting.old.items ≡ []) }
+    requires room { length (living_with (reverse tasks.old.items) (deeds_with (reverse each.old.items) (reverse spawns.old.items))) ≤ vec_capacity living.old }
+    requires wait { length spawns.old.items ≤ vec_capacity waiting.old }
+    requires rising { is_rising (map T.path_of (reverse tasks.old.items)) ≡ true }
+    requires numbered { AreNumbered T.path_of (reverse tasks.old.items) (deeds_with (reverse each.old.items) (reverse spawns.old.items)) }
+    ensures living { living.new.items ≡ in_path_order T.path_of (living_with (reverse tasks.old.items) (deeds_with (reverse each.old.items) (reverse spawns.old.items))) }
     ensures tasks { tasks.new.items ≡ [] }
     ensures each { each.new.items ≡ [] }
     ensures spawns { spawns.new.items ≡ [] }
 {
     while let Some(deed) = each.pop() {
         match tasks.pop() {
-            Some(task) => put_deed(living, task, deed, spawns),
+            Some(task) => put_next(living, waiting, task, deed, spawns, tasks),
             None => unreachable!(),
         }
     }
+    move_all(living, waiting);
 }
 
 // Whether the sum of `count` and `others` is at most `most`.
@@ -226,26 +362,35 @@ impl<T: OnPath> Deeds<T> {
         }
     }
 
-    /// Replaces the tasks by those that go on and those that they spawned, in path order: `count` tasks. `room` is
-    /// working space. If memory runs out, the tasks are as they were.
+    /// Replaces the tasks by those that go on and those that they spawned, in path order: `count` tasks. The paths of the tasks
+    /// rise, and each has numbered those that it spawned. If memory runs out, the tasks are as they were.
     pub fn regroup(
         &mut self,
         tasks: &mut Vec<T>,
-        room: &mut Vec<T>,
+        room: &mut Regrouping<T>,
         count: usize,
     ) -> Result<(), AllocError>
         requires same { length tasks.old.items ≡ length self.old }
         requires count { length (living_with tasks.old.items self.old) ≤ count }
+        requires rising { is_rising (map T.path_of tasks.old.items) ≡ true }
+        requires numbered { AreNumbered T.path_of tasks.old.items self.old }
         ensures tasks { OnOk result (tasks.new.items ≡ in_path_order T.path_of (living_with tasks.old.items self.old)) }
-        ensures full { OnErr result (vec_capacity room.old < count) }
+        ensures full { OnErr result ((vec_capacity room.old.living < count) ⊎ (vec_capacity room.old.waiting < spawned_in self.old)) }
         ensures memory { OnErr result ((self.new ≡ self.old) × (tasks.new.items ≡ tasks.old.items)) }
     {
-        room.clear();
-        room.reserve(count)?;
-        collect(tasks, &mut self.each, &mut self.spawns, room);
+        room.reserve(count, self.spawns.len())?;
+        tasks.reverse();
+        self.each.reverse();
+        self.spawns.reverse();
+        put_in_order(
+            tasks,
+            &mut self.each,
+            &mut self.spawns,
+            &mut room.living,
+            &mut room.waiting,
+        );
         self.stopped = 0;
-        room.reverse();
-        std::mem::swap(room, tasks);
+        std::mem::swap(&mut room.living, tasks);
         Ok(())
     }
 }

@@ -1,8 +1,10 @@
 //! The tasks of a superstep in which some came or left.
-ghost use Rattle.std.specs.Prelude.{◌≡◌, ◌≤◌, ◌<◌, ◌+◌, ◌++◌, [], IfOk, OnOk, length};
+ghost use Rattle.std.specs.Prelude.{◌≡◌, ◌≤◌, ◌<◌, ◌+◌, ◌++◌, [], true, IfOk, OnOk, length, map};
 ghost use Rattle.std.specs.Vec.{vec_len, vec_capacity};
 ghost use Rattle.superstep_memory.specs.PathOrder.{in_path_order};
-ghost use Rattle.programs.specs.InPlace.{living_with};
+ghost use Rattle.superstep_memory.specs.Paths.{is_rising};
+ghost use Rattle.programs.specs.InPlace.{living_with, spawned_in};
+ghost use Rattle.programs.specs.Regroup.{AreNumbered};
 ghost use Rattle.stretch_parts.specs.Parts.{AreFresh, fresh_part, tasks_in, puts_in, deeds_in, prints_in};
 
 use crate::cut::cut;
@@ -10,7 +12,7 @@ use crate::hand_over::{give_all_prints, give_all_tasks};
 use crate::part::Part;
 use crate::parts::count_prints;
 use phase_records::{PhaseRecord, Print};
-use programs::deeds::Deeds;
+use programs::deeds::{Deeds, Regrouping};
 use programs::program::OnPath;
 use std::alloc::{AllocError, Global};
 
@@ -29,7 +31,7 @@ pub struct Gathered<T> {
 #[derive(Drop)]
 pub struct Room<T> {
     /// Room for the tasks.
-    pub tasks: Vec<T>,
+    pub tasks: Regrouping<T>,
     /// Room for one stretch.
     pub parts: Vec<Option<Part<T>>>,
     /// That stretch.
@@ -80,13 +82,18 @@ pub fn gather<T: OnPath>(
     })
 }
 
-/// Allocates the memory that `count` live tasks need.
-pub fn room_for<T: OnPath>(alloc: Global, count: usize) -> Result<Room<T>, AllocError>
-    ensures tasks { IfOk result (λ room. count ≤ vec_capacity room.tasks) }
+/// Allocates the memory that `count` live tasks need, of which so many were spawned.
+pub fn room_for<T: OnPath>(
+    alloc: Global,
+    count: usize,
+    spawned: usize,
+) -> Result<Room<T>, AllocError>
+    ensures tasks { IfOk result (λ room. (count ≤ vec_capacity room.tasks.living) × (spawned ≤ vec_capacity room.tasks.waiting)) }
     ensures parts { IfOk result (λ room. (room.parts.items ≡ []) × (vec_len room.parts < vec_capacity room.parts)) }
     ensures first { IfOk result (λ room. room.first ≡ fresh_part 0 []) }
 {
-    let tasks = Vec::with_capacity(alloc, count)?;
+    let mut tasks = Regrouping::new(alloc);
+    tasks.reserve(count, spawned)?;
     let parts = Vec::with_capacity(alloc, 1)?;
     let first = Part::new(alloc)?;
     Ok(Room {
@@ -107,7 +114,9 @@ impl<T: OnPath> Room<T> {
     ) -> Vec<Option<Part<T>>>
         requires same { length gathered.tasks.items ≡ length gathered.deeds }
         requires count { length (living_with gathered.tasks.items gathered.deeds) ≤ count }
-        requires tasks { count ≤ vec_capacity self.tasks }
+        requires rising { is_rising (map T.path_of gathered.tasks.items) ≡ true }
+        requires numbered { AreNumbered T.path_of gathered.tasks.items gathered.deeds }
+        requires tasks { (count ≤ vec_capacity self.tasks.living) × (spawned_in gathered.deeds ≤ vec_capacity self.tasks.waiting) }
         requires parts { (self.parts.items ≡ []) × (vec_len self.parts < vec_capacity self.parts) }
         requires first { self.first ≡ fresh_part 0 [] }
         requires pieces { 1 ≤ pieces }

@@ -47,9 +47,10 @@ const STRETCHES_EACH: usize = 4;
 // The most start tasks: the path of each is a number of 16 bits.
 const MOST_STARTS: usize = 65536;
 
-// How often a worker looks for a ready stretch before it sleeps, or backs off for another worker: some 100
-// microseconds.
+// How often a worker looks for a ready stretch before it sleeps, or backs off for another worker: some 25
+// microseconds, and much less if there are more workers than processors.
 const MOST_SPINS: u32 = 2000;
+const FEW_SPINS: u32 = 100;
 
 // The tree at which workers meet, its first token, and its leaves; and the lists of the passes for stretches, and for workers that
 // have stopped.
@@ -402,11 +403,11 @@ pub fn stretches_wanted<G: Gate>(gate: &G, workers: u32) -> usize
     }
 }
 
-// How often a worker spins before it sleeps or calls the tree: not at all if there are more workers than processors.
+// How often a worker spins before it sleeps or calls the tree.
 fn spins_of<R: Threads>(rt: &R, workers: u32) -> u32 {
     match thread::available_parallelism(rt) {
         Ok(count) if workers as usize <= count.get() => MOST_SPINS,
-        Ok(_) | Err(_) => 0,
+        Ok(_) | Err(_) => FEW_SPINS,
     }
 }
 

@@ -3,6 +3,7 @@ ghost use Rattle.std.specs.Prelude.{◌≡◌};
 
 use crate::leaves::Leaves;
 use std::sync::Wait;
+use std::thread;
 use stretch_queue::fault::Reason;
 use stretch_queue::led::Led;
 use stretch_queue::participant::{OwnToken, Participant};
@@ -73,7 +74,10 @@ impl<J: Running, F: Fn(u32, u32) -> bool> WorkerTree<J, F> {
                 Opened::Held(door, _phase, _cause) => return Entry::Off(door),
                 Opened::Full(door, _count) => return Entry::Full(door),
                 Opened::Ended(_door, _shown) => return Entry::Over,
-                Opened::Owing(rest) => opening = rest,
+                Opened::Owing(rest) => {
+                    opening = rest;
+                    thread::yield_now();
+                }
             }
         }
         unreachable!()
@@ -106,7 +110,10 @@ impl<J: Running, F: Fn(u32, u32) -> bool> WorkerTree<J, F> {
         for _ in rt.forever() {
             match self.phaser.join_here(crew, door, 1, TRIES) {
                 Registered::Joined(child, _phase) => return Ok(child),
-                Registered::Busy(rest) => door = rest,
+                Registered::Busy(rest) => {
+                    door = rest;
+                    thread::yield_now();
+                }
                 Registered::Full(_door, _count) => return Err(Reason::Full),
                 Registered::Ended(_door, _shown) => return Err(Reason::Internal),
                 Registered::Held(..) | Registered::Owing(_) => unreachable!(),
@@ -217,7 +224,7 @@ impl<J: Running, F: Fn(u32, u32) -> bool> WorkerTree<J, F> {
         for _ in rt.forever() {
             match self.phaser.force(&mut own.door, TRIES) {
                 Forced::Ended(_) => return,
-                Forced::Busy => {}
+                Forced::Busy => thread::yield_now(),
             }
         }
         unreachable!()

@@ -1,4 +1,4 @@
-//! Four threads whose groups grow, shrink, split and come together while they meet.
+//! Eight threads whose groups grow, shrink, split and come together while they meet.
 
 ghost use Rattle.std.specs.Prelude.{◌≡◌, All};
 ghost use Rattle.advance_rule.specs.Stored.{Answers};
@@ -259,7 +259,7 @@ fn registered<R: Wait + Abort>(
     }
 }
 
-// Two players at one leaf, one at another, and one above it.
+// Two players at one leaf, one at each other leaf, one at each inner tier, and one at the root.
 fn players<R: Wait + Abort>(
     rt: &R,
     alloc: Global,
@@ -274,7 +274,11 @@ fn players<R: Wait + Abort>(
     let one = registered(rt, tree, &mut spare, 3, 1, seed.wrapping_add(1));
     let two = registered(rt, tree, &mut spare, 5, 3, seed.wrapping_add(2));
     let three = registered(rt, tree, &mut spare, 2, 1, seed.wrapping_add(3));
-    vec![in alloc; zero, one, two, three].expect(rt, "memory")
+    let four = registered(rt, tree, &mut spare, 4, 5, seed.wrapping_add(4));
+    let five = registered(rt, tree, &mut spare, 6, 1, seed.wrapping_add(5));
+    let six = registered(rt, tree, &mut spare, 1, 2, seed.wrapping_add(6));
+    let seven = registered(rt, tree, &mut spare, 0, 1, seed.wrapping_add(7));
+    vec![in alloc; zero, one, two, three, four, five, six, seven].expect(rt, "memory")
 }
 
 // What the groups say of themselves. Nobody has arrived in the last phase.
@@ -294,7 +298,7 @@ fn tokens_of(rt: &impl Abort, alloc: Global, players: &[Player]) -> Vec<ClosedTo
     tokens
 }
 
-// Four threads meet. At the end each word counts the members that are left at its tier and the tiers below it.
+// Eight threads meet. At the end each word counts the members that are left at its tier and the tiers below it.
 fn game<R: Threads + Wait + Abort + Sync>(
     rt: &R,
     alloc: Global,
@@ -310,11 +314,11 @@ fn game<R: Threads + Wait + Abort + Sync>(
     let shape = Shape::from_widths(alloc, "2x2").expect(rt, "a shape");
     let closed = left(rt, alloc, tree, Vec::new(alloc));
     assert!(rt; closed.words.first().map(|root| root.phase) == Some(PHASES));
-    assert!(rt; tokens.len() == 4 && tally(&shape, &closed.words, &tokens));
+    assert!(rt; tokens.len() == 8 && tally(&shape, &closed.words, &tokens));
 }
 
 #[test]
-fn groups_of_four_threads_meet(rt: HostRuntime) {
+fn groups_of_eight_threads_meet(rt: HostRuntime) {
     for seed in 0..4u32 {
         let rule = StoredAdvance::new(is_empty as Rule, WHEN_EMPTY);
         game(&rt, rt.alloc(), rule, seed.wrapping_mul(100));

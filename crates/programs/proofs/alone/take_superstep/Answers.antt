@@ -65,6 +65,18 @@ go_on-requires-clause-same g c =
     let h = did p law few same c.args.course.now c.in_ok-fault.fault c.do_all.new.work.puts c.do_all.new.tasks.items c.do_all.new.deeds c.do_all.new.prints.items n.told c.in-None.is in
     (fits p law few same c.args.course.now c.do_all.new.tasks.items c.do_all.new.deeds h.done c.requires.few c.requires.rising).same
 
+pub go_on-requires-clause-numbered : goal.go_on-requires-clause-numbered
+go_on-requires-clause-numbered g c =
+    let q = c.args.program.now in
+    let done = c.in_ok-fault.ensures in
+    let p = reads (says_in (g.P.Program.frame q) c.args.most done.entries) (g.P.Program.meant q) g.P.Task.OnPath.path_of in
+    let law = g.met.P.Program.keeps_paths q in
+    let n = known (g.P.Program.frame q) (g.P.Program.may q) c.args.most (g.P.Program.meant q) g.P.Task.OnPath.path_of law c.args.course.now _ _ _ _ _ done c.requires.rising in
+    let few = n.numbers in
+    let same = n.stays in
+    let h = did p law few same c.args.course.now c.in_ok-fault.fault c.do_all.new.work.puts c.do_all.new.tasks.items c.do_all.new.deeds c.do_all.new.prints.items n.told c.in-None.is in
+    (fits p law few same c.args.course.now c.do_all.new.tasks.items c.do_all.new.deeds h.done c.requires.few c.requires.rising).numbered
+
 pub go_on-requires-clause-count : goal.go_on-requires-clause-count
 go_on-requires-clause-count g c =
     let q = c.args.program.now in

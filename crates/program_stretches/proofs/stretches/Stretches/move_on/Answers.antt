@@ -2,7 +2,9 @@ use Rattle.std.proofs.Common.{◌≡◌, ◌+◌, ◌-◌, ◌++◌, ◌∷◌, 
 use Rattle.superstep_memory.specs.Landing.{landed, over_in}
 use Rattle.superstep_memory.specs.PathOrder.{in_path_order}
 use Rattle.phase_records.specs.declared.record.PhaseRecord.{PhaseRecord}
-use Rattle.programs.specs.InPlace.{living_with}
+use Rattle.superstep_memory.specs.Paths.{is_rising}
+use Rattle.programs.specs.InPlace.{living_with, spawned_in}
+use Rattle.programs.specs.Regroup.{AreNumbered}
 use Rattle.programs.proofs.InPlace.{few_left}
 use Rattle.stretch_parts.specs.Parts.{reading_of, AreFresh, tasks_in, puts_in, deeds_in, prints_in}
 use Rattle.program_stretches.specs.StretchesValue.{StretchesValue, IsAfter, IsCourse, status_in}
@@ -37,6 +39,27 @@ cut_next-next-requires-clause-count g c =
     let n : length (living_with c.in_ok-gathered.gathered.tasks.items c.in_ok-gathered.gathered.deeds) ≡ length (living_with (tasks_in c.args.parts.items) (deeds_in c.args.parts.items)) =
     (λ i. length (living_with (c.in_ok-gathered.ensures.tasks i) (c.in_ok-gathered.ensures.deeds i))) in
     omega (arith, living, e, p, n)
+
+pub cut_next-next-requires-clause-rising : goal.cut_next-next-requires-clause-rising
+cut_next-next-requires-clause-rising g c =
+    let m = reading_of g.P.Program.frame g.P.Program.may g.P.Program.meant g.P.Task.OnPath.path_of in
+    let h = c.requires.run in
+    let f = fit m c.args.self.now (g.met.P.Program.keeps_paths c.args.self.now.program) c.requires.running h.opening h.begun _ _ _ _ h.did in
+    (λ i. is_rising (map g.P.Task.OnPath.path_of (c.in_ok-gathered.ensures.tasks i))) ∙ f.rising
+
+pub cut_next-next-requires-clause-numbered : goal.cut_next-next-requires-clause-numbered
+cut_next-next-requires-clause-numbered g c =
+    let m = reading_of g.P.Program.frame g.P.Program.may g.P.Program.meant g.P.Task.OnPath.path_of in
+    let h = c.requires.run in
+    let f = fit m c.args.self.now (g.met.P.Program.keeps_paths c.args.self.now.program) c.requires.running h.opening h.begun _ _ _ _ h.did in
+    subst (λ (ts : List g.row.P-Task.Denot). AreNumbered g.P.Task.OnPath.path_of ts c.in_ok-gathered.gathered.deeds) (sym c.in_ok-gathered.ensures.tasks)
+    (subst (AreNumbered g.P.Task.OnPath.path_of (tasks_in c.args.parts.items)) (sym c.in_ok-gathered.ensures.deeds) f.numbered)
+
+pub cut_next-next-requires-clause-tasks : goal.cut_next-next-requires-clause-tasks
+cut_next-next-requires-clause-tasks g c =
+    let s = ap (λ (r : PhaseRecord). r.spawned) c.requires.told in
+    let d = ap spawned_in c.in_ok-gathered.ensures.deeds in
+    (c.in_ok-room.ensures.tasks.0, omega (arith, s, d, c.in_ok-room.ensures.tasks.1))
 
 pub overflow_add-self : goal.overflow_add-self
 overflow_add-self g c =

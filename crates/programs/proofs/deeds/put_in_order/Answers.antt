@@ -1,0 +1,62 @@
+use Rattle.std.proofs.Common.{◌≡◌, ◌+◌, ◌++◌, ◌∷◌, List, arith, ◌∙◌, sym, ap, subst, length, reverse}
+use Rattle.std.specs.Prelude.{take}
+use Rattle.std.proofs.lemmas.List.{length-append, length-reverse}
+use Rattle.superstep_memory.specs.PathOrder.{in_path_order}
+use Rattle.programs.specs.DeedsView.{behind, deeds_with, spawned_by}
+use Rattle.programs.specs.InPlace.{living_with, kept}
+use Rattle.programs.specs.Regroup.{HasPut}
+use Rattle.programs.proofs.Listed.{behind_length, take_length}
+use Rattle.programs.proofs.Regrouping.{IsAlong, goes_along, ends_along}
+use Rattle.programs.proofs.Turned.{reverse_last, reverse_none}
+use Rattle.programs.proofs.deeds.put_in_order.Goals as goal
+
+pub loop-deed-preserved : goal.loop-deed-preserved
+loop-deed-preserved g c =
+    let q = g.T.OnPath.path_of in
+    let v = c.loop-deed.invariant in
+    let d = c.in-Some.deed in
+    let u = c.in-Some-pop.task in
+    let us = reverse c.pop-in-Some.new.self.items in
+    let es = reverse c.pop.new.self.items in
+    let ss = reverse c.loop-deed.spawns.items in
+    let end = in_path_order q (living_with (reverse c.args.tasks.now.items) (deeds_with (reverse c.args.each.now.items) (reverse c.args.spawns.now.items))) in
+    let tasks : reverse c.loop-deed.tasks.items ≡ u ∷ us = ap reverse c.in-Some-pop.ensures.items ∙ reverse_last c.pop-in-Some.new.self.items u in
+    let each : reverse c.loop-deed.each.items ≡ d ∷ es = ap reverse c.in-Some.ensures.items ∙ reverse_last c.pop.new.self.items d in
+    let left : reverse c.put_next.new.spawns.items ≡ behind d.spawned ss = c.put_next.ensures.rest in
+    let total : d.spawned + spawned_by es ≡ length c.loop-deed.spawns.items = ap spawned_by (sym each) ∙ v.all in
+    let long = length-reverse c.loop-deed.spawns.items in
+    let rest = behind_length d.spawned ss (omega (arith, total, long)) in
+    let taken = take_length d.spawned ss (omega (arith, total, long)) in
+    let shorter : length c.put_next.new.spawns.items ≡ length (behind d.spawned ss) = sym (length-reverse c.put_next.new.spawns.items) ∙ ap length left in
+    let living = living_with us (deeds_with es (behind d.spawned ss)) in
+    let many : length (living_with (reverse c.loop-deed.tasks.items) (deeds_with (reverse c.loop-deed.each.items) ss)) ≡ length ((kept d.synced u ++ take d.spawned ss) ++ living) =
+    (λ i. length (living_with (tasks i) (deeds_with (each i) ss))) in
+    let split = length-append (kept d.synced u ++ take d.spawned ss) living in
+    let parts = length-append (kept d.synced u) (take d.spawned ss) in
+    let fewer : length (living_with us (deeds_with es (reverse c.put_next.new.spawns.items))) ≡ length living = (λ i. length (living_with us (deeds_with es (left i)))) in
+    let along : IsAlong q end c.loop-deed.living.items (reverse c.loop-deed.waiting.items) (u ∷ us) (deeds_with (d ∷ es) ss) =
+    subst (λ (xs : List g.row.T.Denot). IsAlong q end c.loop-deed.living.items (reverse c.loop-deed.waiting.items) xs (deeds_with (d ∷ es) ss)) tasks
+    (subst (λ xs. IsAlong q end c.loop-deed.living.items (reverse c.loop-deed.waiting.items) (reverse c.loop-deed.tasks.items) (deeds_with xs ss)) each v.along) in
+    record {
+      same = omega (arith, v.same, c.in-Some-pop.ensures.cases, c.in-Some.ensures.cases);
+      all = omega (arith, total, rest, long, shorter);
+      along =
+          subst (λ (xs : List g.row.T.Denot). IsAlong q end c.put_next.new.living.items (reverse c.put_next.new.waiting.items) us (deeds_with es xs)) (sym left)
+          (goes_along q end c.loop-deed.living.items (reverse c.loop-deed.waiting.items) us c.put_next.new.living.items (reverse c.put_next.new.waiting.items) u
+          (record { synced = d.synced; puts = d.puts; spawns = take d.spawned ss }) (deeds_with es (behind d.spawned ss)) along
+          (subst (λ (xs : List g.row.T.Denot). HasPut q u d.synced (reverse xs) (take d.spawned ss) c.loop-deed.living.items c.put_next.new.living.items (reverse c.loop-deed.waiting.items) (reverse c.put_next.new.waiting.items))
+          c.deref.ensures.value c.put_next.ensures.put));
+      room = omega (arith, v.room, many, split, parts, taken, fewer, c.put_next.ensures.count, c.put_next.ensures.room.0);
+      wait = omega (arith, v.wait, c.put_next.ensures.wait, c.put_next.ensures.room.1, rest, long, shorter);
+    }
+
+pub returns-clause-living : goal.returns-clause-living
+returns-clause-living g c =
+    let q = g.T.OnPath.path_of in
+    let v = c.loop-deed.invariant in
+    let end = in_path_order q (living_with (reverse c.args.tasks.now.items) (deeds_with (reverse c.args.each.now.items) (reverse c.args.spawns.now.items))) in
+    let ds = deeds_with (reverse c.loop-deed.each.items) (reverse c.loop-deed.spawns.items) in
+    let none = reverse_none c.loop-deed.tasks.items (omega (arith, v.same, c.in_default.ensures.cases)) in
+    c.move_all.ensures.moved
+    ∙ ends_along q end c.loop-deed.living.items (reverse c.loop-deed.waiting.items) ds
+    (subst (λ (xs : List g.row.T.Denot). IsAlong q end c.loop-deed.living.items (reverse c.loop-deed.waiting.items) xs ds) none v.along)

@@ -1,0 +1,54 @@
+-- How the tasks that live on are put in path order (own).
+use Rattle.std.specs.Prelude.{◌≡◌, ℕ, Bool, true, false, List, [], ◌∷◌, ◌++◌, map, length}
+use Rattle.std.specs.List.{AllByRecursion}
+use Rattle.superstep_memory.specs.Paths.{path_lt}
+use Rattle.programs.specs.Meaning.{children}
+use Rattle.programs.specs.DeedValue.{DeedValue}
+use Rattle.programs.specs.InPlace.{kept}
+
+module _ {S : Type 0} where
+  -- each task's spawned ones are numbered on, from some number
+  abbrev pub AreNumbered : (S → List ℕ) → List S → List (DeedValue S) → Type 0
+  AreNumbered q [] ds = Unit {0}
+  AreNumbered q (t ∷ ts) [] = Unit {0}
+  AreNumbered q (t ∷ ts) (d ∷ ds) = ((begun : ℕ) × (map q d.spawns ≡ children (q t) begun (length d.spawns))) × AreNumbered q ts ds
+
+  -- the first comes after this path, if there is one
+  abbrev pub IsNextAfter : (S → List ℕ) → List ℕ → List S → Type 0
+  IsNextAfter q p [] = Unit {0}
+  IsNextAfter q p (v ∷ vs) = path_lt p (q v) ≡ true
+
+  -- the first of those that wait were moved to the end of others; none of them comes after this path
+  pub record HasMoved (q : S → List ℕ) (p : List ℕ) (before after waited waits : List S) : Type 0 where
+    pub front : List S
+    pub moved : after ≡ before ++ front
+    pub cut : waited ≡ front ++ waits
+    pub passed : AllByRecursion (λ w. path_lt p (q w) ≡ false) front
+
+  -- this one comes before the first of these tasks, if there is one
+  abbrev pub IsBeforeNext : (S → List ℕ) → List S → S → Type 0
+  IsBeforeNext q [] c = Unit {0}
+  IsBeforeNext q (t ∷ ts) c = path_lt (q c) (q t) ≡ true
+
+  -- the first of the spawned tasks, so many, were moved to the end of others; they come before the next task
+  pub record HasMovedEarly (q : S → List ℕ) (next before after spawned rest : List S) (count : ℕ) : Type 0 where
+    pub now : List S
+    pub moved : after ≡ before ++ now
+    pub cut : spawned ≡ now ++ rest
+    pub many : length now ≡ count
+    pub early : AllByRecursion (IsBeforeNext q next) now
+
+  -- A task was put in its place, if it goes on: after those that waited and don't come after it. Of the tasks that it spawned the
+  -- first follow at once, which come before the next task. The others wait in front of those that waited.
+  pub record HasPut (q : S → List ℕ) (task : S) (synced : Bool) (next spawned before after waited waits : List S) : Type 0 where
+    pub front : List S
+    pub back : List S
+    pub now : List S
+    pub later : List S
+    pub cut : waited ≡ front ++ back
+    pub passed : AllByRecursion (λ w. path_lt (q task) (q w) ≡ false) front
+    pub rest : IsNextAfter q (q task) back
+    pub all : spawned ≡ now ++ later
+    pub early : AllByRecursion (IsBeforeNext q next) now
+    pub put : after ≡ ((before ++ front) ++ kept synced task) ++ now
+    pub wait : waits ≡ later ++ back
