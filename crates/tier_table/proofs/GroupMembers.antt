@@ -1,12 +1,10 @@
 -- Registrations and departures of groups that are repeated.
-use Rattle.std.proofs.Common.{◌≡◌, ℕ, zero, suc, ◌+◌, ◌-◌, ◌<◌, length, refl, sym, ◌∙◌, ap, subst, arith, ◌⊎◌, inl, inr, ⊎_elim}
+use Rattle.std.proofs.Common.{◌≡◌, ℕ, zero, suc, ◌-◌, ◌<◌, refl, sym, ◌∙◌, subst, arith, inl, inr, ⊎_elim}
 use Rattle.tier_calls.specs.Holding.{Named, Holding, split_once}
-use Rattle.tier_calls.specs.Arrives.{IsLooked}
 use Rattle.tier_calls.specs.Joins.{IsJoined}
 use Rattle.tier_calls.specs.Groups.{GroupHeld}
 use Rattle.tier_calls.specs.Splits.{alone}
 use Rattle.tier_calls.specs.ArrivesWith.{OnlyTried}
-use Rattle.tier_calls.specs.RegistersAll.{AreRegistered}
 use Rattle.tier_calls.proofs.Registering.{IsFirst, first_joined, first_looked, first_still, all_registered}
 use Rattle.tier_table.specs.declared.waiting.RegisteredAtLast.TheVariants as admitted
 use Rattle.tier_table.specs.declared.group_members.GroupJoined.{GroupJoined}

@@ -1,9 +1,8 @@
 -- Answers of calls on groups that are repeated.
-use Rattle.std.proofs.Common.{◌≡◌, ℕ, ◌+◌, ◌<◌, ◌≤◌, Option, Some, None, List, [], ◌∷◌, length, refl, sym, ◌∙◌, ap, subst, arith, ◌⊎◌, inl, inr, ⊎_elim, Bool}
+use Rattle.std.proofs.Common.{◌≡◌, ℕ, ◌+◌, ◌<◌, Option, Some, None, List, length, refl, sym, ◌∙◌, ap, subst, arith, ◌⊎◌, inl, inr, ⊎_elim, Bool}
 use Rattle.std.specs.Prelude.{IfSome}
 use Rattle.tier_steps.specs.declared.view.View.{View}
 use Rattle.tier_steps.specs.declared.kind.Kind.{Kind}
-use Rattle.tier_steps.specs.declared.kind.Kind.TheVariants.{Look}
 use Rattle.phaser_word.specs.Phase.{next_phase_of}
 use Rattle.tier_calls.specs.Holding.{Holding}
 use Rattle.tier_calls.specs.Made.{MadeOnly, HasLooked, is_quiet}

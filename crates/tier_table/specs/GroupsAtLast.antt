@@ -1,6 +1,5 @@
 -- What calls that wait answer to a group of tokens: as the calls that they repeat (not part of Java's API).
-use Rattle.std.specs.Prelude.{◌≡◌, ◌≢◌, ℕ, ◌⊎◌, Bool, false, Option, Some, None}
-use Rattle.tier_steps.specs.declared.view.View.{View}
+use Rattle.std.specs.Prelude.{◌≡◌, ◌≢◌, ℕ, ◌⊎◌, Bool, false, Option}
 use Rattle.tier_calls.specs.Holding.{Holding}
 use Rattle.tier_calls.specs.Passes.{IsSame}
 use Rattle.tier_calls.specs.Arrives.{IsLooked}

@@ -2,14 +2,15 @@
 //!
 //! * [`tree`]: the tree, and its calls that never wait.
 //! * [`waiting`]: its calls that wait, and the same as functions over the tiers and the rule.
-//! * [`beginning`]: a new tree with members at its leaves.
+//! * [`groups`]: groups of tokens, whose members arrive together, by one exchange of a word.
+//! * [`group_members`]: how groups register, grow and leave.
+//! * [`beginning`]: a new tree with a group at each of its leaves.
+//! * [`closing`]: what is left of a tree that was closed.
 //! * [`tokens`]: who calls: doors, without members, and crews, with members.
-//! * [`arriving`], [`in_place`], [`joining`], [`polling`], [`forcing`], [`closing`]: the answers.
+//! * [`arriving`], [`in_place`], [`joining`], [`polling`], [`forcing`]: the answers of calls by one token;
+//!   [`arriving_with`], [`finishing`]: those of calls by a group.
+//! * [`TRIES`]: how many tries are always enough for a call that no other thread disturbs.
 //!
-//! # Where things are
-//!
-//! * `tree.rt`: the tree; `waiting.rt`: its calls that wait.
-//! * `proofs/Lasting.antt`: answers that last.
 #![tactic(auto)]
 
 pub mod beginning;

@@ -149,6 +149,7 @@ pub fn register_wait<R: Wait>(
 }
 
 // Resumes an arrival or a departure that was counted, until it is over.
+#[inline(always)]
 pub(crate) fn resume_wait<R: Wait, F: Fn(u32, u32) -> bool>(
     tiers: &Tiers,
     rt: &R,

@@ -106,11 +106,11 @@ fn a_tree_begins_with_groups(rt: HostRuntime) {
     }
 }
 
-// Whether a tree has no room for these members, at this leaf with its one party, the first of them.
+// Whether a tree has no room for these members, at this leaf first.
 fn is_full_at<R: Wait + Abort>(rt: &R, alloc: Global, counts: &[u32; 4], leaf: u16) -> bool {
     let rule = StoredAdvance::new(is_empty as Rule, WHEN_EMPTY);
     match begun(rt, alloc, rule, counts) {
-        Err(Unregistered::Full { tier, parties }) => tier == leaf && parties == 1,
+        Err(Unregistered::Full { tier, members }) => tier == leaf && members > 65535,
         _ => false,
     }
 }

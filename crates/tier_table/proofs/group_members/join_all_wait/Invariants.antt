@@ -1,4 +1,3 @@
-use Rattle.std.proofs.Common.{◌≡◌}
 use Rattle.tier_calls.specs.ArrivesWith.{OnlySplit}
 use Rattle.tier_table.specs.GroupsAtLast.{IsBefore}
 use Rattle.tier_table.proofs.group_members.join_all_wait.Given as goal

@@ -1,4 +1,4 @@
-use Rattle.std.proofs.Common.{◌≡◌, ℕ, ◌<◌, ◌∙◌, refl, sym, inl, inr, subst, arith}
+use Rattle.std.proofs.Common.{◌∙◌, refl, inl, inr, arith}
 use Rattle.std.proofs.lemmas.Bool.{false≢true}
 use Rattle.tier_table.proofs.GroupsLasting.{before_more, before_tree, all_before, all_tree}
 use Rattle.tier_table.proofs.groups.arrive_all_wait.Goals as goal

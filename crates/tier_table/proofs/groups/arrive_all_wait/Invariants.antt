@@ -1,4 +1,3 @@
-use Rattle.std.proofs.Common.{◌≡◌}
 use Rattle.tier_table.specs.GroupsAtLast.{IsBefore}
 use Rattle.tier_table.proofs.groups.arrive_all_wait.Given as goal
 

@@ -1,4 +1,4 @@
-use Rattle.std.proofs.Common.{◌∙◌, refl, sym, inl, inr}
+use Rattle.std.proofs.Common.{refl, inl, inr}
 use Rattle.tier_table.proofs.GroupsLasting.{kept_looked}
 use Rattle.tier_table.proofs.groups.arrive_with_once.Goals as goal
 

@@ -1,4 +1,4 @@
-use Rattle.std.proofs.Common.{◌≡◌, ℕ, ◌<◌, ◌∙◌, refl, sym, inl, inr, subst, arith, length}
+use Rattle.std.proofs.Common.{◌∙◌, refl, inl, inr, arith}
 use Rattle.std.proofs.lemmas.Bool.{false≢true}
 use Rattle.tier_table.proofs.GroupsLasting.{before_more, before_tree, before_long, with_before, with_tree, split_first, split_then}
 use Rattle.tier_table.proofs.groups.arrive_with_wait.Goals as goal

@@ -1,4 +1,3 @@
-use Rattle.std.proofs.Common.{◌≡◌}
 use Rattle.tier_table.specs.GroupsAtLast.{HaveWaited}
 use Rattle.tier_table.proofs.groups.await_advance_all.Given as goal
 

@@ -1,4 +1,4 @@
-use Rattle.std.proofs.Common.{◌≡◌, ◌≢◌, ℕ, refl, ap, sym, ◌∙◌, inl}
+use Rattle.std.proofs.Common.{◌≢◌, refl, ap, ◌∙◌, inl}
 use Rattle.tier_calls.proofs.Waits.{waited_for}
 use Rattle.tier_table.specs.declared.waiting.AwaitedAdvance.TheVariants as awaited
 use Rattle.tier_table.specs.declared.groups.GroupArrived.TheVariants as group_arrived
