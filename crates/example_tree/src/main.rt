@@ -2,7 +2,7 @@
 //! Then each of four threads takes part for a thousand members, which come and go for a thousand phases.
 #![tactic(auto)]
 
-use phasers::parties::{JoinedParties, Parties, PartiesArrived};
+use phasers::parties::{Parties, PartiesArrived};
 use phasers::tree::{AwaitedAdvance, Brought, EndPlan, Joined, Party, PhaserTree};
 use std::sync::Wait;
 use std::thread;
@@ -72,18 +72,13 @@ fn main(rt: HostRuntime) -> anyhow::Result<()> {
 
     // Each thread ends with 1000 + 2000 - 999 members: in a thousand phases, 2000 join and 999 leave.
     let mut tree = PhaserTree::from_widths(rt.alloc(), "2x2", EndPlan::when_empty())?;
-    let mut guest = tree.guest();
-    let mut thousands = Vec::new(rt.alloc());
-    for number in 0..4 {
-        if let JoinedParties::Joined(parties, _) = guest.split().join_all(&rt, number, 1000) {
-            thousands.push(parties)?;
-        }
+    if let Ok((_guest, thousands)) = tree.with_parties(rt.alloc(), &rt, &[1000; 4]) {
+        let left = thread::map_vec(
+            &rt,
+            thousands,
+            &|parties: Parties<'_>| stands_for(&rt, parties),
+        )?;
+        println!(rt; "{left:?}")?;
     }
-    let left = thread::map_vec(
-        &rt,
-        thousands,
-        &|parties: Parties<'_>| stands_for(&rt, parties),
-    )?;
-    println!(rt; "{left:?}")?;
     Ok(())
 }

@@ -13,9 +13,10 @@
 //!   member at the leaf of a number, `register` several at a tier; `force` ends the tree.
 //! * [`Party`](tree::Party): a token with members, all at one tier. `meet` arrives and waits; `arrive` and `await_advance`
 //!   are its two halves; `poll` and `try_meet` don't wait. `bring` registers more members, `leave` takes one away.
-//! * [`Parties`](parties::Parties): members that arrive together, for a thread that takes part for many. `Guest::join_all`
-//!   registers them; `meet_all` arrives with all of them and waits, `arrive_with` also lets new members join
-//!   and old ones leave, `leave_all` lets all leave. Each takes one exchange of a word, however many members they are.
+//! * [`Parties`](parties::Parties): members that arrive together, for a thread that takes part for many.
+//!   `PhaserTree::with_parties` registers some at each leaf of a new tree, `Guest::join_all` at one leaf. `meet_all` arrives
+//!   with all of them and waits, `arrive_with` also lets new members join and old ones leave, `leave_all` and `leave_some`
+//!   let members leave. Each takes one exchange of a word, however many members they are.
 //! * [`OnAdvance`](tree::OnAdvance): a hook of your own, which `PhaserTree::with_hook` runs at each advance.
 //!
 //! `PhaserTree::close` returns the words of the tiers at the end, when all tokens are gone.
@@ -25,7 +26,7 @@
 //! and go for a thousand phases:
 //!
 //! ```
-//! use phasers::parties::{JoinedParties, Parties, PartiesArrived};
+//! use phasers::parties::{Parties, PartiesArrived};
 //! use phasers::tree::{AwaitedAdvance, Brought, EndPlan, Joined, Party, PhaserTree};
 //! use std::sync::Wait;
 //! use std::thread;
@@ -95,19 +96,14 @@
 //!
 //!     // Each thread ends with 1000 + 2000 - 999 members: in a thousand phases, 2000 join and 999 leave.
 //!     let mut tree = PhaserTree::from_widths(rt.alloc(), "2x2", EndPlan::when_empty())?;
-//!     let mut guest = tree.guest();
-//!     let mut thousands = Vec::new(rt.alloc());
-//!     for number in 0..4 {
-//!         if let JoinedParties::Joined(parties, _) = guest.split().join_all(&rt, number, 1000) {
-//!             thousands.push(parties)?;
-//!         }
+//!     if let Ok((_guest, thousands)) = tree.with_parties(rt.alloc(), &rt, &[1000; 4]) {
+//!         let left = thread::map_vec(
+//!             &rt,
+//!             thousands,
+//!             &|parties: Parties<'_>| stands_for(&rt, parties),
+//!         )?;
+//!         println!(rt; "{left:?}")?;
 //!     }
-//!     let left = thread::map_vec(
-//!         &rt,
-//!         thousands,
-//!         &|parties: Parties<'_>| stands_for(&rt, parties),
-//!     )?;
-//!     println!(rt; "{left:?}")?;
 //!     Ok(())
 //! }
 //! ```

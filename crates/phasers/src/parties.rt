@@ -1,21 +1,26 @@
 //! Members of a tree that arrive together. One exchange of a word counts all of them, however many they are.
 
-ghost use Rattle.std.specs.Prelude.{◌≡◌, ◌<◌, ◌≤◌, ◌+◌, ◌-◌, length};
+ghost use Rattle.std.specs.Prelude.{◌≡◌, ◌<◌, ◌≤◌, ◌+◌, ◌-◌, [], All, IfErr, IfOk, length};
+ghost use Rattle.std.specs.Vec.{vec_capacity};
 ghost use Rattle.tier_calls.specs.ArrivesAll.{PollsAll};
+ghost use Rattle.tier_calls.specs.ArrivesWith.{OnlySplit};
 ghost use Rattle.tier_calls.specs.Splits.{SplitAt};
 ghost use Rattle.tier_calls.specs.Waited.{PollAllWaited};
 ghost use Rattle.tier_table.specs.GroupsAtLast.{ArrivesAllAtLast, ArrivesWithAtLast, AwaitsAll, MeetsAll, tokens_arrived};
-ghost use Rattle.tier_table.specs.GroupMembersAtLast.{JoinsAllAtLast, LeavesAllAtLast, RegistersAllAtLast};
+ghost use Rattle.tier_table.specs.Beginning.{AreAtLeaves, HaveRoom};
+ghost use Rattle.tier_table.specs.GroupMembersAtLast.{JoinsAllAtLast, LeavesAllAtLast, RegistersAllAtLast, tree_registered};
 ghost use Rattle.tier_shape.specs.Leaves.{leaves_of};
 ghost use Rattle.tier_shape.specs.Preferred.{leaf_at};
-ghost use Rattle.phasers.specs.Together.{group_arrived, group_joined, group_left, group_registered};
+ghost use Rattle.phasers.specs.Together.{BeginsIn, BeginsNotIn, JoinsNot, LeavesSome, group_arrived, group_joined, group_left, group_registered};
 
 use crate::shared::SharedTree;
-use crate::tree::{Guest, NoHook, OnAdvance, Polled};
+use crate::tree::{Guest, NoHook, OnAdvance, PhaserTree, Polled};
+use std::alloc::{AllocError, Global};
 use std::marker::Model;
 use std::sync::Wait;
 use tier_calls::tokens::Door;
 use tier_table::TRIES;
+use tier_table::beginning::{Unregistered, register_leaves};
 use tier_table::group_members::{
     GroupJoined, GroupLeft, GroupRegistered, join_all_wait, register_all_wait,
 };
@@ -75,6 +80,37 @@ pub enum JoinedParties<'a, A: OnAdvance = NoHook> {
     Ended(Guest<'a, A>, i32),
     /// The same, but the tree ended after the first member had joined.
     PartlyEnded(Parties<'a, A>, i32),
+}
+
+/// Why members have not joined at all leaves: [`PhaserTree::with_parties`](crate::tree::PhaserTree::with_parties).
+#[derive(Drop)]
+pub enum Unjoined<'a, A: OnAdvance = NoHook> {
+    /// Out of memory. Nobody has joined. Try again once there is memory.
+    Memory(AllocError),
+    /// The leaf `tier` is the first that was to have more members than 65535, the most that a tier has room for. Nobody has
+    /// joined. Make a tree with more leaves, or have fewer members at this one.
+    Full {
+        /// The leaf.
+        tier: u16,
+        /// How many members it was to have.
+        members: u32,
+    },
+    /// There are more counts than leaves. Nobody has joined.
+    NoLeaf {
+        /// The number of leaves.
+        leaves: usize,
+    },
+    /// Others use the tree too, and the members of the leaf `tier` have not joined in the phase. Those of the leaves before
+    /// it have. Go on with them, or let them leave: as long as they are unarrived, no phase can pass.
+    Stopped {
+        /// The members of the leaves before it.
+        parties: Vec<Parties<'a, A>>,
+        /// The leaf.
+        tier: u16,
+        /// What it answered: there was no room beside the members of others, the tree has ended, or the members have joined
+        /// in another phase.
+        answer: JoinedParties<'a, A>,
+    },
 }
 
 /// The answer of an arrival of all members.
@@ -141,23 +177,8 @@ impl<'a, A: OnAdvance> Guest<'a, A> {
             door: mut first,
         } = self;
         let door = shared.tiers.open_door(&mut first);
-        match register_all_wait(&shared.tiers, rt, first, tier, members) {
-            GroupRegistered::Joined(group, phase) => {
-                JoinedParties::Joined(Parties::of(shared, group, door), phase)
-            }
-            GroupRegistered::Partly(group, count) => {
-                JoinedParties::Partly(Parties::of(shared, group, door), count)
-            }
-            GroupRegistered::PartlyEnded(group, shown) => {
-                JoinedParties::PartlyEnded(Parties::of(shared, group, door), shown)
-            }
-            GroupRegistered::Full(door, count) => {
-                JoinedParties::Full(Guest { shared, door }, count)
-            }
-            GroupRegistered::Ended(door, shown) => {
-                JoinedParties::Ended(Guest { shared, door }, shown)
-            }
-        }
+        let answer = register_all_wait(&shared.tiers, rt, first, tier, members);
+        JoinedParties::of(shared, door, answer)
     }
 
     /// Registers `members` members at the leaf of this number, as parties that arrive together. Leaves are numbered from 0;
@@ -170,6 +191,107 @@ impl<'a, A: OnAdvance> Guest<'a, A> {
         let tier = self.shared.leaf(number);
         self.register_all(rt, tier, members)
     }
+
+    /// Registers members at the leaves, as many at each as `counts` has in its place, and returns one [`Parties`] for each
+    /// leaf that has some, in the order of the leaves. All join in this guest's phase, so split a new guest for it, or call
+    /// [`PhaserTree::with_parties`]. A leaf without a count gets none. Waits as [`Guest::join`] does.
+    pub fn join_leaves<R: Wait>(
+        &mut self,
+        alloc: Global,
+        rt: &R,
+        counts: &[u32],
+    ) -> Result<Vec<Parties<'a, A>>, Unjoined<'a, A>>
+        ensures same { OnlySplit self.old self.new }
+        ensures room { IfOk result (λ all. (length counts.now ≤ length (leaves_of self.old.tree.key.shape)) × HaveRoom counts.now) }
+        ensures joined { IfOk result (λ all. AreAtLeaves self.old.tree self.old.view.phase (leaves_of self.old.tree.key.shape) counts.now all.items) }
+        ensures refused { IfErr result (λ fault. JoinsNot TRIES self.old.tree self.old.view.phase counts.now fault) }
+    {
+        let shared = self.shared;
+        let leaves = shared.leaves();
+        if counts.len() > leaves.len() {
+            let leaves = leaves.len();
+            return Err(Unjoined::NoLeaf { leaves });
+        }
+        let phase = self.door.phase();
+        let Ok(parties) = Vec::with_capacity(alloc, counts.len()) else {
+            return Err(Unjoined::Memory(AllocError));
+        };
+        match register_leaves(
+            alloc,
+            &shared.tiers,
+            rt,
+            &mut self.door,
+            phase,
+            leaves,
+            counts,
+        ) {
+            Ok(groups) => Ok(parties_of(shared, &mut self.door, groups, parties)),
+            Err(Unregistered::Memory(fault)) => Err(Unjoined::Memory(fault)),
+            Err(Unregistered::Full { tier, members }) => Err(Unjoined::Full { tier, members }),
+            Err(
+                Unregistered::Stopped {
+                    groups,
+                    tier,
+                    answer,
+                },
+            ) => {
+                let parties = parties_of(shared, &mut self.door, groups, parties);
+                let door = shared.tiers.open_door(&mut self.door);
+                let answer = JoinedParties::of(shared, door, answer);
+                Err(Unjoined::Stopped {
+                    parties,
+                    tier,
+                    answer,
+                })
+            }
+        }
+    }
+}
+
+impl<A: OnAdvance> PhaserTree<A> {
+    /// Registers members at the leaves, as many at each as `counts` has in its place, and returns a new guest and one
+    /// [`Parties`] for each leaf that has some, in the order of the leaves. All are unarrived in the guest's phase, which is
+    /// the tree's. A leaf without a count gets none.
+    ///
+    /// Call it right after the tree is made, and then give each thread its parties: no phase passes before all of them have
+    /// arrived. Only tokens from before the call could make it wait, or return [`Unjoined::Stopped`]; none is left then, as
+    /// each borrows the tree. But no contract says so.
+    pub fn with_parties<R: Wait>(
+        &mut self,
+        alloc: Global,
+        rt: &R,
+        counts: &[u32],
+    ) -> Result<(Guest<'_, A>, Vec<Parties<'_, A>>), Unjoined<'_, A>>
+        ensures joined { IfOk result (λ r. BeginsIn self.old counts.now r.0 r.1.items) }
+        ensures refused { IfErr result (λ fault. BeginsNotIn TRIES self.old counts.now fault) }
+    {
+        let mut guest = self.guest();
+        match guest.join_leaves(alloc, rt, counts) {
+            Ok(parties) => Ok((guest, parties)),
+            Err(fault) => Err(fault),
+        }
+    }
+}
+
+// Appends parties of the groups to `parties`, which is empty and has room for them. Each has a token that is split off `door`.
+fn parties_of<'a, A: OnAdvance>(
+    shared: &'a SharedTree<A>,
+    door: &mut Door,
+    groups: Vec<Group>,
+    mut parties: Vec<Parties<'a, A>>,
+) -> Vec<Parties<'a, A>>
+    requires own { door.old.tree ≡ shared.now }
+    requires groups { All (λ group. group.tree ≡ shared.now) groups.items }
+    requires empty { parties.items ≡ [] }
+    requires room { length groups.items ≤ vec_capacity parties }
+    ensures door { OnlySplit door.old door.new }
+    ensures same { result.items ≡ groups.items }
+{
+    for group in groups {
+        let door = shared.tiers.open_door(door);
+        parties.push_reserved(Parties::of(shared, group, door));
+    }
+    parties
 }
 
 impl<'a, A: OnAdvance> Parties<'a, A> {
@@ -310,6 +432,16 @@ impl<'a, A: OnAdvance> Parties<'a, A> {
         }
     }
 
+    /// Lets `n` of the members leave, by one exchange, and keeps the others, which don't arrive by it. If all members had
+    /// arrived, or the tree has ended, nobody leaves, and the answer has those `n`.
+    pub fn leave_some<R: Wait>(&mut self, rt: &R, n: u32) -> PartiesLeft<'a, A>
+        requires count { (0 < n) × (n < length self.old.tokens) }
+        ensures { LeavesSome TRIES n self.old self.new result }
+    {
+        let stay = self.size() - n;
+        self.split_off(stay).leave_all(rt)
+    }
+
     /// Lets all members leave, as Java's `arriveAndDeregister` by each of them, by one exchange.
     pub fn leave_all<R: Wait>(self, rt: &R) -> PartiesLeft<'a, A>
         ensures { LeavesAllAtLast TRIES self.entry (group_left result) }
@@ -332,6 +464,33 @@ impl<'a, A: OnAdvance> Parties<'a, A> {
                 Parties::of(shared, group, door),
                 shown,
             ),
+        }
+    }
+}
+
+impl<'a, A: OnAdvance> JoinedParties<'a, A> {
+    // Makes the answer for a registration in this tree.
+    fn of(shared: &'a SharedTree<A>, door: Door, answer: GroupRegistered) -> JoinedParties<'a, A>
+        requires door { door.tree ≡ shared.now }
+        requires group { tree_registered answer ≡ shared.now }
+        ensures { group_registered result ≡ answer }
+    {
+        match answer {
+            GroupRegistered::Joined(group, phase) => {
+                JoinedParties::Joined(Parties::of(shared, group, door), phase)
+            }
+            GroupRegistered::Partly(group, count) => {
+                JoinedParties::Partly(Parties::of(shared, group, door), count)
+            }
+            GroupRegistered::PartlyEnded(group, shown) => {
+                JoinedParties::PartlyEnded(Parties::of(shared, group, door), shown)
+            }
+            GroupRegistered::Full(door, count) => {
+                JoinedParties::Full(Guest { shared, door }, count)
+            }
+            GroupRegistered::Ended(door, shown) => {
+                JoinedParties::Ended(Guest { shared, door }, shown)
+            }
         }
     }
 }

@@ -117,6 +117,13 @@ impl<A: OnAdvance> SharedTree<A> {
         leaf_at(&self.leaves, number)
     }
 
+    /// Returns the tiers that are leaves.
+    pub(crate) fn leaves(&self) -> &[u16]
+        ensures { result.now ≡ leaves_of self.now.key.shape }
+    {
+        &self.leaves
+    }
+
     // Runs the hook, and returns true if the tree ends at this advance.
     fn ends(&self, phase: u32, count: u32) -> bool
         ensures { result ≡ end_ends_at self.now.key.plan phase count }

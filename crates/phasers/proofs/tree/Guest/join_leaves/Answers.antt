@@ -1,0 +1,20 @@
+use Rattle.std.proofs.Common.{◌∙◌, ap, sym, arith}
+use Rattle.tier_shape.specs.Leaves.{leaves_of}
+use Rattle.tier_calls.specs.Holding.{Named}
+use Rattle.tier_table.proofs.AtLeaves.{leaves_are_tiers, all_own, stopped_own}
+use Rattle.phasers.proofs.tree.Guest.join_leaves.Goals as goal
+
+pub register_leaves-requires-clause-tiers : goal.register_leaves-requires-clause-tiers
+register_leaves-requires-clause-tiers g c =
+    let told = ap (λ (n : Named). leaves_of n.key.shape) c.shared.view_is in
+    leaves_are_tiers c.shared.inside.tiers.key.shape c.leaves-leaves.result.now (c.leaves-leaves.ensures ∙ sym told)
+
+pub parties_of-requires-clause-groups : goal.parties_of-requires-clause-groups
+parties_of-requires-clause-groups g c = λ k d h.
+    (all_own c.shared.inside.tiers c.phase-phase.result c.leaves-leaves.result.now c.args.counts.now c.in-Ok-register_leaves.groups.items c.in-Ok-register_leaves.ensures.groups).own k d h ∙ c.shared.view_is
+
+pub parties_of-requires-clause-room : goal.parties_of-requires-clause-room
+parties_of-requires-clause-room g c =
+    let few = (all_own c.shared.inside.tiers c.phase-phase.result c.leaves-leaves.result.now c.args.counts.now c.in-Ok-register_leaves.groups.items c.in-Ok-register_leaves.ensures.groups).few in
+    let room = c.in-Ok.ensures.exact in
+    omega (arith, few, room)
