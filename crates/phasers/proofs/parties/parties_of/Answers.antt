@@ -13,7 +13,7 @@ loop-group-preserved g c =
     let step = c.in-Some.ensures.steps.0 in (
       tt,
       tt,
-      split_then kept.2 (once c.open_door-door.ensures.same),
+      split_then kept.2 (once c.open_door-door.ensures.counted),
       moved c.loop-group.parties.items c.push_reserved.new.self.items rest others c.args.groups.items c.in-Some.group step
           (c.push_reserved.ensures.items ∙ ap (λ z. c.loop-group.parties.items ++ (z ∷ [])) c.of.ensures) kept.3,
       all_later (λ group. group.tree ≡ c.args.shared.now) c.in-Some.group rest others step kept.4,
