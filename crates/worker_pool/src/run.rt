@@ -50,6 +50,7 @@ const MOST_STARTS: usize = 65536;
 // How often a worker looks for a ready stretch before it sleeps, or backs off for another worker: some 25
 // microseconds, and much less if there are more workers than processors.
 const MOST_SPINS: u32 = 2000;
+
 const FEW_SPINS: u32 = 100;
 
 // The tree at which workers meet, its first token, and its leaves; and the lists of the passes for stretches, and for workers that
