@@ -1,20 +1,23 @@
 -- What the tasks of each stretch did.
 use Rattle.std.proofs.Common.{◌≡◌, ℕ, zero, suc, ◌+◌, true, false, Result, Ok, Err, List, [], ◌∷◌, ◌++◌, map, length, drop, Option, Some, None, refl, sym, ap, ◌∙◌, subst, arith, append_assoc}
 use Rattle.std.specs.Prelude.{ℤ, ◌==◌, ◌&&◌, OnOk}
-use Rattle.std.proofs.lemmas.List.{map-append}
+use Rattle.std.proofs.lemmas.List.{length-map, map-append}
 use Rattle.superstep_memory.specs.Paths.{is_rising}
 use Rattle.superstep_memory.proofs.PathOrder.{rising_rest}
 use Rattle.programs.specs.Meaning.{Says}
 use Rattle.programs.specs.Reads.{reads}
 use Rattle.programs.specs.DeedValue.{DeedValue}
-use Rattle.programs.specs.Superstep.{or_next}
+use Rattle.programs.specs.Regroup.{AreNumbered}
+use Rattle.programs.specs.Superstep.{State, or_next}
 use Rattle.programs.specs.InPlace.{AllDone, deeds_of, kept, living_with, left_in, spawned_in}
 use Rattle.programs.specs.History.{AreOf, says_in}
-use Rattle.programs.proofs.History.{agrees, entries_rise, rising_front}
+use Rattle.programs.proofs.Course.{deeds_told, fits_in}
+use Rattle.programs.proofs.History.{agrees, all_formed, entries_rise, numbers_in, rising_front, stays_in}
 use Rattle.programs.proofs.InPlace.{all_stay, counted, paths_kept}
 use Rattle.programs.proofs.Reached.{starts_read}
 use Rattle.stretch_parts.specs.PartValue.{PartValue}
-use Rattle.stretch_parts.specs.Parts.{Reading, HasRun, HasDone, IsPartOf, AreOwn, EachDid, fresh_part, covers, fault_in, tasks_in, deeds_in, living_in, without_puts}
+use Rattle.stretch_parts.specs.Parts.{Reading, HasRun, HasDone, IsPartOf, AreOwn, EachDid, fresh_part, covers, fault_in, tasks_in, deeds_in, living_in, without_puts, without_prints}
+use Rattle.stretch_parts.specs.Next.{CanSettle, CanAllSettle}
 use Rattle.program_stretches.specs.Opening.{live_of}
 use Rattle.program_stretches.specs.Did.{DidAll}
 use Rattle.program_stretches.specs.StretchesValue.{StretchesValue, state_with, IsAfter}
@@ -75,12 +78,48 @@ module _ {S T : Type 0} (r : Reading S T) (law : (t : S) → r.frame.path (r.mea
         let d = did_each olds part rise h same none in
         paths_kept (reads d.says r.meant r.path) arrays step olds part.tasks part.deeds d.done
 
+    -- the paths of tasks that ran rise, and those that they spawned are numbered
+    pub record FitsEach (us : List S) (ds : List (DeedValue S)) : Type 0 where
+      pub same : length us ≡ length ds
+      pub rising : is_rising (map r.path us) ≡ true
+      pub numbered : AreNumbered r.path us ds
+
+    pub each_fits : (olds : List S) (part : PartValue S) → is_rising (map r.path olds) ≡ true → HasRun r arrays step olds part → length part.tasks ≡ length olds → part.fault ≡ None
+        → FitsEach part.tasks part.deeds
+    each_fits olds part rise h same none =
+        let d = subst (λ (o : Option (ℕ × List ℕ)). DidAll r arrays step o part.puts olds part.tasks part.deeds part.prints) none (ran_all r arrays step olds part h same) in
+        let are : AreOf r.frame (map r.meant olds) d.entries = record {
+          back = map r.meant d.back;
+          cut = ap (map r.meant) d.cut ∙ map-append r.meant d.done d.back ∙ ap (λ (xs : List T). xs ++ map r.meant d.back) (sym d.tasks);
+          whole = λ e. ap (map r.meant) (d.whole refl);
+        } in
+        let rises = entries_rise r.frame (map r.meant olds) d.entries are (ap is_rising (paths_read olds) ∙ rise) in
+        let most = length olds in
+        let says = says_in r.frame most d.entries in
+        let formed = all_formed r.frame r.may arrays step d.entries d.allowed in
+        let numbers = numbers_in r.frame most d.entries formed in
+        let stays = stays_in r.frame most d.entries formed in
+        let p = reads says r.meant r.path in
+        let st : State T = record { step = step; arrays = arrays; live = map r.meant olds; prints = []; records = []; fault = None } in
+        let done = subst (AllDone p part.tasks part.deeds) (deeds_told p law numbers stays arrays step olds) (d.told says (agrees r.frame most arrays step d.entries rises)).done in
+        let l = length-map olds r.meant in
+        let f = fits_in p law numbers stays st part.tasks part.deeds done (omega (arith, l)) (ap is_rising (paths_read olds) ∙ rise) in
+        record { same = f.same; rising = f.rising; numbered = f.numbered }
+
     module _ (live : List S) (rise : is_rising (map r.path live) ≡ true) where
       -- those of a stretch that has run have their deeds
       pub part_did : (part : PartValue S) → IsPartOf r arrays live step part → part.done ≡ true → part.fault ≡ None → length part.tasks ≡ length part.deeds
       part_did part p done none =
           let t = subst (λ b. HasDone r arrays step b p.olds part) done p.told in
           deeds_each p.olds part.tasks part.deeds (did_each p.olds part (olds_rise live p.olds p.back part.first p.live_from rise) t.0 t.1 none)
+
+      -- and number those that they spawned
+      pub part_settles : (part : PartValue S) → IsPartOf r arrays live step part → part.done ≡ true → part.fault ≡ None → CanSettle r.path part
+      part_settles part p done none =
+          let t = subst (λ b. HasDone r arrays step b p.olds part) done p.told in
+          let rises = olds_rise live p.olds p.back part.first p.live_from rise in
+          let f = each_fits p.olds part rises t.0 t.1 none in
+          record { done = done; same = f.same; rising = f.rising; numbered = f.numbered }
 
       -- if all stay, the same tasks live
       pub part_stays : (part : PartValue S) → IsPartOf r arrays live step part → part.done ≡ true → part.fault ≡ None → left_in part.deeds ≡ 0 → spawned_in part.deeds ≡ 0
@@ -110,6 +149,16 @@ module _ {S T : Type 0} (r : Reading S T) (law : (t : S) → r.frame.path (r.mea
           let b = both (part.first == at) part.done a.0 in
           let n = none_first part.fault (fault_in ss) none in
           (n.0, part_did part own.0 b.1 n.0, each_did end (at + length part.tasks) ss own.1 a.1 n.1)
+
+      -- and all of them can be settled
+      pub each_can : (end at : ℕ) (ss : List (Option (PartValue S))) → AreOwn r arrays live step ss → covers true end at ss ≡ true → fault_in ss ≡ None → CanAllSettle r.path ss
+      each_can end at [] own h none = tt
+      each_can end at (None ∷ ss) own h none = cc
+      each_can end at (Some part ∷ ss) own h none =
+          let a = both ((part.first == at) && part.done) (covers true end (at + length part.tasks) ss) h in
+          let b = both (part.first == at) part.done a.0 in
+          let n = none_first part.fault (fault_in ss) none in
+          (part_settles part own.0 b.1 n.0, each_can end (at + length part.tasks) ss own.1 a.1 n.1)
 
 module _ {Q S T : Type 0} (m : Q → Reading S T) (v : StretchesValue Q S) (law : (t : S) → (m v.program).frame.path ((m v.program).meant t) ≡ (m v.program).path t) where
   -- the paths of live tasks rise
@@ -158,3 +207,35 @@ module _ {S : Type 0} where
 
   pub living_same : (ks ss : List (Option (PartValue S))) → map without_puts ks ≡ map without_puts ss → living_in ks ≡ living_in ss
   living_same ks ss e = sym (living_kept ks) ∙ ap living_in e ∙ living_kept ss
+
+  living_unprinted : (ss : List (Option (PartValue S))) → living_in (map without_prints ss) ≡ living_in ss
+  living_unprinted [] = refl
+  living_unprinted (None ∷ ss) = living_unprinted ss
+  living_unprinted (Some part ∷ ss) = ap (λ (ts : List S). living_with part.tasks part.deeds ++ ts) (living_unprinted ss)
+
+  -- the tasks that live on after stretches whose prints were moved away
+  pub living_left : (ss rs : List (Option (PartValue S))) → rs ≡ map without_prints ss → EachDid ss → living_in rs ≡ living_with (tasks_in ss) (deeds_in ss)
+  living_left ss rs e h = ap living_in e ∙ living_unprinted ss ∙ sym (living_joined ss h)
+
+module _ {S : Type 0} (path : S → List ℕ) where
+  can_kept : (ss : List (Option (PartValue S))) → CanAllSettle path ss → CanAllSettle path (map without_puts ss)
+  can_kept [] h = tt
+  can_kept (None ∷ ss) h = can_kept ss h
+  can_kept (Some part ∷ ss) h = (record { done = h.0.done; same = h.0.same; rising = h.0.rising; numbered = h.0.numbered }, can_kept ss h.1)
+
+  can_before : (ss : List (Option (PartValue S))) → CanAllSettle path (map without_puts ss) → CanAllSettle path ss
+  can_before [] h = tt
+  can_before (None ∷ ss) h = can_before ss h
+  can_before (Some part ∷ ss) h = (record { done = h.0.done; same = h.0.same; rising = h.0.rising; numbered = h.0.numbered }, can_before ss h.1)
+
+  -- it is the same whether puts were moved away, or prints
+  pub can_also : (ks ss : List (Option (PartValue S))) → map without_puts ks ≡ map without_puts ss → CanAllSettle path ss → CanAllSettle path ks
+  can_also ks ss e h = can_before ks (subst (CanAllSettle path) (sym e) (can_kept ss h))
+
+  pub can_unprinted : (ss rs : List (Option (PartValue S))) → rs ≡ map without_prints ss → CanAllSettle path ss → CanAllSettle path rs
+  can_unprinted ss rs e h = subst (CanAllSettle path) (sym e) (of ss h)
+    where
+      of : (qs : List (Option (PartValue S))) → CanAllSettle path qs → CanAllSettle path (map without_prints qs)
+      of [] k = tt
+      of (None ∷ qs) k = of qs k
+      of (Some part ∷ qs) k = (record { done = k.0.done; same = k.0.same; rising = k.0.rising; numbered = k.0.numbered }, of qs k.1)

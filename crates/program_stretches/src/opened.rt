@@ -1,4 +1,5 @@
 //! A superstep as it begins.
+use programs::program::OnPath;
 use std::marker::Model;
 use std::sync::Arc;
 use stretch_parts::part::Part;
@@ -6,7 +7,7 @@ use superstep_memory::arrays::Arrays;
 
 /// A superstep as it begins: the program with its limits, the arrays, and the stretches of the live tasks.
 #[derive(Drop)]
-pub struct Opened<'p, P, T> {
+pub struct Opened<'p, P, T: OnPath> {
     pub(crate) program: &'p P,
     pub(crate) most: u32,
     pub(crate) limit: u32,
@@ -14,7 +15,7 @@ pub struct Opened<'p, P, T> {
     pub(crate) parts: Vec<Option<Part<T>>>,
 }
 
-impl<'p, P, T> Model for Opened<'p, P, T> {
+impl<'p, P, T: OnPath> Model for Opened<'p, P, T> {
     ghost use Rattle.std.specs.Arc.{arc_value};
     ghost use Rattle.program_stretches.specs.Opening.{OpeningValue};
 

@@ -75,6 +75,13 @@ impl<'p, P: Program> Stretch<'p, P> {
         self.part.first_path()
     }
 
+    /// Returns the path of the task at this place in it, or `None` if it has fewer tasks. Fails once the stretch is settled.
+    pub fn path_at(&self, place: usize) -> Result<Option<Path>, AllocError>
+        ensures { IfOk result (λ path. option_map (λ p. p.items) path ≡ slice_get (map P.Task.path_of self.now.part.tasks) place) }
+    {
+        self.part.path_at(place)
+    }
+
     /// Returns true if one of its tasks has faulted.
     pub fn has_faulted(&self) -> bool
         ensures { result ≡ is_some self.now.part.fault }
@@ -91,15 +98,46 @@ impl<'p, P: Program> Stretch<'p, P> {
         self.part.all_stay()
     }
 
-    /// Returns what each of its tasks did to the list of tasks, up to the first fault.
+    /// Returns how many of its tasks have stopped.
+    pub fn left(&self) -> usize
+        ensures { result ≡ left_in self.now.part.deeds }
+    {
+        self.part.left()
+    }
+
+    /// Returns how many tasks its tasks have spawned.
+    pub fn spawned(&self) -> usize
+        ensures { result ≡ spawned_in self.now.part.deeds }
+    {
+        self.part.spawned()
+    }
+
+    /// Makes the next live tasks of those that have run, so that closing the superstep needn't: those that go on and those that
+    /// were spawned, in path order. Does nothing if all of them stay, if one has faulted, or if one made a put that adds, since
+    /// the task of a put that overflows must be found when it lands. After it, `changes` fails.
+    pub fn settle(&mut self) -> Result<(), AllocError>
+        requires { self.old.part.done ≡ true }
+        ensures { self.new ≡ self.old }
+    {
+        if self.part.has_faulted() {
+            return Ok(());
+        }
+        if !self.part.are_sets() {
+            return Ok(());
+        }
+        self.part.settle()
+    }
+
+    /// Returns what each of its tasks did to the list of tasks, up to the first fault. Fails if memory runs out, or once the
+    /// stretch is settled.
     pub fn changes(&self, alloc: Global) -> Result<Vec<Change>, AllocError>
         ensures { IfOk result (λ changes. map change_of changes.items ≡ map (change_in P.Task.path_of) self.now.part.deeds) }
     {
         self.part.changes(alloc)
     }
 
-    /// Gives the stretch up.
-    pub(crate) fn give_up(self) {
+    /// Gives the stretch up. Its tasks are lost.
+    pub fn give_up(self) {
         let Stretch { snapshot, .. } = self;
         snapshot.give_up();
     }

@@ -20,11 +20,12 @@ use std::alloc::{AllocError, Global};
 use std::marker::Model;
 use std::mem;
 use std::sync::Arc;
-use stretch_parts::hand_over::{give_all_tasks, join_adds, print_and_renew};
+use stretch_parts::hand_over::{give_all_prints, give_all_tasks, join_adds, print_and_renew};
 use stretch_parts::landing::land_shared;
-use stretch_parts::moving::{append_reserved, gather, make_room, room_for};
+use stretch_parts::moving::make_room;
+use stretch_parts::next::next_parts;
 use stretch_parts::part::{Part, blame_again};
-use stretch_parts::parts::{count_left, count_spawned, cover, find_fault};
+use stretch_parts::parts::{count_left, count_spawned, cover, find_blame, find_fault};
 use stretch_parts::ready::{Ready, get_ready};
 use superstep_memory::arrays::Arrays;
 use superstep_memory::puts::Puts;
@@ -78,6 +79,7 @@ impl<'t, 'p, P: Program> Stretches<'t, 'p, P> {
     ghost use Rattle.programs.specs.InPlace.{told_in, left_in, spawned_in};
     ghost use Rattle.std.specs.List.{list_all};
     ghost use Rattle.superstep_memory.specs.Landing.{is_set};
+    ghost use Rattle.stretch_parts.specs.Next.{CanAllSettle};
     ghost use Rattle.stretch_parts.specs.Parts.{reading_of, AreFresh, EachDid, covers, tasks_in, puts_in, deeds_in, prints_in};
     ghost use Rattle.program_stretches.specs.StretchesValue.{status_in, left_after, can_leave, can_stop, ready_at, tasks_at, with_slot, IsAfter, IsCourse, HaveRun, OverflowsAt};
     ghost use Rattle.program_stretches.specs.Closing.{IsBegun, IsTaken, Refuses, Accepts, IsSameRun, NotClosed, IsClosed, EndsBy, IsLeftAs, HasLeft, HasLeftTo, IsGiven, IsReopened, AllStay, Logs, opened_with};
@@ -313,30 +315,31 @@ impl<'t, 'p, P: Program> Stretches<'t, 'p, P> {
         self.fault = Some(blame);
     }
 
-    // Ends the run by the put at this place of all puts, which overflows.
+    // Ends the run by the put at this place of all puts, which overflows. Fails if the stretch of its task is settled: then its puts
+    // don't add, and none of them overflows.
     fn overflow(
         &mut self,
-        tasks: &[P::Task],
-        deeds: &Deeds<P::Task>,
-        prints: &[Print],
+        parts: &[Option<Part<P::Task>>],
         place: usize,
-    ) -> Outcome
+    ) -> Result<Outcome, AllocError>
         requires none { self.old.parts ≡ [] }
         requires running { status_in self.old ≡ None }
-        requires run { OverflowsAt (reading_of P.frame P.may P.meant P.Task.path_of) self.old tasks.now deeds.now prints.now place }
-        requires few { length deeds.now + spawned_in deeds.now ≤ self.old.most + left_in deeds.now }
-        ensures closed { IsClosed (reading_of P.frame P.may P.meant P.Task.path_of) self.old self.new result }
-        ensures over { result ≡ Outcome.Overflowed }
+        requires run { OverflowsAt (reading_of P.frame P.may P.meant P.Task.path_of) self.old (tasks_in parts.now) (deeds_in parts.now) (prints_in parts.now) place }
+        requires few { length (deeds_in parts.now) + spawned_in (deeds_in parts.now) ≤ self.old.most + left_in (deeds_in parts.now) }
+        requires each { EachDid parts.now }
+        ensures closed { IfOk result (λ outcome. IsClosed (reading_of P.frame P.may P.meant P.Task.path_of) self.old self.new outcome) }
+        ensures over { IfOk result (λ outcome. outcome ≡ Outcome.Overflowed) }
+        ensures same { IsSameRun self.old self.new }
         ensures log { self.new.log ≡ self.old.log }
         ensures none { self.new.parts ≡ [] }
         ensures given { self.new.given ≡ self.old.given }
     {
-        match deeds.blame_at(tasks, place) {
+        match find_blame(parts, place) {
             Some(blame) => {
                 self.end(blame);
-                Outcome::Overflowed
+                Ok(Outcome::Overflowed)
             }
-            None => unreachable!(),
+            None => Err(AllocError),
         }
     }
 
@@ -390,10 +393,7 @@ impl<'t, 'p, P: Program> Stretches<'t, 'p, P> {
     {
         make_room(&parts, &mut self.prints, &mut self.records)?;
         match land_shared(alloc, &mut self.arrays, puts, &parts, &mut self.olds)? {
-            Some(place) => {
-                let all = gather(alloc, &mut parts)?;
-                Ok(self.overflow(&all.tasks, &all.deeds, &all.prints, place))
-            }
+            Some(place) => self.overflow(&parts, place),
             None => {
                 print_and_renew(&mut parts, &mut self.prints);
                 self.records.push_reserved(told);
@@ -420,6 +420,7 @@ impl<'t, 'p, P: Program> Stretches<'t, 'p, P> {
         requires told { told ≡ told_in self.old.step (deeds_in parts.items) }
         requires moves { AllStay parts.items → ⊥ }
         requires each { EachDid parts.items }
+        requires can { CanAllSettle P.Task.path_of parts.items }
         ensures closed { IfOk result (λ outcome. IsClosed (reading_of P.frame P.may P.meant P.Task.path_of) self.old self.new outcome) }
         ensures reopened { IfOk result (λ outcome. IsReopened P.Task.path_of outcome self.old.step parts.items self.new) }
         ensures logs { IfOk result (λ outcome. Logs outcome self.old self.new) }
@@ -430,18 +431,14 @@ impl<'t, 'p, P: Program> Stretches<'t, 'p, P> {
     {
         let count = (told.parties - told.left) as usize;
         make_room(&parts, &mut self.prints, &mut self.records)?;
-        let room = room_for(alloc, count, told.spawned as usize)?;
-        let mut gathered = gather(alloc, &mut parts)?;
         match land_shared(alloc, &mut self.arrays, puts, &parts, &mut self.olds)? {
-            Some(place) => {
-                Ok(self.overflow(&gathered.tasks, &gathered.deeds, &gathered.prints, place))
-            }
+            Some(place) => self.overflow(&parts, place),
             None => {
-                append_reserved(&mut self.prints, &mut gathered.prints);
-                let next = room.cut_next(alloc, gathered, count, self.pieces);
+                give_all_prints(&mut parts, &mut self.prints);
                 self.records.push_reserved(told);
                 self.step += 1;
                 self.count = count;
+                let next = next_parts(alloc, parts, count, self.pieces)?;
                 self.reopen(next)?;
                 Ok(Outcome::Landed)
             }
@@ -461,6 +458,7 @@ impl<'t, 'p, P: Program> Stretches<'t, 'p, P> {
         requires covered { covers true self.old.count 0 parts.items ≡ true }
         requires no_puts { puts.old ≡ [] }
         requires each { EachDid parts.items }
+        requires can { CanAllSettle P.Task.path_of parts.items }
         ensures closed { IfOk result (λ outcome. IsClosed (reading_of P.frame P.may P.meant P.Task.path_of) self.old self.new outcome) }
         ensures reopened { IfOk result (λ outcome. IsReopened P.Task.path_of outcome self.old.step parts.items self.new) }
         ensures logs { IfOk result (λ outcome. Logs outcome self.old self.new) }
@@ -548,8 +546,8 @@ impl<'t, 'p, P: Program> Stretches<'t, 'p, P> {
         cover(&self.parts, false, self.count)
     }
 
-    // Gives the run up.
-    fn give_up(self) {
+    /// Gives the run up. What it has left is lost.
+    pub fn give_up(self) {
         let Stretches { writer, .. } = self;
         writer.give_up();
     }

@@ -2,9 +2,9 @@
 use Rattle.std.proofs.Common.{◌≡◌, ℕ, zero, suc, ◌+◌, ◌-◌, ◌≤◌, List, [], ◌∷◌, ◌++◌, length, Option, Some, None, refl, sym, ap, ◌∙◌, arith}
 use Rattle.std.specs.Prelude.{Bool, true, false, nat_lt, if◌then◌else◌, take}
 use Rattle.programs.specs.DeedValue.{DeedValue}
-use Rattle.programs.specs.InPlace.{one_left, left_in, spawned_in, maker, kept, living_with}
+use Rattle.programs.specs.InPlace.{one_left, left_in, spawned_in, maker, kept, living_with, made_in}
 use Rattle.programs.proofs.InPlace.{living_last}
-use Rattle.programs.specs.DeedsView.{behind, deeds_with, spawned_by, stopped_by, deeds_in, IsInside}
+use Rattle.programs.specs.DeedsView.{behind, deeds_with, spawned_by, stopped_by, made_by, deeds_in, IsInside}
 use Rattle.programs.specs.declared.deeds.Deeds.TheInside.{Inside}
 use Rattle.programs.specs.declared.deeds.Deed.{Deed}
 
@@ -105,6 +105,10 @@ module _ {S : Type 0} where
   pub stopped_told : (ds : List Deed) (ts : List S) → left_in (deeds_with ds ts) ≡ stopped_by ds
   stopped_told [] ts = refl
   stopped_told (d ∷ ds) ts = ap (λ (n : ℕ). one_left d.synced + n) (stopped_told ds (behind d.spawned ts))
+
+  pub made_told : (ds : List Deed) (ts : List S) → made_in (deeds_with ds ts) ≡ made_by ds
+  made_told [] ts = refl
+  made_told (d ∷ ds) ts = ap (λ (n : ℕ). d.puts + n) (made_told ds (behind d.spawned ts))
 
   pub spawned_told : (ds : List Deed) (ts : List S) → spawned_by ds ≡ length ts → spawned_in (deeds_with ds ts) ≡ length ts
   spawned_told [] ts h = h

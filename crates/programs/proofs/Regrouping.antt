@@ -1,5 +1,5 @@
 -- Tasks that live on, put in path order from the first to the last: spawned ones wait until no task in front of them is left.
-use Rattle.std.proofs.Common.{◌≡◌, ℕ, zero, suc, ◌<◌, ◌≤◌, Bool, true, false, List, [], ◌∷◌, ◌++◌, length, map, refl, sym, ap, subst, ◌∙◌, append_assoc, append-nil, arith}
+use Rattle.std.proofs.Common.{◌≡◌, ℕ, zero, suc, ◌<◌, ◌≤◌, Bool, true, false, List, [], ◌∷◌, ◌++◌, length, map, Option, Some, None, refl, sym, ap, subst, ◌∙◌, append_assoc, append-nil, arith}
 use Rattle.std.specs.Prelude.{if◌then◌else◌, nat_lt, cond, ◌==◌, ◌-◌, take}
 use Rattle.std.specs.List.{AllByRecursion}
 use Rattle.std.specs.Ordering.{nat_cmp, ordering_then, ordering_reverse}
@@ -14,13 +14,13 @@ use Rattle.superstep_memory.proofs.Merged.{put_all_append}
 use Rattle.programs.specs.Meaning.{children}
 use Rattle.programs.specs.DeedValue.{DeedValue}
 use Rattle.programs.specs.InPlace.{kept, living_with}
-use Rattle.programs.specs.Regroup.{AreNumbered, IsNextAfter, IsBeforeNext, HasMoved, HasMovedEarly, HasPut}
+use Rattle.programs.specs.Regroup.{AreNumbered, IsInOrder, IsNextAfter, IsBefore, IsWithin, AreWithin, AreStrays, IsNextOutside, IsBeforeNext, HasMoved, HasMovedWithin, HasMovedEarly, HasPut}
 use Rattle.programs.specs.DeedsView.{behind as behind_these}
 
 -- ---- paths
 
 -- what doesn't come before one doesn't come before what that doesn't come before
-not_lt : (p q r : List ℕ) → path_lt p q ≡ false → path_lt q r ≡ false → path_lt p r ≡ false
+pub not_lt : (p q r : List ℕ) → path_lt p q ≡ false → path_lt q r ≡ false → path_lt p r ≡ false
 not_lt p q r h k = by (path_lt p r) refl
   where
     never : path_lt p r ≡ true → (c : Bool) → path_lt r q ≡ c → ⊥
@@ -40,7 +40,7 @@ same_number : (n : ℕ) → nat_cmp n n ≡ Equal
 same_number n = turned (nat_cmp n n) (nat_cmp_total.antisymm n n)
 
 -- no path comes before itself
-lt_self : (p : List ℕ) → path_lt p p ≡ false
+pub lt_self : (p : List ℕ) → path_lt p p ≡ false
 lt_self [] = refl
 lt_self (n ∷ p) = ap (λ o. is_less (ordering_then o (slice_cmp nat_cmp p p))) (same_number n) ∙ lt_self p
 
@@ -86,17 +86,16 @@ between (b ∷ q) (a ∷ p) n k h l =
 
 module _ {A : Type 0} (path : A → List ℕ) where
   -- none of them comes before this path
-  abbrev NoneBefore : List ℕ → List A → Type 0
+  abbrev pub NoneBefore : List ℕ → List A → Type 0
   NoneBefore p xs = AllByRecursion (λ x. path_lt (path x) p ≡ false) xs
 
   -- all of them come after this path
-  abbrev AllAfter : List ℕ → List A → Type 0
+  abbrev pub AllAfter : List ℕ → List A → Type 0
   AllAfter p xs = AllByRecursion (λ x. path_lt p (path x) ≡ true) xs
 
   -- each comes after none of those behind it
-  abbrev pub Sorted : List A → Type 0
-  Sorted [] = Unit {0}
-  Sorted (x ∷ xs) = NoneBefore (path x) xs × Sorted xs
+  abbrev Sorted : List A → Type 0
+  Sorted xs = IsInOrder path xs
 
   before : (x y : A) (ys : List A) → path_lt (path y) (path x) ≡ true → put_in path x (y ∷ ys) ≡ y ∷ put_in path x ys
   before x y ys e = ap (λ c. if c then y ∷ put_in path x ys else x ∷ y ∷ ys) e
@@ -104,11 +103,11 @@ module _ {A : Type 0} (path : A → List ℕ) where
   behind : (x y : A) (ys : List A) → path_lt (path y) (path x) ≡ false → put_in path x (y ∷ ys) ≡ x ∷ y ∷ ys
   behind x y ys e = ap (λ c. if c then y ∷ put_in path x ys else x ∷ y ∷ ys) e
 
-  none_after : (p : List ℕ) (xs : List A) → AllAfter p xs → NoneBefore p xs
+  pub none_after : (p : List ℕ) (xs : List A) → AllAfter p xs → NoneBefore p xs
   none_after p [] h = tt
   none_after p (x ∷ xs) h = (lt_asym p (path x) h.0, none_after p xs h.1)
 
-  none_put : (p : List ℕ) (x : A) (ys : List A) → path_lt (path x) p ≡ false → NoneBefore p ys → NoneBefore p (put_in path x ys)
+  pub none_put : (p : List ℕ) (x : A) (ys : List A) → path_lt (path x) p ≡ false → NoneBefore p ys → NoneBefore p (put_in path x ys)
   none_put p x [] h k = (h, tt)
   none_put p x (y ∷ ys) h k = by (path_lt (path y) (path x)) (none_put p x ys h k.1)
     where
@@ -116,24 +115,37 @@ module _ {A : Type 0} (path : A → List ℕ) where
       by true more = (k.0, more)
       by false more = (h, k)
 
-  none_all : (p : List ℕ) (xs ys : List A) → NoneBefore p xs → NoneBefore p ys → NoneBefore p (put_all path xs ys)
+  pub none_all : (p : List ℕ) (xs ys : List A) → NoneBefore p xs → NoneBefore p ys → NoneBefore p (put_all path xs ys)
   none_all p [] ys h k = k
   none_all p (x ∷ xs) ys h k = none_put p x (put_all path xs ys) h.0 (none_all p xs ys h.1 k)
 
-  none_append : (p : List ℕ) (xs ys : List A) → NoneBefore p xs → NoneBefore p ys → NoneBefore p (xs ++ ys)
+  pub none_append : (p : List ℕ) (xs ys : List A) → NoneBefore p xs → NoneBefore p ys → NoneBefore p (xs ++ ys)
   none_append p [] ys h k = k
   none_append p (x ∷ xs) ys h k = (h.0, none_append p xs ys h.1 k)
 
-  none_earlier : (p q : List ℕ) (xs : List A) → path_lt p q ≡ false → NoneBefore p xs → NoneBefore q xs
+  pub none_earlier : (p q : List ℕ) (xs : List A) → path_lt p q ≡ false → NoneBefore p xs → NoneBefore q xs
   none_earlier p q [] l h = tt
   none_earlier p q (x ∷ xs) l h = (not_lt (path x) p q h.0 l, none_earlier p q xs l h.1)
 
-  put_front : (x : A) (ys : List A) → NoneBefore (path x) ys → put_in path x ys ≡ x ∷ ys
+  pub put_front : (x : A) (ys : List A) → NoneBefore (path x) ys → put_in path x ys ≡ x ∷ ys
   put_front x [] h = refl
   put_front x (y ∷ ys) h = behind x y ys h.0
 
+  sorted_put : (x : A) (ys : List A) → Sorted ys → Sorted (put_in path x ys)
+  sorted_put x [] s = (tt, tt)
+  sorted_put x (y ∷ ys) s = by (path_lt (path y) (path x)) refl (sorted_put x ys s.1)
+    where
+      by : (b : Bool) → path_lt (path y) (path x) ≡ b → Sorted (put_in path x ys) → Sorted (if b then y ∷ put_in path x ys else x ∷ y ∷ ys)
+      by true e more = (none_put (path y) x ys (lt_asym (path y) (path x) e) s.0, more)
+      by false e more = ((e, none_earlier (path y) (path x) ys e s.0), s)
+
+  -- what was put in order is in order
+  pub sorted_all : (xs ys : List A) → Sorted ys → Sorted (put_all path xs ys)
+  sorted_all [] ys s = s
+  sorted_all (x ∷ xs) ys s = sorted_put x (put_all path xs ys) (sorted_all xs ys s)
+
   -- those that come first stay in front
-  fronts : (fs xs : List A) → Sorted fs → AllByRecursion (λ f. NoneBefore (path f) xs) fs → put_all path fs xs ≡ fs ++ xs
+  pub fronts : (fs xs : List A) → Sorted fs → AllByRecursion (λ f. NoneBefore (path f) xs) fs → put_all path fs xs ≡ fs ++ xs
   fronts [] xs s n = refl
   fronts (f ∷ fs) xs s n = ap (put_in path f) (fronts fs xs s.1 n.1) ∙ put_front f (fs ++ xs) (none_append (path f) fs xs s.0 n.0)
 
@@ -167,7 +179,7 @@ module _ {A : Type 0} (path : A → List ℕ) where
 
   -- ---- one task: those that wait and come before it are moved; then it, if it goes on; those that it spawned wait
 
-  sorted_front : (fs vs : List A) → Sorted (fs ++ vs) → Sorted fs
+  pub sorted_front : (fs vs : List A) → Sorted (fs ++ vs) → Sorted fs
   sorted_front [] vs s = tt
   sorted_front (f ∷ fs) vs s = (first fs s.0, sorted_front fs vs s.1)
     where
@@ -300,11 +312,11 @@ module _ {A : Type 0} (path : A → List ℕ) where
   behind_split zero left (x ∷ now) rest l h = absurd (omega (arith, l))
   behind_split (suc n) left (x ∷ now) rest l h = behind_split n left now rest (omega (arith, l)) (omega (arith, l, h))
 
-  pub puts : (p : List ℕ) (task : A) (b : Bool) (us spawned rest before mid with_task after waited back waits : List A) (count left : ℕ)
+  pub puts : (bound : Option (List ℕ)) (p : List ℕ) (task : A) (b : Bool) (us spawned rest before mid with_task after waited back waits : List A) (count left : ℕ)
       → p ≡ path task → HasMoved path p before mid waited back → IsNextAfter path p back → with_task ≡ mid ++ kept b task
-      → HasMovedEarly path us with_task after spawned rest (count - left) → left ≤ count → waits ≡ take left rest ++ back
-      → HasPut path task b us (take count spawned) before after waited waits
-  puts p task b us spawned rest before mid with_task after waited back waits count left e m n k r l w = record {
+      → HasMovedEarly path bound us with_task after spawned rest (count - left) → left ≤ count → waits ≡ take left rest ++ back
+      → HasPut path bound task b us (take count spawned) before after waited waits
+  puts bound p task b us spawned rest before mid with_task after waited back waits count left e m n k r l w = record {
     front = m.front;
     back = back;
     now = r.now;
@@ -320,14 +332,14 @@ module _ {A : Type 0} (path : A → List ℕ) where
 
   -- ---- all of them
 
-  lt_not : (p r s : List ℕ) → path_lt p r ≡ true → path_lt s r ≡ false → path_lt p s ≡ true
+  pub lt_not : (p r s : List ℕ) → path_lt p r ≡ true → path_lt s r ≡ false → path_lt p s ≡ true
   lt_not p r s h k = by (path_lt p s) refl
     where
       by : (b : Bool) → path_lt p s ≡ b → path_lt p s ≡ true
       by true e = e
       by false e = let l : path_lt p r ≡ false = not_lt p s r e k in let bad : true ≡ false = sym h ∙ l in absurd cc
 
-  all_after : (p : List ℕ) (vs : List A) → IsNextAfter path p vs → Sorted vs → AllAfter p vs
+  pub all_after : (p : List ℕ) (vs : List A) → IsNextAfter path p vs → Sorted vs → AllAfter p vs
   all_after p [] n s = tt
   all_after p (v ∷ vs) n s = (n, others vs s.0)
     where
@@ -343,7 +355,7 @@ module _ {A : Type 0} (path : A → List ℕ) where
   after_later p u [] l h = tt
   after_later p u (c ∷ cs) l h = (lt_trans p (path u) (path c) l h.0, after_later p u cs l h.1)
 
-  none_kept : (p : List ℕ) (b : Bool) (u : A) → path_lt p (path u) ≡ true → NoneBefore p (kept b u)
+  pub none_kept : (p : List ℕ) (b : Bool) (u : A) → path_lt p (path u) ≡ true → NoneBefore p (kept b u)
   none_kept p true u l = (lt_asym p (path u) l, tt)
   none_kept p false u l = tt
 
@@ -370,25 +382,25 @@ module _ {A : Type 0} (path : A → List ℕ) where
   begins us ds r n = record { items = refl; sorted = tt; spawned = tt; rising = r; numbered = n }
 
   -- those that come before the next task come before all that follow
-  none_next : (us : List A) (ds : List (DeedValue A)) (n : A) → IsBeforeNext path us n → is_rising (map path us) ≡ true → AreNumbered path us ds → NoneBefore (path n) (living_with us ds)
-  none_next [] [] n e r h = tt
-  none_next [] (d ∷ ds) n e r h = tt
-  none_next (u ∷ us) [] n e r h = tt
-  none_next (u ∷ us) (d ∷ ds) n e r h =
+  none_next : (bound : Option (List ℕ)) (us : List A) (ds : List (DeedValue A)) (n : A) → IsBeforeNext path bound us n → is_rising (map path us) ≡ true → AreNumbered path us ds → NoneBefore (path n) (living_with us ds)
+  none_next bound [] [] n e r h = tt
+  none_next bound [] (d ∷ ds) n e r h = tt
+  none_next bound (u ∷ us) [] n e r h = tt
+  none_next bound (u ∷ us) (d ∷ ds) n e r h =
       none_earlier (path u) (path n) (living_with (u ∷ us) (d ∷ ds)) (lt_asym (path n) (path u) e)
       (none_append (path u) (kept d.synced u ++ d.spawns) (living_with us ds)
       (none_append (path u) (kept d.synced u) d.spawns (kept_none d.synced u) (none_after (path u) d.spawns (run_after (path u) h.0.0 d.spawns (is_run (path u) h.0.0 d.spawns h.0.1))))
       (none_living (path u) us ds (after_more (path u) us (rising_all (path u) (map path us) r)) h.1))
 
-  early_first : (ns ls vs us : List A) (ds : List (DeedValue A)) → Sorted (ns ++ ls) → AllByRecursion (λ c. AllAfter (path c) vs) (ns ++ ls)
-      → AllByRecursion (IsBeforeNext path us) ns → is_rising (map path us) ≡ true → AreNumbered path us ds
+  early_first : (bound : Option (List ℕ)) (ns ls vs us : List A) (ds : List (DeedValue A)) → Sorted (ns ++ ls) → AllByRecursion (λ c. AllAfter (path c) vs) (ns ++ ls)
+      → AllByRecursion (IsBeforeNext path bound us) ns → is_rising (map path us) ≡ true → AreNumbered path us ds
       → AllByRecursion (λ n. NoneBefore (path n) (put_all path (ls ++ vs) (in_path_order path (living_with us ds)))) ns
-  early_first [] ls vs us ds s cv e r h = tt
-  early_first (n ∷ ns) ls vs us ds s cv e r h = (
+  early_first bound [] ls vs us ds s cv e r h = tt
+  early_first bound (n ∷ ns) ls vs us ds s cv e r h = (
     none_all (path n) (ls ++ vs) (in_path_order path (living_with us ds))
         (none_append (path n) ls vs (last ns s.0) (none_after (path n) vs cv.0))
-        (none_all (path n) (living_with us ds) [] (none_next us ds n e.0 r h) tt),
-    early_first ns ls vs us ds s.1 cv.1 e.1 r h,
+        (none_all (path n) (living_with us ds) [] (none_next bound us ds n e.0 r h) tt),
+    early_first bound ns ls vs us ds s.1 cv.1 e.1 r h,
   )
     where
       last : (gs : List A) → NoneBefore (path n) (gs ++ ls) → NoneBefore (path n) ls
@@ -400,9 +412,9 @@ module _ {A : Type 0} (path : A → List ℕ) where
   later_cross (n ∷ ns) ls vs h = later_cross ns ls vs h.1
 
   -- one task more
-  pub goes_along : (end living ws us new waits : List A) (u : A) (d : DeedValue A) (ds : List (DeedValue A)) → IsAlong end living ws (u ∷ us) (d ∷ ds)
-      → HasPut path u d.synced us d.spawns living new ws waits → IsAlong end new waits us ds
-  goes_along end living ws us new waits u d ds h p =
+  pub goes_along : (bound : Option (List ℕ)) (end living ws us new waits : List A) (u : A) (d : DeedValue A) (ds : List (DeedValue A)) → IsAlong end living ws (u ∷ us) (d ∷ ds)
+      → HasPut path bound u d.synced us d.spawns living new ws waits → IsAlong end new waits us ds
+  goes_along bound end living ws us new waits u d ds h p =
       record {
         items =
             (λ i. p.put i ++ put_all path (p.wait i) xs)
@@ -461,11 +473,66 @@ module _ {A : Type 0} (path : A → List ℕ) where
           ∙ ap (λ (zs : List A). put_all path zs xs) (append_assoc p.now p.later p.back)
           ∙ put_all_append path p.now (p.later ++ p.back) xs
           ∙ fronts p.now (put_all path (p.later ++ p.back) xs) (sorted_front p.now p.later sorted)
-          (early_first p.now p.later p.back us ds sorted cross p.early (rising_rest (path u) (map path us) h.rising) h.numbered.1)
+          (early_first bound p.now p.later p.back us ds sorted cross p.early (rising_rest (path u) (map path us) h.rising) h.numbered.1)
 
       sorted_append : (cs vs : List A) → Sorted cs → Sorted vs → AllByRecursion (λ c. AllAfter (path c) vs) cs → Sorted (cs ++ vs)
       sorted_append [] vs s t h = t
       sorted_append (c ∷ cs) vs s t h = (none_append (path c) cs vs s.0 (none_after (path c) vs h.0), sorted_append cs vs s.1 t h.1)
+
+  -- ---- what doesn't come after the bound
+
+  in_append : (bound : Option (List ℕ)) (xs ys : List A) → AreWithin path bound xs → AreWithin path bound ys → AreWithin path bound (xs ++ ys)
+  in_append bound [] ys h k = k
+  in_append bound (x ∷ xs) ys h k = (h.0, in_append bound xs ys h.1 k)
+
+  in_kept : (bound : Option (List ℕ)) (b : Bool) (u : A) → IsWithin path bound u → AreWithin path bound (kept b u)
+  in_kept bound true u h = (h, tt)
+  in_kept bound false u h = tt
+
+  in_passed : (bound : Option (List ℕ)) (u : A) (fs : List A) → IsWithin path bound u → AllByRecursion (λ w. path_lt (path u) (path w) ≡ false) fs → AreWithin path bound fs
+  in_passed None u [] h k = tt
+  in_passed None u (f ∷ fs) h k = (tt, in_passed None u fs h k.1)
+  in_passed (Some b) u [] h k = tt
+  in_passed (Some b) u (f ∷ fs) h k = (not_lt b (path u) (path f) h k.0, in_passed (Some b) u fs h k.1)
+
+  in_next : (bound : Option (List ℕ)) (us : List A) (c : A) → AreWithin path bound us → IsBeforeNext path bound us c → IsWithin path bound c
+  in_next None us c h k = tt
+  in_next (Some b) [] c h k = lt_asym (path c) b k
+  in_next (Some b) (u ∷ us) c h k = not_lt b (path u) (path c) h.0 (lt_asym (path c) (path u) k)
+
+  in_early : (bound : Option (List ℕ)) (us ns : List A) → AreWithin path bound us → AllByRecursion (IsBeforeNext path bound us) ns → AreWithin path bound ns
+  in_early bound us [] h k = tt
+  in_early bound us (n ∷ ns) h k = (in_next bound us n h k.0, in_early bound us ns h k.1)
+
+  -- one task more
+  pub goes_within : (bound : Option (List ℕ)) (living ws us new waits cs : List A) (u : A) (b : Bool) → HasPut path bound u b us cs living new ws waits
+      → AreWithin path bound living → AreWithin path bound (u ∷ us) → AreWithin path bound new
+  goes_within bound living ws us new waits cs u b p h k =
+      subst (AreWithin path bound) (sym p.put)
+      (in_append bound ((living ++ p.front) ++ kept b u) p.now
+      (in_append bound (living ++ p.front) (kept b u) (in_append bound living p.front h (in_passed bound u p.front k.0 p.passed)) (in_kept bound b u k.0))
+      (in_early bound us p.now k.1 p.early))
+
+  -- and those that are moved at the end
+  pub ends_within : (bound : Option (List ℕ)) (living ws new waits : List A) → HasMovedWithin path bound living new ws waits → AreWithin path bound living → AreWithin path bound new
+  ends_within bound living ws new waits m h = subst (AreWithin path bound) (sym m.moved) (in_append bound living m.front h m.within)
+
+  pub within_all : (p : List ℕ) (living new ws waits : List A) → HasMoved path p living new ws waits → HasMovedWithin path (Some p) living new ws waits
+  within_all p living new ws waits m = record { front = m.front; moved = m.moved; cut = m.cut; within = m.passed }
+
+  none_bound : (fs : List A) → AreWithin path None fs
+  none_bound [] = tt
+  none_bound (f ∷ fs) = (tt, none_bound fs)
+
+  pub within_none : (living new ws waits : List A) → new ≡ living ++ ws → waits ≡ [] → HasMovedWithin path None living new ws waits
+  within_none living new ws waits e n =
+      record { front = ws; moved = e; cut = sym (ap (λ (xs : List A). ws ++ xs) n ∙ append-nil ws); within = none_bound ws }
+
+  -- those that still wait come after the bound
+  pub outside : (bound : Option (List ℕ)) (end living ws new waits : List A) (ds : List (DeedValue A)) → IsAlong end living ws [] ds → HasMovedWithin path bound living new ws waits
+      → IsNextOutside path bound waits → AreStrays path bound waits
+  outside None end living ws new waits ds h m n = n
+  outside (Some b) end living ws new waits ds h m n = all_after b waits n (sorted_back m.front waits (subst Sorted m.cut h.sorted))
 
   -- at the end those that wait follow
   pub ends_along : (end living ws : List A) (ds : List (DeedValue A)) → IsAlong end living ws [] ds → living ++ ws ≡ end
@@ -479,3 +546,10 @@ module _ {A : Type 0} (path : A → List ℕ) where
       none_live : (ds : List (DeedValue A)) → living_with [] ds ≡ []
       none_live [] = refl
       none_live (d ∷ ds) = refl
+
+  -- whether they were moved or still wait
+  pub ends_apart : (bound : Option (List ℕ)) (end living ws new waits : List A) (ds : List (DeedValue A)) → IsAlong end living ws [] ds → HasMovedWithin path bound living new ws waits
+      → new ++ waits ≡ end
+  ends_apart bound end living ws new waits ds h m =
+      ap (λ (xs : List A). xs ++ waits) m.moved ∙ append_assoc living m.front waits ∙ ap (λ (xs : List A). living ++ xs) (sym m.cut)
+      ∙ ends_along end living ws ds h

@@ -28,6 +28,11 @@ abbrev pub stopped_by : List Deed → ℕ
 stopped_by [] = 0
 stopped_by (d ∷ ds) = one_left d.synced + stopped_by ds
 
+-- how many puts were made
+abbrev pub made_by : List Deed → ℕ
+made_by [] = 0
+made_by (d ∷ ds) = d.puts + made_by ds
+
 module _ {S : Type 0} where
   abbrev pub deeds_in : Inside S → List (DeedValue S)
   deeds_in i = deeds_with i.each.items i.spawns.items

@@ -111,6 +111,11 @@ module _ {S : Type 0} where
   spawned_in [] = 0
   spawned_in (d ∷ ds) = length d.spawns + spawned_in ds
 
+  -- how many puts they made
+  abbrev pub made_in : List (DeedValue S) → ℕ
+  made_in [] = 0
+  made_in (d ∷ ds) = d.puts + made_in ds
+
   -- the record of a superstep in which tasks did this
   abbrev pub told_in : ℕ → List (DeedValue S) → PhaseRecord
   told_in step ds = record { phase = step; parties = length ds + spawned_in ds; left = left_in ds; spawned = spawned_in ds }

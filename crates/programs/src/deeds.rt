@@ -1,13 +1,13 @@
 //! What live tasks did in their places, and all that they spawned in one list.
-ghost use Rattle.std.specs.Prelude.{◌≡◌, ◌≤◌, ◌<◌, ◌+◌, ◌-◌, ◌^◌, ◌++◌, ◌∷◌, ◌↔◌, ◌⊎◌, [], true, IsTrue, IfOk, OnOk, OnErr, length, map, reverse, take};
+ghost use Rattle.std.specs.Prelude.{◌≡◌, ◌≤◌, ◌<◌, ◌+◌, ◌-◌, ◌^◌, ◌++◌, ◌∷◌, ◌↔◌, ◌⊎◌, [], true, IsTrue, IfOk, IfSome, OnOk, OnErr, length, map, reverse, take};
 ghost use Rattle.std.specs.Option.{option_map};
 ghost use Rattle.std.specs.Vec.{vec_len, vec_capacity};
 ghost use Rattle.superstep_memory.specs.Paths.{is_rising};
 ghost use Rattle.superstep_memory.specs.PathOrder.{in_path_order};
-ghost use Rattle.programs.specs.Regroup.{AreNumbered, IsNextAfter, IsBeforeNext, HasMoved, HasMovedEarly, HasPut};
-ghost use Rattle.programs.specs.DeedsView.{deeds_with, spawned_by, stopped_by, behind};
+ghost use Rattle.programs.specs.Regroup.{AreNumbered, IsBefore, AreWithin, AreStrays, IsNextAfter, IsNextOutside, IsBeforeNext, HasMoved, HasMovedWithin, HasMovedEarly, HasPut};
+ghost use Rattle.programs.specs.DeedsView.{deeds_with, spawned_by, stopped_by, made_by, behind};
 ghost use Rattle.programs.specs.Changes.{change_of, change_in};
-ghost use Rattle.programs.specs.InPlace.{one_left, told_at, told_in, maker, kept, living_with, left_in, spawned_in};
+ghost use Rattle.programs.specs.InPlace.{one_left, told_at, told_in, maker, kept, living_with, left_in, spawned_in, made_in};
 
 use crate::blame::{Blame, overflowed, task_path};
 use crate::program::OnPath;
@@ -59,7 +59,9 @@ pub struct Regrouping<T> {
 
 impl<T: OnPath> Regrouping<T> {
     /// No room yet.
-    pub fn new(alloc: Global) -> Self {
+    pub fn new(alloc: Global) -> Self
+        ensures { (result.living.items ≡ []) × (result.waiting.items ≡ []) }
+    {
         Regrouping {
             living: Vec::new(alloc),
             waiting: Vec::new(alloc),
@@ -68,7 +70,7 @@ impl<T: OnPath> Regrouping<T> {
 
     /// Empties the lists, and makes room for so many tasks in each.
     pub fn reserve(&mut self, count: usize, spawned: usize) -> Result<(), AllocError>
-        ensures empty { OnOk result ((self.new.living.items ≡ []) × (self.new.waiting.items ≡ [])) }
+        ensures empty { (self.new.living.items ≡ []) × (self.new.waiting.items ≡ []) }
         ensures room { OnOk result ((count ≤ vec_capacity self.new.living) × (spawned ≤ vec_capacity self.new.waiting)) }
         ensures full { OnErr result ((vec_capacity self.old.living < count) ⊎ (vec_capacity self.old.waiting < spawned)) }
     {
@@ -109,6 +111,18 @@ fn move_all<T: OnPath>(living: &mut Vec<T>, waiting: &mut Vec<T>)
     }
 }
 
+// Moves the tasks that wait and don't come after the bound, the first by path first; with no bound, all of them.
+fn move_within<T: OnPath>(living: &mut Vec<T>, waiting: &mut Vec<T>, bound: &Option<Path>)
+    requires room { vec_len living.old + vec_len waiting.old ≤ vec_capacity living.old }
+    ensures moved { HasMovedWithin T.path_of (option_map (λ p. p.items) bound.now) living.old.items living.new.items (reverse waiting.old.items) (reverse waiting.new.items) }
+    ensures rest { IsNextOutside T.path_of (option_map (λ p. p.items) bound.now) (reverse waiting.new.items) }
+{
+    match bound {
+        Some(path) => move_before(living, waiting, path.as_slice()),
+        None => move_all(living, waiting),
+    }
+}
+
 // Lets the last `count` tasks of a list wait, the last one first.
 fn let_wait<T: OnPath>(waiting: &mut Vec<T>, spawns: &mut Vec<T>, count: usize)
     requires enough { count ≤ length spawns.old.items }
@@ -130,27 +144,38 @@ fn let_wait<T: OnPath>(waiting: &mut Vec<T>, spawns: &mut Vec<T>, count: usize)
     waiting[from..].reverse();
 }
 
-// Whether a task comes before the next one, if there is one: the last of these.
-fn is_early<T: OnPath>(task: &T, tasks: &[T]) -> bool
-    ensures { IsTrue result → IsBeforeNext T.path_of (reverse tasks.now) task.now }
+// Whether a task comes before the bound, if there is one.
+fn is_inside<T: OnPath>(task: &T, bound: &Option<Path>) -> bool
+    ensures { IsTrue result → IsBefore T.path_of (option_map (λ p. p.items) bound.now) task.now }
 {
-    match tasks.last() {
-        Some(next) => is_before(task.path().as_slice(), next.path().as_slice()),
+    match bound {
+        Some(path) => is_before(task.path().as_slice(), path.as_slice()),
         None => true,
     }
 }
 
-// Moves spawned tasks from the end of a list, as long as they come before the next task, and at most `count`. Returns how many
-// of these are left.
+// Whether a task comes before the next one: the last of these. If there is none, whether it comes before the bound.
+fn is_early<T: OnPath>(task: &T, tasks: &[T], bound: &Option<Path>) -> bool
+    ensures { IsTrue result → IsBeforeNext T.path_of (option_map (λ p. p.items) bound.now) (reverse tasks.now) task.now }
+{
+    match tasks.last() {
+        Some(next) => is_before(task.path().as_slice(), next.path().as_slice()),
+        None => is_inside(task, bound),
+    }
+}
+
+// Moves spawned tasks from the end of a list, as long as they come before the next task or the bound, and at most `count`.
+// Returns how many of these are left.
 fn move_early<T: OnPath>(
     living: &mut Vec<T>,
     spawns: &mut Vec<T>,
     count: usize,
     tasks: &[T],
+    bound: &Option<Path>,
 ) -> usize
     requires enough { count ≤ length spawns.old.items }
     requires room { vec_len living.old + count ≤ vec_capacity living.old }
-    ensures moved { HasMovedEarly T.path_of (reverse tasks.now) living.old.items living.new.items (reverse spawns.old.items) (reverse spawns.new.items) (count - result) }
+    ensures moved { HasMovedEarly T.path_of (option_map (λ p. p.items) bound.now) (reverse tasks.now) living.old.items living.new.items (reverse spawns.old.items) (reverse spawns.new.items) (count - result) }
     ensures left { result ≤ count }
     ensures enough { result ≤ length spawns.new.items }
     ensures room { vec_capacity living.new ≡ vec_capacity living.old }
@@ -161,7 +186,7 @@ fn move_early<T: OnPath>(
         let Some(first) = spawns.last() else {
             unreachable!()
         };
-        if !is_early(first, tasks) {
+        if !is_early(first, tasks, bound) {
             break;
         }
         match spawns.pop() {
@@ -186,7 +211,7 @@ fn push_kept<T: OnPath>(living: &mut Vec<T>, task: T, synced: bool)
 }
 
 // Puts a task, if it goes on, after those that wait and come before it. `spawns` ends with those that it spawned, the last one
-// first. They follow as long as they come before the next task: the last of `tasks`. The others wait.
+// first. They follow as long as they come before the next task: the last of `tasks`, or the bound. The others wait.
 fn put_next<T: OnPath>(
     living: &mut Vec<T>,
     waiting: &mut Vec<T>,
@@ -194,11 +219,12 @@ fn put_next<T: OnPath>(
     deed: Deed,
     spawns: &mut Vec<T>,
     tasks: &[T],
+    bound: &Option<Path>,
 )
     requires enough { deed.spawned ≤ length spawns.old.items }
     requires room { vec_len living.old + vec_len waiting.old + (length (kept deed.synced task) + deed.spawned) ≤ vec_capacity living.old }
     requires wait { vec_len waiting.old + deed.spawned ≤ vec_capacity waiting.old }
-    ensures put { HasPut T.path_of task deed.synced (reverse tasks.now) (take deed.spawned (reverse spawns.old.items)) living.old.items living.new.items (reverse waiting.old.items) (reverse waiting.new.items) }
+    ensures put { HasPut T.path_of (option_map (λ p. p.items) bound.now) task deed.synced (reverse tasks.now) (take deed.spawned (reverse spawns.old.items)) living.old.items living.new.items (reverse waiting.old.items) (reverse waiting.new.items) }
     ensures rest { reverse spawns.new.items ≡ behind deed.spawned (reverse spawns.old.items) }
     ensures room { (vec_capacity living.new ≡ vec_capacity living.old) × (vec_capacity waiting.new ≡ vec_capacity waiting.old) }
     ensures count { vec_len living.new + vec_len waiting.new ≡ vec_len living.old + vec_len waiting.old + (length (kept deed.synced task) + deed.spawned) }
@@ -206,20 +232,21 @@ fn put_next<T: OnPath>(
 {
     move_before(living, waiting, task.path().as_slice());
     push_kept(living, task, deed.synced);
-    let left = move_early(living, spawns, deed.spawned, tasks);
+    let left = move_early(living, spawns, deed.spawned, tasks, bound);
     if left > 0 {
         let_wait(waiting, spawns, left);
     }
 }
 
-// The tasks that go on and those that they spawned, in path order. The lists of tasks, deeds and spawned tasks are read from their
-// ends.
+// The tasks that go on and those that they spawned, in path order; those after the bound wait. The lists of tasks, deeds and
+// spawned tasks are read from their ends.
 fn put_in_order<T: OnPath>(
     tasks: &mut Vec<T>,
     each: &mut Vec<Deed>,
     spawns: &mut Vec<T>,
     living: &mut Vec<T>,
     waiting: &mut Vec<T>,
+    bound: &Option<Path>,
 )
     requires same { length tasks.old.items ≡ length each.old.items }
     requires all { spawned_by (reverse each.old.items) ≡ length spawns.old.items }
@@ -228,18 +255,20 @@ fn put_in_order<T: OnPath>(
     requires wait { length spawns.old.items ≤ vec_capacity waiting.old }
     requires rising { is_rising (map T.path_of (reverse tasks.old.items)) ≡ true }
     requires numbered { AreNumbered T.path_of (reverse tasks.old.items) (deeds_with (reverse each.old.items) (reverse spawns.old.items)) }
-    ensures living { living.new.items ≡ in_path_order T.path_of (living_with (reverse tasks.old.items) (deeds_with (reverse each.old.items) (reverse spawns.old.items))) }
+    ensures living { living.new.items ++ reverse waiting.new.items ≡ in_path_order T.path_of (living_with (reverse tasks.old.items) (deeds_with (reverse each.old.items) (reverse spawns.old.items))) }
+    ensures strays { AreStrays T.path_of (option_map (λ p. p.items) bound.now) (reverse waiting.new.items) }
+    ensures within { AreWithin T.path_of (option_map (λ p. p.items) bound.now) (reverse tasks.old.items) → AreWithin T.path_of (option_map (λ p. p.items) bound.now) living.new.items }
     ensures tasks { tasks.new.items ≡ [] }
     ensures each { each.new.items ≡ [] }
     ensures spawns { spawns.new.items ≡ [] }
 {
     while let Some(deed) = each.pop() {
         match tasks.pop() {
-            Some(task) => put_next(living, waiting, task, deed, spawns, tasks),
+            Some(task) => put_next(living, waiting, task, deed, spawns, tasks, bound),
             None => unreachable!(),
         }
     }
-    move_all(living, waiting);
+    move_within(living, waiting, bound);
 }
 
 // Whether the sum of `count` and `others` is at most `most`.
@@ -378,6 +407,31 @@ impl<T: OnPath> Deeds<T> {
         ensures full { OnErr result ((vec_capacity room.old.living < count) ⊎ (vec_capacity room.old.waiting < spawned_in self.old)) }
         ensures memory { OnErr result ((self.new ≡ self.old) × (tasks.new.items ≡ tasks.old.items)) }
     {
+        self.regroup_within(tasks, room, count, &None)
+    }
+
+    /// As `regroup`, for tasks that are followed by others, the first of which has the path `bound`. Leaves the tasks that come
+    /// after the bound, the strays, in `room.waiting`, the first by path last. If the tasks don't come after the bound, nor do
+    /// those that replace them.
+    pub fn regroup_within(
+        &mut self,
+        tasks: &mut Vec<T>,
+        room: &mut Regrouping<T>,
+        count: usize,
+        bound: &Option<Path>,
+    ) -> Result<(), AllocError>
+        requires same { length tasks.old.items ≡ length self.old }
+        requires count { length (living_with tasks.old.items self.old) ≤ count }
+        requires rising { is_rising (map T.path_of tasks.old.items) ≡ true }
+        requires numbered { AreNumbered T.path_of tasks.old.items self.old }
+        ensures tasks { OnOk result (tasks.new.items ++ reverse room.new.waiting.items ≡ in_path_order T.path_of (living_with tasks.old.items self.old)) }
+        ensures strays { OnOk result (AreStrays T.path_of (option_map (λ p. p.items) bound.now) (reverse room.new.waiting.items)) }
+        ensures within { OnOk result (AreWithin T.path_of (option_map (λ p. p.items) bound.now) tasks.old.items → AreWithin T.path_of (option_map (λ p. p.items) bound.now) tasks.new.items) }
+        ensures none_left { OnOk result (self.new ≡ []) }
+        ensures no_strays { OnErr result (room.new.waiting.items ≡ []) }
+        ensures full { OnErr result ((vec_capacity room.old.living < count) ⊎ (vec_capacity room.old.waiting < spawned_in self.old)) }
+        ensures memory { OnErr result ((self.new ≡ self.old) × (tasks.new.items ≡ tasks.old.items)) }
+    {
         room.reserve(count, self.spawns.len())?;
         tasks.reverse();
         self.each.reverse();
@@ -388,6 +442,7 @@ impl<T: OnPath> Deeds<T> {
             &mut self.spawns,
             &mut room.living,
             &mut room.waiting,
+            bound,
         );
         self.stopped = 0;
         std::mem::swap(&mut room.living, tasks);
@@ -442,6 +497,19 @@ fn changes_of<T: OnPath>(
     Ok(changes)
 }
 
+// How many puts were made, unless that number is too large to be kept.
+fn count_puts(each: &[Deed]) -> Option<usize>
+    ensures { IfSome result (λ count. count ≡ made_by each.now) }
+{
+    let mut count: usize = 0;
+    let mut rest = each;
+    while let Some((deed, after)) = rest.split_first() {
+        count = count.checked_add(deed.puts)?;
+        rest = after;
+    }
+    Some(count)
+}
+
 impl<T: OnPath> Deeds<T> {
     /// Whether the same tasks live on: nobody stopped, and nobody was spawned.
     pub fn all_stay(&self) -> bool
@@ -469,6 +537,13 @@ impl<T: OnPath> Deeds<T> {
         ensures { result ≡ spawned_in self.now }
     {
         self.spawns.len()
+    }
+
+    /// How many puts they made. `None` if that number is too large to be kept.
+    pub fn put_count(&self) -> Option<usize>
+        ensures { IfSome result (λ count. count ≡ made_in self.now) }
+    {
+        count_puts(&self.each)
     }
 
     /// How many tasks did something.

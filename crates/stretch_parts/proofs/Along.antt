@@ -5,7 +5,7 @@ use Rattle.std.proofs.lemmas.List.{drop_all}
 use Rattle.programs.specs.DeedValue.{DeedValue}
 use Rattle.programs.specs.InPlace.{left_in, spawned_in}
 use Rattle.stretch_parts.specs.PartValue.{PartValue}
-use Rattle.stretch_parts.specs.Parts.{covers, is_done, of_slot, in_turn}
+use Rattle.stretch_parts.specs.Parts.{covers, is_done, of_slot, in_turn, deeds_in}
 
 pub both : (a b : Bool) → (a && b) ≡ true → (a ≡ true) × (b ≡ true)
 both true b h = (refl, h)
@@ -116,3 +116,23 @@ module _ {S A : Type 0} (g : PartValue S → List A) where
 
   pub in_turn_all : (old total : List A) (k : ℕ) (parts : List (Option (PartValue S))) → drop k parts ≡ [] → old ++ in_turn g (drop k parts) ≡ total → old ≡ total
   in_turn_all old total k parts n h = sym (append-nil old) ∙ ap (λ (ss : List (Option (PartValue S))). old ++ in_turn g ss) (sym n) ∙ h
+
+module _ {S : Type 0} where
+  -- none of the tasks of stretches moved, so none of these did
+  none_behind : (k : ℕ) (parts : List (Option (PartValue S))) → left_in (deeds_in parts) ≡ 0 → spawned_in (deeds_in parts) ≡ 0 → (left_in (deeds_in (drop k parts)) ≡ 0) × (spawned_in (deeds_in (drop k parts)) ≡ 0)
+  none_behind zero parts a b = (a, b)
+  none_behind (suc k) [] a b = (a, b)
+  none_behind (suc k) (s ∷ parts) a b =
+      let l = left_append (of_slot (λ part. part.deeds) s) (deeds_in parts) in
+      let m = spawned_append (of_slot (λ part. part.deeds) s) (deeds_in parts) in
+      none_behind k parts (omega (arith, a, l)) (omega (arith, b, m))
+
+  pub none_here : (k : ℕ) (parts rest : List (Option (PartValue S))) (s : Option (PartValue S)) → drop k parts ≡ s ∷ rest → left_in (deeds_in parts) ≡ 0 → spawned_in (deeds_in parts) ≡ 0
+      → (left_in (of_slot (λ part. part.deeds) s) ≡ 0) × (spawned_in (of_slot (λ part. part.deeds) s) ≡ 0)
+  none_here k parts rest s e a b =
+      let n = none_behind k parts a b in
+      let l = ap (λ (ss : List (Option (PartValue S))). left_in (deeds_in ss)) (sym e) ∙ n.0 in
+      let m = ap (λ (ss : List (Option (PartValue S))). spawned_in (deeds_in ss)) (sym e) ∙ n.1 in
+      let x = left_append (of_slot (λ part. part.deeds) s) (deeds_in rest) in
+      let y = spawned_append (of_slot (λ part. part.deeds) s) (deeds_in rest) in
+      (omega (arith, l, x), omega (arith, m, y))

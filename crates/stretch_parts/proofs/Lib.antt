@@ -1,3 +1,8 @@
 pub mod Along
 pub mod Cutting
 pub mod InTurn
+pub mod Noted
+pub mod Placing
+pub mod Pieces
+pub mod Making
+pub mod Blaming

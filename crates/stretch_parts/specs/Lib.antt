@@ -1,3 +1,5 @@
 pub mod PartValue
+pub mod Kept
 pub mod Parts
 pub mod PartView
+pub mod Next

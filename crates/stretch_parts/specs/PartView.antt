@@ -1,14 +1,19 @@
 -- A stretch as its code keeps it (own).
+use Rattle.std.specs.Prelude.{ℕ, List, reverse}
 use Rattle.stretch_parts.specs.declared.part.Part.TheInside.{Inside}
 use Rattle.stretch_parts.specs.PartValue.{PartValue}
+use Rattle.stretch_parts.specs.Kept.{IsKept, tasks_by, deeds_by}
 
 abbrev pub part_of : {S : Type 0} → Inside S → PartValue S
 part_of i = record {
   first = i.state.value.first;
-  tasks = i.state.value.tasks.items;
+  tasks = tasks_by i.state.value.notes.items i.state.value.tasks.items;
   done = i.state.value.done;
   puts = i.state.value.work.puts;
-  deeds = i.state.value.deeds;
+  deeds = deeds_by i.state.value.notes.items i.state.value.deeds;
   prints = i.state.value.prints.items;
   fault = i.state.value.fault;
 }
+
+abbrev pub IsPartInside : {S : Type 0} → (S → List ℕ) → Inside S → Type 0
+IsPartInside path i = IsKept path i.state.value.settled i.state.value.tasks.items (reverse i.state.value.room.waiting.items) i.state.value.notes.items i.state.value.done

@@ -1,49 +1,107 @@
 //! Live tasks cut into stretches.
-ghost use Rattle.std.specs.Prelude.{◌≡◌, ◌≤◌, ◌<◌, ◌++◌, [], length, reverse};
+ghost use Rattle.std.specs.Prelude.{◌≡◌, ◌≤◌, ◌<◌, ◌+◌, ◌^◌, ◌++◌, [], length, reverse};
 ghost use Rattle.std.specs.Vec.{vec_len, vec_capacity};
 ghost use Rattle.stretch_parts.specs.Parts.{AreFresh, fresh_part, tasks_in};
 
 use crate::part::Part;
 use programs::program::OnPath;
 use std::alloc::Global;
+use superstep_memory::path::Path;
 
 // The most tasks of a stretch.
 const MOST_TASKS: usize = 512;
 
-// How many tasks each of about `pieces` stretches has.
-fn size_for(count: usize, pieces: usize) -> usize
+/// How many tasks each of about `pieces` stretches has.
+pub(crate) fn size_for(count: usize, pieces: usize) -> usize
     requires { 1 ≤ pieces }
     ensures { 1 ≤ result }
 {
     (count / pieces).clamp(1, MOST_TASKS)
 }
 
-// Cuts stretches of this size off from the end, the last first, as long as more tasks are left and there is memory.
-fn cut_off<T: OnPath>(
+// A place near to the end of this list, about `size` tasks in front of it: that of a task with a short path, so that few tasks
+// have a spawner in front of the place.
+fn place_to_cut<T: OnPath>(tasks: &[T], size: usize) -> usize
+    requires some { 1 ≤ size }
+    requires front { size < length tasks.now }
+    ensures { result < length tasks.now }
+{
+    let middle = tasks.len() - size;
+    let from = middle.saturating_sub(size / 4).max(1);
+    let mut best = middle;
+    let mut shortest = tasks[middle].path().as_slice().len();
+    for place in from..middle + size / 4 {
+        let long = tasks[place].path().as_slice().len();
+        if long < shortest {
+            best = place;
+            shortest = long;
+        }
+    }
+    best
+}
+
+/// Cuts stretches of about this size off from the end, the last first, as long as more than `most` tasks are left and there is
+/// memory. `from` is the place of the first task, and there is room for one stretch more.
+pub(crate) fn cut_off<T: OnPath>(
     alloc: Global,
     rest: &mut Vec<T>,
+    from: usize,
     size: usize,
+    most: usize,
     parts: &mut Vec<Option<Part<T>>>,
 )
     requires size { 1 ≤ size }
-    requires none_yet { parts.old.items ≡ [] }
+    requires most { size ≤ most }
+    requires end { from + length rest.old.items < 2 ^ 64 }
+    requires fresh { AreFresh (from + length rest.old.items) (reverse parts.old.items) }
     requires room { vec_len parts.old < vec_capacity parts.old }
-    ensures fresh { AreFresh (length rest.new.items) (reverse parts.new.items) }
-    ensures tasks { rest.new.items ++ tasks_in (reverse parts.new.items) ≡ rest.old.items }
+    ensures fresh { AreFresh (from + length rest.new.items) (reverse parts.new.items) }
+    ensures tasks { rest.new.items ++ tasks_in (reverse parts.new.items) ≡ rest.old.items ++ tasks_in (reverse parts.old.items) }
     ensures room { vec_len parts.new < vec_capacity parts.new }
 {
-    while rest.len() > size {
+    while rest.len() > most {
         let Ok(()) = parts.reserve(2) else {
             return;
         };
         let Ok(part) = Part::new(alloc) else {
             return;
         };
-        let at = (rest.len() - 1) / size * size;
+        let at = place_to_cut(rest, size);
         match rest.split_off(at) {
-            Ok(behind) => parts.push_reserved(Some(part.with_tasks(at, behind))),
+            Ok(behind) => parts.push_reserved(Some(part.with_tasks(from + at, behind))),
             Err(_) => return,
         }
+    }
+}
+
+// Sets the bound of a stretch to the path of the first task behind it. Returns the path of its own first task, if it has one, else
+// that path.
+fn bound_one<T: OnPath>(slot: &mut Option<Part<T>>, low: Option<Path>) -> Option<Path>
+    ensures { slot.new ≡ slot.old }
+{
+    match slot {
+        Some(part) => {
+            let first = part.first_path();
+            if first.is_some() {
+                part.set_bound(low);
+                first
+            } else {
+                low
+            }
+        }
+        None => low,
+    }
+}
+
+/// Sets the bound of each stretch to the path of the first task behind it.
+pub(crate) fn set_bounds<T: OnPath>(parts: &mut Vec<Option<Part<T>>>)
+    ensures { parts.new.items ≡ parts.old.items }
+{
+    let mut low = None;
+    let mut place = parts.len();
+    while place > 0 {
+        place -= 1;
+        low = bound_one(&mut parts[place], low);
     }
 }
 
@@ -65,7 +123,8 @@ pub fn cut<T: OnPath>(
 {
     let size = size_for(tasks.len(), pieces);
     let mut rest = tasks;
-    cut_off(alloc, &mut rest, size, parts);
+    cut_off(alloc, &mut rest, 0, size, size, parts);
     parts.push_reserved(Some(first.with_tasks(0, rest)));
     parts.reverse();
+    set_bounds(parts);
 }

@@ -3,6 +3,7 @@ ghost use Rattle.std.specs.Prelude.{◌≡◌, ◌≤◌, ◌+◌, ◌++◌, [],
 ghost use Rattle.std.specs.Vec.{vec_len, vec_capacity};
 ghost use Rattle.std.specs.List.{list_all};
 ghost use Rattle.superstep_memory.specs.Landing.{is_set};
+ghost use Rattle.programs.specs.InPlace.{left_in, spawned_in};
 ghost use Rattle.stretch_parts.specs.Parts.{of_slot, tasks_in, puts_in, deeds_in, prints_in, without_puts, without_tasks, without_prints, renewed};
 
 use crate::part::Part;
@@ -115,8 +116,9 @@ pub fn give_all_prints<T: OnPath>(parts: &mut Vec<Option<Part<T>>>, prints: &mut
     }
 }
 
-// Gets a stretch ready for the next superstep.
+// Gets a stretch ready for the next superstep, in which the same tasks live.
 fn renew<T: OnPath>(slot: &mut Option<Part<T>>)
+    requires { (left_in (of_slot (λ part. part.deeds) slot.old) ≡ 0) × (spawned_in (of_slot (λ part. part.deeds) slot.old) ≡ 0) }
     ensures { slot.new ≡ renewed slot.old }
 {
     if let Some(part) = slot {
@@ -126,6 +128,7 @@ fn renew<T: OnPath>(slot: &mut Option<Part<T>>)
 
 // Gets all stretches ready for the next superstep, in which the same tasks live.
 fn renew_all<T: OnPath>(parts: &mut Vec<Option<Part<T>>>)
+    requires { (left_in (deeds_in parts.old.items) ≡ 0) × (spawned_in (deeds_in parts.old.items) ≡ 0) }
     ensures { parts.new.items ≡ map renewed parts.old.items }
 {
     let mut place = 0;
@@ -138,6 +141,7 @@ fn renew_all<T: OnPath>(parts: &mut Vec<Option<Part<T>>>)
 /// Moves the prints of all stretches to the end of others, which have room for them, and gets the stretches ready for the next
 /// superstep, in which the same tasks live.
 pub fn print_and_renew<T: OnPath>(parts: &mut Vec<Option<Part<T>>>, prints: &mut Vec<Print>)
+    requires stay { (left_in (deeds_in parts.old.items) ≡ 0) × (spawned_in (deeds_in parts.old.items) ≡ 0) }
     requires room { vec_len prints.old + length (prints_in parts.old.items) ≤ vec_capacity prints.old }
     ensures given { prints.new.items ≡ prints.old.items ++ prints_in parts.old.items }
     ensures renewed { parts.new.items ≡ map renewed parts.old.items }

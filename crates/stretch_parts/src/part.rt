@@ -1,23 +1,44 @@
 //! A stretch of live tasks, and what they did.
-ghost use Rattle.std.specs.Prelude.{◌≡◌, [], true, length, OnOk, OnErr};
+ghost use Rattle.std.specs.Prelude.{◌≡◌, ◌≤◌, ◌++◌, [], None, true, false, length, map, reverse, slice_get, IfSome, OnOk, OnErr};
+ghost use Rattle.std.specs.Option.{option_map};
+ghost use Rattle.superstep_memory.specs.Paths.{is_rising};
+ghost use Rattle.superstep_memory.specs.PathOrder.{in_path_order};
+ghost use Rattle.programs.specs.InPlace.{living_with};
+ghost use Rattle.programs.specs.Regroup.{AreNumbered};
+ghost use Rattle.stretch_parts.specs.Kept.{IsKept, tasks_by, deeds_by};
 ghost use Rattle.stretch_parts.specs.Parts.{HasRun, reading_of, fresh_part};
 
 use phase_records::Print;
 use programs::blame::{Blame, copy_path, task_path};
-use programs::deeds::{Change, Deeds};
+use programs::deeds::{Change, Deeds, Regrouping};
 use programs::program::{OnPath, TaskLoop};
 use programs::work::Work;
+use proof_notes::note::Notes;
 use std::alloc::{AllocError, Global};
 use std::marker::Model;
+use std::mem;
 use superstep_memory::arrays::Arrays;
 use superstep_memory::path::Path;
 use superstep_memory::puts::Puts;
 
+// What is known of tasks that the next live ones have replaced.
+#[derive(Drop)]
+pub(crate) struct Settled {
+    // How many they were, how many of them stopped, how many tasks they spawned, and how many puts they made.
+    ran: usize,
+    left: usize,
+    spawned: usize,
+    puts: usize,
+    // The path of the first of them.
+    first: Option<Path>,
+}
+
 // What a stretch of live tasks has.
 #[derive(Drop)]
-struct State<T> {
+pub(crate) struct State<T> {
     // The place of its first task among the live ones.
     first: usize,
+    // Its tasks. Once it is settled, the next live ones.
     tasks: Vec<T>,
     // Whether they have run.
     done: bool,
@@ -26,23 +47,33 @@ struct State<T> {
     deeds: Deeds<T>,
     prints: Vec<Print>,
     fault: Option<Blame>,
+    // The path of the first live task after its own, when it was cut; `None` if there was none.
+    bound: Option<Path>,
+    // Room for the next live tasks. Once it is settled, those after the bound wait in it.
+    room: Regrouping<T>,
+    // Whether the next live tasks have replaced those that ran.
+    settled: Option<Settled>,
+    // What these and their deeds were then.
+    notes: Notes<Vec<T>, Deeds<T>>,
 }
 
 /// Consecutive live tasks of a superstep, and what they did in it, each in its place. It moves with a stretch, so it is a
-/// box.
+/// box. Once it is settled, it has the next live tasks in place of those that ran; what these were is kept for proofs.
 #[derive(Drop)]
-pub struct Part<T> {
+pub struct Part<T: OnPath> {
     state: Box<State<T>>,
 }
 
-impl<T> Model for Part<T> {
+impl<T: OnPath> Model for Part<T> {
     ghost use Rattle.stretch_parts.specs.PartValue.{PartValue};
 
     ghost Value = { PartValue T };
 
-    ghost use Rattle.stretch_parts.specs.PartView.{part_of};
+    ghost use Rattle.stretch_parts.specs.PartView.{part_of, IsPartInside};
 
     ghost view = { part_of };
+
+    ghost invariant = { IsPartInside T.path_of };
 }
 
 /// Copies a blame. It takes no memory.
@@ -56,12 +87,15 @@ pub fn blame_again(blame: &Blame) -> Blame
 }
 
 impl<T: OnPath> Part<T> {
-    ghost use Rattle.std.specs.Prelude.{◌≡◌, ◌≤◌, ◌<◌, ◌+◌, ◌++◌, ◌↔◌, [], true, false, IsTrue, IfOk, OnOk, OnErr, is_some, length, map, slice_get};
+    ghost use Rattle.std.specs.Prelude.{◌≡◌, ◌≤◌, ◌<◌, ◌+◌, ◌++◌, ◌↔◌, [], Some, true, false, IsTrue, IfOk, IfSome, OnOk, OnErr, is_some, length, map, reverse, slice_get};
     ghost use Rattle.std.specs.Option.{option_map};
+    ghost use Rattle.superstep_memory.specs.Paths.{is_rising};
+    ghost use Rattle.superstep_memory.specs.PathOrder.{in_path_order};
+    ghost use Rattle.programs.specs.Regroup.{AreNumbered};
     ghost use Rattle.std.specs.Vec.{vec_len, vec_capacity};
     ghost use Rattle.std.specs.List.{list_all};
     ghost use Rattle.superstep_memory.specs.Landing.{landed, is_set};
-    ghost use Rattle.programs.specs.InPlace.{told_at, maker, left_in, spawned_in};
+    ghost use Rattle.programs.specs.InPlace.{told_at, maker, left_in, spawned_in, made_in, living_with};
     ghost use Rattle.programs.specs.Changes.{change_of, change_in};
     ghost use Rattle.stretch_parts.specs.Parts.{fresh_part};
 
@@ -84,6 +118,10 @@ impl<T: OnPath> Part<T> {
                 deeds: Deeds::new(alloc),
                 prints: Vec::new(alloc),
                 fault: None,
+                bound: None,
+                room: Regrouping::new(alloc),
+                settled: None,
+                notes: Notes::new(),
             },
         )?;
         Ok(Part { state })
@@ -99,11 +137,14 @@ impl<T: OnPath> Part<T> {
         self
     }
 
-    /// How many tasks it has.
+    /// How many tasks it has, or had when they ran.
     pub fn len(&self) -> usize
         ensures { result ≡ length self.now.tasks }
     {
-        self.state.tasks.len()
+        match &self.state.settled {
+            Some(settled) => settled.ran,
+            None => self.state.tasks.len(),
+        }
     }
 
     /// The place of its first task among the live ones.
@@ -124,9 +165,22 @@ impl<T: OnPath> Part<T> {
     pub fn first_path(&self) -> Option<Path>
         ensures { option_map (λ p. p.items) result ≡ slice_get (map T.path_of self.now.tasks) 0 }
     {
-        match self.state.tasks.first() {
-            Some(task) => Some(task_path(task)),
-            None => None,
+        match &self.state.settled {
+            Some(settled) => path_again(&settled.first),
+            None => first_of(&self.state.tasks),
+        }
+    }
+
+    /// The path of the task at this place in it, if it has one. Fails if it is settled.
+    pub fn path_at(&self, place: usize) -> Result<Option<Path>, AllocError>
+        ensures { IfOk result (λ path. option_map (λ p. p.items) path ≡ slice_get (map T.path_of self.now.tasks) place) }
+    {
+        if self.state.settled.is_some() {
+            return Err(AllocError);
+        }
+        match self.state.tasks.get(place) {
+            Some(task) => Ok(Some(task_path(task))),
+            None => Ok(None),
         }
     }
 
@@ -158,28 +212,40 @@ impl<T: OnPath> Part<T> {
     pub fn left(&self) -> usize
         ensures { result ≡ left_in self.now.deeds }
     {
-        self.state.deeds.left()
+        match &self.state.settled {
+            Some(settled) => settled.left,
+            None => self.state.deeds.left(),
+        }
     }
 
     /// How many tasks its tasks spawned.
     pub fn spawned(&self) -> usize
         ensures { result ≡ spawned_in self.now.deeds }
     {
-        self.state.deeds.spawned()
+        match &self.state.settled {
+            Some(settled) => settled.spawned,
+            None => self.state.deeds.spawned(),
+        }
     }
 
     /// Whether the same tasks live on.
     pub fn all_stay(&self) -> bool
         ensures { IsTrue result ↔ ((left_in self.now.deeds ≡ 0) × (spawned_in self.now.deeds ≡ 0)) }
     {
-        self.state.deeds.all_stay()
+        match &self.state.settled {
+            Some(_) => false,
+            None => self.state.deeds.all_stay(),
+        }
     }
 
-    /// What each of its tasks did to the list of tasks, up to the first fault.
+    /// What each of its tasks did to the list of tasks, up to the first fault. Fails if memory runs out, or if it is settled.
     pub fn changes(&self, alloc: Global) -> Result<Vec<Change>, AllocError>
         ensures { IfOk result (λ changes. map change_of changes.items ≡ map (change_in T.path_of) self.now.deeds) }
     {
-        self.state.deeds.changes(alloc)
+        match &self.state.settled {
+            Some(_) => Err(AllocError),
+            None => self.state.deeds.changes(alloc),
+        }
     }
 
     /// Whether none of its puts adds.
@@ -205,12 +271,15 @@ impl<T: OnPath> Part<T> {
         puts.append(&mut self.state.work.puts)
     }
 
-    /// Moves its tasks and deeds to the end of others.
+    /// Moves its tasks and deeds to the end of others. Fails if memory runs out, or if it is settled.
     pub fn give_tasks(&mut self, tasks: &mut Vec<T>, deeds: &mut Deeds<T>) -> Result<(), AllocError>
         ensures tasks { OnOk result (tasks.new.items ≡ tasks.old.items ++ self.old.tasks) }
         ensures deeds { OnOk result (deeds.new ≡ deeds.old ++ self.old.deeds) }
         ensures rest { OnOk result (self.new ≡ record self.old { tasks = []; deeds = [] }) }
     {
+        if self.state.settled.is_some() {
+            return Err(AllocError);
+        }
         deeds.append(&mut self.state.deeds)?;
         tasks.append(&mut self.state.tasks)?;
         Ok(())
@@ -229,16 +298,161 @@ impl<T: OnPath> Part<T> {
         }
     }
 
-    /// The same tasks before their segments of the next superstep.
+    /// The same tasks before their segments of the next superstep, if all of them live on.
     pub fn renew(&mut self)
+        requires { (left_in self.old.deeds ≡ 0) × (spawned_in self.old.deeds ≡ 0) }
         ensures { self.new ≡ fresh_part self.old.first self.old.tasks }
     {
-        self.state.done = false;
-        self.state.work.puts.clear();
-        self.state.deeds.clear();
-        self.state.prints.clear();
-        self.state.fault = None;
+        forget(&mut self.state);
     }
+
+    // Loses its tasks.
+    fn lose(&mut self)
+        ensures { self.new ≡ fresh_part self.old.first [] }
+    {
+        let state = &mut *self.state;
+        state.tasks.clear();
+        forget(state);
+    }
+
+    /// How many puts its tasks made, by their deeds. `None` if that number is too large to be kept.
+    pub fn put_count(&self) -> Option<usize>
+        ensures { IfSome result (λ count. count ≡ made_in self.now.deeds) }
+    {
+        match &self.state.settled {
+            Some(settled) => Some(settled.puts),
+            None => self.state.deeds.put_count(),
+        }
+    }
+
+    /// The fault of the task that made the put at this place of its puts. `None` if fewer were made, or if it is settled.
+    pub fn blame_at(&self, place: usize) -> Option<Blame>
+        ensures { IfSome result (λ blame. Some blame ≡ option_map told_at (maker T.path_of self.now.tasks self.now.deeds place)) }
+    {
+        match &self.state.settled {
+            Some(_) => None,
+            None => self.state.deeds.blame_at(&self.state.tasks, place),
+        }
+    }
+
+    /// Sets the path of the first live task after its own; `None` if there is none. It only says where spawned tasks go.
+    pub fn set_bound(&mut self, bound: Option<Path>)
+        ensures { self.new ≡ self.old }
+    {
+        self.state.bound = bound;
+    }
+
+    /// Replaces tasks that have run by the next live tasks, in path order, if tasks came or left: those that go on and those that
+    /// were spawned. This changes nothing of what is said of them. If memory runs out, nothing changes.
+    pub fn settle(&mut self) -> Result<(), AllocError>
+        requires done { self.old.done ≡ true }
+        requires same { length self.old.tasks ≡ length self.old.deeds }
+        requires rising { is_rising (map T.path_of self.old.tasks) ≡ true }
+        requires numbered { AreNumbered T.path_of self.old.tasks self.old.deeds }
+        ensures { self.new ≡ self.old }
+    {
+        settle_state(&mut self.state)
+    }
+
+    /// Takes the next live tasks out of it, in path order. The last of them, which may come after live tasks behind it, are put into
+    /// a list, the first by path last.
+    pub fn take_next(&mut self, alloc: Global, strays: &mut Vec<T>) -> Result<Vec<T>, AllocError>
+        requires done { self.old.done ≡ true }
+        requires same { length self.old.tasks ≡ length self.old.deeds }
+        requires rising { is_rising (map T.path_of self.old.tasks) ≡ true }
+        requires numbered { AreNumbered T.path_of self.old.tasks self.old.deeds }
+        requires none_yet { strays.old.items ≡ [] }
+        ensures next { IfOk result (λ next. next.items ++ reverse strays.new.items ≡ in_path_order T.path_of (living_with self.old.tasks self.old.deeds)) }
+        ensures rest { OnOk result (self.new ≡ fresh_part 0 []) }
+    {
+        let state = &mut *self.state;
+        settle_state(state)?;
+        mem::swap(strays, &mut state.room.waiting);
+        let next = mem::replace(&mut state.tasks, Vec::new(alloc));
+        state.first = 0;
+        forget(state);
+        Ok(next)
+    }
+}
+
+// Copies a path, if there is one.
+fn path_again(path: &Option<Path>) -> Option<Path>
+    requires { IfSome path.now (λ p. length p.items ≤ 8) }
+    ensures { option_map (λ p. p.items) result ≡ option_map (λ p. p.items) path.now }
+{
+    match path {
+        Some(path) => Some(copy_path(path)),
+        None => None,
+    }
+}
+
+/// The path of the first of these tasks, if there is one.
+pub(crate) fn first_of<T: OnPath>(tasks: &[T]) -> Option<Path>
+    ensures path { option_map (λ p. p.items) result ≡ slice_get (map T.path_of tasks.now) 0 }
+    ensures short { IfSome result (λ p. length p.items ≤ 8) }
+{
+    match tasks.first() {
+        Some(task) => Some(task_path(task)),
+        None => None,
+    }
+}
+
+// Forgets what tasks did, and whether they have run.
+fn forget<T: OnPath>(state: &mut State<T>)
+    ensures same { (state.new.first ≡ state.old.first) × (state.new.tasks.items ≡ state.old.tasks.items) }
+    ensures fresh { (state.new.done ≡ false) × (state.new.work.puts ≡ []) × (state.new.deeds ≡ []) × (state.new.prints.items ≡ []) × (state.new.fault ≡ None) }
+    ensures kept { (state.new.settled ≡ None) × (state.new.notes.items ≡ []) × (state.new.room.waiting.items ≡ []) }
+{
+    state.done = false;
+    state.work.puts.clear();
+    state.deeds.clear();
+    state.prints.clear();
+    state.fault = None;
+    state.room.waiting.clear();
+    state.settled = None;
+    state.notes = Notes::new();
+}
+
+// Replaces tasks that have run by the next live tasks, if tasks came or left. If memory runs out, nothing changes.
+fn settle_state<T: OnPath>(state: &mut State<T>) -> Result<(), AllocError>
+    requires kept { IsKept T.path_of state.old.settled state.old.tasks.items (reverse state.old.room.waiting.items) state.old.notes.items state.old.done }
+    requires done { state.old.done ≡ true }
+    requires same { length (tasks_by state.old.notes.items state.old.tasks.items) ≡ length (deeds_by state.old.notes.items state.old.deeds) }
+    requires rising { is_rising (map T.path_of (tasks_by state.old.notes.items state.old.tasks.items)) ≡ true }
+    requires numbered { AreNumbered T.path_of (tasks_by state.old.notes.items state.old.tasks.items) (deeds_by state.old.notes.items state.old.deeds) }
+    ensures kept { IsKept T.path_of state.new.settled state.new.tasks.items (reverse state.new.room.waiting.items) state.new.notes.items state.new.done }
+    ensures tasks { tasks_by state.new.notes.items state.new.tasks.items ≡ tasks_by state.old.notes.items state.old.tasks.items }
+    ensures deeds { deeds_by state.new.notes.items state.new.deeds ≡ deeds_by state.old.notes.items state.old.deeds }
+    ensures rest { (state.new.first ≡ state.old.first) × (state.new.done ≡ state.old.done) × (state.new.work ≡ state.old.work) × (state.new.prints ≡ state.old.prints) × (state.new.fault ≡ state.old.fault) }
+    ensures next { OnOk result (state.new.tasks.items ++ reverse state.new.room.waiting.items
+        ≡ in_path_order T.path_of (living_with (tasks_by state.old.notes.items state.old.tasks.items) (deeds_by state.old.notes.items state.old.deeds))) }
+{
+    if state.settled.is_some() || state.deeds.all_stay() {
+        return Ok(());
+    }
+    let ran = state.tasks.len();
+    let left = state.deeds.left();
+    let spawned = state.deeds.spawned();
+    let Some(puts) = state.deeds.put_count() else {
+        return Err(AllocError);
+    };
+    let Some(count) = (ran - left).checked_add(spawned) else {
+        return Err(AllocError);
+    };
+    let first = first_of(&state.tasks);
+    let notes = Notes::new().and(&state.tasks, &state.deeds);
+    state
+        .deeds
+        .regroup_within(&mut state.tasks, &mut state.room, count, &state.bound)?;
+    state.notes = notes;
+    state.settled = Some(Settled {
+        ran,
+        left,
+        spawned,
+        puts,
+        first,
+    });
+    Ok(())
 }
 
 /// Runs the tasks of a stretch, each in its place, over these arrays. Out of memory, the tasks are lost.
@@ -256,6 +470,10 @@ pub fn run_part<P: TaskLoop>(
     ensures place { part.new.first ≡ part.old.first }
     ensures lost { OnErr result (part.new ≡ fresh_part part.old.first []) }
 {
+    if part.state.settled.is_some() {
+        part.lose();
+        return Err(AllocError);
+    }
     let state = &mut *part.state;
     state.work.puts.clear();
     state.deeds.clear();
@@ -278,8 +496,7 @@ pub fn run_part<P: TaskLoop>(
             Ok(())
         }
         Err(fault) => {
-            state.tasks.clear();
-            part.renew();
+            part.lose();
             Err(fault)
         }
     }

@@ -12,7 +12,7 @@ use superstep_memory::arrays::Arrays;
 
 /// What a run begins with: the arrays, for two that share them, and the stretches of `count` tasks.
 #[derive(Drop)]
-pub struct Ready<T> {
+pub struct Ready<T: OnPath> {
     /// The arrays.
     pub arrays: Arc<Arrays>,
     /// The same arrays, for the other.

@@ -1,11 +1,12 @@
 use Rattle.std.proofs.Common.{◌≡◌, ◌+◌, ◌-◌, ◌≤◌, reverse, length}
+use Rattle.std.specs.Option.{option_map}
 use Rattle.std.specs.Vec.{vec_len, vec_capacity}
 use Rattle.programs.specs.Regroup.{HasMovedEarly}
 use Rattle.programs.proofs.deeds.move_early.Given as goal
 
 abbrev pub invariant-loop-left : goal.invariant-loop-left
 invariant-loop-left g l = record {
-  moved : HasMovedEarly g.T.OnPath.path_of (reverse l.fn.tasks) l.fn.living.items l.living.items (reverse l.fn.spawns.items) (reverse l.spawns.items) (l.fn.count - l.left);
+  moved : HasMovedEarly g.T.OnPath.path_of (option_map (λ p. p.items) l.fn.bound) (reverse l.fn.tasks) l.fn.living.items l.living.items (reverse l.fn.spawns.items) (reverse l.spawns.items) (l.fn.count - l.left);
   left : l.left ≤ l.fn.count;
   enough : l.left ≤ length l.spawns.items;
   room : vec_len l.living + l.left ≤ vec_capacity l.living;

@@ -1,18 +1,20 @@
 use Rattle.std.proofs.Common.{◌≡◌, ◌+◌, ◌++◌, ◌∷◌, List, arith, ◌∙◌, sym, ap, subst, length, reverse}
 use Rattle.std.specs.Prelude.{take}
+use Rattle.std.specs.Option.{option_map}
 use Rattle.std.proofs.lemmas.List.{length-append, length-reverse}
 use Rattle.superstep_memory.specs.PathOrder.{in_path_order}
 use Rattle.programs.specs.DeedsView.{behind, deeds_with, spawned_by}
 use Rattle.programs.specs.InPlace.{living_with, kept}
-use Rattle.programs.specs.Regroup.{HasPut}
+use Rattle.programs.specs.Regroup.{AreWithin, HasPut}
 use Rattle.programs.proofs.Listed.{behind_length, take_length}
-use Rattle.programs.proofs.Regrouping.{IsAlong, goes_along, ends_along}
+use Rattle.programs.proofs.Regrouping.{IsAlong, goes_along, goes_within, ends_apart, ends_within, outside}
 use Rattle.programs.proofs.Turned.{reverse_last, reverse_none}
 use Rattle.programs.proofs.deeds.put_in_order.Goals as goal
 
 pub loop-deed-preserved : goal.loop-deed-preserved
 loop-deed-preserved g c =
     let q = g.T.OnPath.path_of in
+    let bound = option_map (λ p. p.items) c.args.bound.now in
     let v = c.loop-deed.invariant in
     let d = c.in-Some.deed in
     let u = c.in-Some-pop.task in
@@ -37,15 +39,21 @@ loop-deed-preserved g c =
     let along : IsAlong q end c.loop-deed.living.items (reverse c.loop-deed.waiting.items) (u ∷ us) (deeds_with (d ∷ es) ss) =
     subst (λ (xs : List g.row.T.Denot). IsAlong q end c.loop-deed.living.items (reverse c.loop-deed.waiting.items) xs (deeds_with (d ∷ es) ss)) tasks
     (subst (λ xs. IsAlong q end c.loop-deed.living.items (reverse c.loop-deed.waiting.items) (reverse c.loop-deed.tasks.items) (deeds_with xs ss)) each v.along) in
+    let put : HasPut q bound u d.synced us (take d.spawned ss) c.loop-deed.living.items c.put_next.new.living.items (reverse c.loop-deed.waiting.items) (reverse c.put_next.new.waiting.items) =
+    subst (λ (xs : List g.row.T.Denot). HasPut q bound u d.synced (reverse xs) (take d.spawned ss) c.loop-deed.living.items c.put_next.new.living.items (reverse c.loop-deed.waiting.items) (reverse c.put_next.new.waiting.items))
+    c.deref.ensures.value c.put_next.ensures.put in
     record {
       same = omega (arith, v.same, c.in-Some-pop.ensures.cases, c.in-Some.ensures.cases);
       all = omega (arith, total, rest, long, shorter);
       along =
           subst (λ (xs : List g.row.T.Denot). IsAlong q end c.put_next.new.living.items (reverse c.put_next.new.waiting.items) us (deeds_with es xs)) (sym left)
-          (goes_along q end c.loop-deed.living.items (reverse c.loop-deed.waiting.items) us c.put_next.new.living.items (reverse c.put_next.new.waiting.items) u
+          (goes_along q bound end c.loop-deed.living.items (reverse c.loop-deed.waiting.items) us c.put_next.new.living.items (reverse c.put_next.new.waiting.items) u
           (record { synced = d.synced; puts = d.puts; spawns = take d.spawned ss }) (deeds_with es (behind d.spawned ss)) along
-          (subst (λ (xs : List g.row.T.Denot). HasPut q u d.synced (reverse xs) (take d.spawned ss) c.loop-deed.living.items c.put_next.new.living.items (reverse c.loop-deed.waiting.items) (reverse c.put_next.new.waiting.items))
-          c.deref.ensures.value c.put_next.ensures.put));
+          put);
+      within = λ h.
+          let w = v.within h in
+          let here : AreWithin q bound (u ∷ us) = subst (AreWithin q bound) tasks w.1 in
+          (goes_within q bound c.loop-deed.living.items (reverse c.loop-deed.waiting.items) us c.put_next.new.living.items (reverse c.put_next.new.waiting.items) (take d.spawned ss) u d.synced put w.0 here, here.1);
       room = omega (arith, v.room, many, split, parts, taken, fewer, c.put_next.ensures.count, c.put_next.ensures.room.0);
       wait = omega (arith, v.wait, c.put_next.ensures.wait, c.put_next.ensures.room.1, rest, long, shorter);
     }
@@ -54,9 +62,26 @@ pub returns-clause-living : goal.returns-clause-living
 returns-clause-living g c =
     let q = g.T.OnPath.path_of in
     let v = c.loop-deed.invariant in
+    let bound = option_map (λ p. p.items) c.args.bound.now in
     let end = in_path_order q (living_with (reverse c.args.tasks.now.items) (deeds_with (reverse c.args.each.now.items) (reverse c.args.spawns.now.items))) in
     let ds = deeds_with (reverse c.loop-deed.each.items) (reverse c.loop-deed.spawns.items) in
     let none = reverse_none c.loop-deed.tasks.items (omega (arith, v.same, c.in_default.ensures.cases)) in
-    c.move_all.ensures.moved
-    ∙ ends_along q end c.loop-deed.living.items (reverse c.loop-deed.waiting.items) ds
-    (subst (λ (xs : List g.row.T.Denot). IsAlong q end c.loop-deed.living.items (reverse c.loop-deed.waiting.items) xs ds) none v.along)
+    ends_apart q bound end c.loop-deed.living.items (reverse c.loop-deed.waiting.items) c.move_within.new.living.items (reverse c.move_within.new.waiting.items) ds
+    (subst (λ (xs : List g.row.T.Denot). IsAlong q end c.loop-deed.living.items (reverse c.loop-deed.waiting.items) xs ds) none v.along) c.move_within.ensures.moved
+
+pub returns-clause-strays : goal.returns-clause-strays
+returns-clause-strays g c =
+    let q = g.T.OnPath.path_of in
+    let v = c.loop-deed.invariant in
+    let bound = option_map (λ p. p.items) c.args.bound.now in
+    let end = in_path_order q (living_with (reverse c.args.tasks.now.items) (deeds_with (reverse c.args.each.now.items) (reverse c.args.spawns.now.items))) in
+    let ds = deeds_with (reverse c.loop-deed.each.items) (reverse c.loop-deed.spawns.items) in
+    let none = reverse_none c.loop-deed.tasks.items (omega (arith, v.same, c.in_default.ensures.cases)) in
+    outside q bound end c.loop-deed.living.items (reverse c.loop-deed.waiting.items) c.move_within.new.living.items (reverse c.move_within.new.waiting.items) ds
+    (subst (λ (xs : List g.row.T.Denot). IsAlong q end c.loop-deed.living.items (reverse c.loop-deed.waiting.items) xs ds) none v.along) c.move_within.ensures.moved c.move_within.ensures.rest
+
+pub returns-clause-within : goal.returns-clause-within
+returns-clause-within g c = λ h.
+    let q = g.T.OnPath.path_of in
+    let bound = option_map (λ p. p.items) c.args.bound.now in
+    ends_within q bound c.loop-deed.living.items (reverse c.loop-deed.waiting.items) c.move_within.new.living.items (reverse c.move_within.new.waiting.items) c.move_within.ensures.moved (c.loop-deed.invariant.within h).0

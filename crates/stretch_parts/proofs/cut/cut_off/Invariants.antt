@@ -1,4 +1,4 @@
-use Rattle.std.proofs.Common.{◌≡◌, ◌<◌, ◌++◌, length, reverse}
+use Rattle.std.proofs.Common.{◌≡◌, ◌<◌, ◌+◌, ◌^◌, ◌++◌, length, reverse}
 use Rattle.std.specs.Vec.{vec_len, vec_capacity}
 use Rattle.stretch_parts.specs.Parts.{AreFresh, tasks_in}
 use Rattle.stretch_parts.proofs.cut.cut_off.Given as goal
@@ -6,8 +6,9 @@ use Rattle.stretch_parts.proofs.cut.cut_off.Given as goal
 abbrev pub invariant-loop-alloc : goal.invariant-loop-alloc
 invariant-loop-alloc g l = record {
   room : vec_len l.parts < vec_capacity l.parts;
-  fresh : AreFresh (length l.rest.items) (reverse l.parts.items);
-  tasks : l.rest.items ++ tasks_in (reverse l.parts.items) ≡ l.fn.rest.items;
+  end : l.fn.from + length l.rest.items < 2 ^ 64;
+  fresh : AreFresh (l.fn.from + length l.rest.items) (reverse l.parts.items);
+  tasks : l.rest.items ++ tasks_in (reverse l.parts.items) ≡ l.fn.rest.items ++ tasks_in (reverse l.fn.parts.items);
 }
 
 abbrev pub decreases-loop-alloc : goal.decreases-loop-alloc

@@ -1,13 +1,14 @@
 use Rattle.std.proofs.Common.{◌≡◌, ◌∙◌, true, List, [], Option, Some, None, map, ap, sym, subst, inl}
 use Rattle.program_stretches.specs.declared.fault.Outcome.TheVariants.{Faulted}
 use Rattle.stretch_parts.specs.PartValue.{PartValue}
+use Rattle.stretch_parts.specs.Next.{CanAllSettle}
 use Rattle.stretch_parts.specs.Parts.{reading_of, EachDid, covers, fault_in, tasks_in, puts_in, deeds_in, prints_in}
 use Rattle.program_stretches.specs.Opening.{live_of}
 use Rattle.program_stretches.specs.StretchesValue.{StretchesValue, status_in, HaveRun}
 use Rattle.program_stretches.specs.StretchesView.{stretches_of}
 use Rattle.program_stretches.specs.Closing.{EndsBy, IsClosed}
 use Rattle.program_stretches.proofs.Closed.{after_with, closed_from, closed_end, open_now, begun_now, run_now, fault_now}
-use Rattle.program_stretches.proofs.EachDone.{live_rise, each_did}
+use Rattle.program_stretches.proofs.EachDone.{live_rise, each_did, each_can}
 use Rattle.program_stretches.proofs.stretches.Stretches.close.Goals as goal
 
 pub end-requires-clause-ends : goal.end-requires-clause-ends
@@ -115,3 +116,17 @@ go_on-requires-clause-each g c =
     let o = open_now m v h covered run in
     subst EachDid (sym parts)
     (each_did (m v.program) law v.arrays v.step (live_of o.opening) (live_rise m v law h.live h.after (live_of o.opening) o.lives) v.count 0 v.parts o.own covered quiet)
+
+pub go_on-requires-clause-can : goal.go_on-requires-clause-can
+go_on-requires-clause-can g c =
+    let m = reading_of g.P.Program.frame g.P.Program.may g.P.Program.meant g.P.Task.OnPath.path_of in
+    let v = stretches_of c.self.inside in
+    let law = g.met.P.Program.keeps_paths v.program in
+    let h = c.self.invariant.course in
+    let run = ap (λ (x : StretchesValue g.row.P.Denot g.row.P-Task.Denot). status_in x) c.self.view_is ∙ c.requires.running in
+    let covered : covers true v.count 0 v.parts ≡ true = sym (c.cover.ensures ∙ ap (covers true v.count 0) c.deref.ensures.value) ∙ c.if-not-cover.false in
+    let parts = ap (λ x. x.items) c.replace-parts.ensures.value in
+    let quiet : fault_in v.parts ≡ None = sym (c.find_fault.ensures ∙ ap fault_in (c.deref-2.ensures.value ∙ parts)) ∙ c.in_default.is in
+    let o = open_now m v h covered run in
+    subst (CanAllSettle g.P.Task.OnPath.path_of) (sym parts)
+    (each_can (m v.program) law v.arrays v.step (live_of o.opening) (live_rise m v law h.live h.after (live_of o.opening) o.lives) v.count 0 v.parts o.own covered quiet)

@@ -10,7 +10,7 @@ use Rattle.program_stretches.specs.Closing.{EndsBy}
 use Rattle.program_stretches.proofs.Closed.{fit, ends_many, closed_end, have_same, tasks_on, deeds_on, prints_on, covers_on}
 use Rattle.program_stretches.proofs.Reopening.{if_ok, none_moved, reopened_from}
 use Rattle.program_stretches.proofs.stretches.Stretches.go_on.Goals.{else-left-eq0-via-then-left-eq0+else-spawned-eq0, else-left-eq0-via-else-left-eq0}
-use Rattle.program_stretches.proofs.EachDone.{each_also}
+use Rattle.program_stretches.proofs.EachDone.{each_also, can_also}
 use Rattle.program_stretches.proofs.stretches.Stretches.go_on.Goals as goal
 
 counted_there : (o : Option ℕ) (A : Type 0) (F : ℕ → Type 0) → MatchOption o A F → {x : ℕ} → o ≡ Some x → F x
@@ -297,3 +297,6 @@ stay-requires-clause-each g c = each_also c.join_adds.new.parts.items c.args.par
 
 pub move_on-requires-clause-each : goal.move_on-requires-clause-each
 move_on-requires-clause-each g c = each_also c.join_adds.new.parts.items c.args.parts.items c.in_ok-join_adds.ensures.rest c.requires.each
+
+pub move_on-requires-clause-can : goal.move_on-requires-clause-can
+move_on-requires-clause-can g c = can_also g.P.Task.OnPath.path_of c.join_adds.new.parts.items c.args.parts.items c.in_ok-join_adds.ensures.rest c.requires.can

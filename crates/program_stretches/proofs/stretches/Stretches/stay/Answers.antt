@@ -128,3 +128,9 @@ returns-in_ok-reopen-in-None-clause-reopened g c =
       c.requires.each,
       tasks ∙ is_next ∙ ap (in_path_order g.P.Task.OnPath.path_of) (living_joined c.args.parts.items c.requires.each),
     )
+
+pub print_and_renew-requires-clause-stay : goal.print_and_renew-requires-clause-stay
+print_and_renew-requires-clause-stay g c = (
+  sym (ap (λ (r : PhaseRecord). r.left) c.requires.told) ∙ c.requires.stays.0,
+  sym (ap (λ (r : PhaseRecord). r.spawned) c.requires.told) ∙ c.requires.stays.1,
+)
