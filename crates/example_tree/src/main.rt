@@ -3,28 +3,28 @@
 #![tactic(auto)]
 
 use phasers::parties::{Parties, PartiesArrived};
-use phasers::tree::{AwaitedAdvance, Brought, EndPlan, Joined, Party, PhaserTree};
+use phasers::tree::{EndPlan, Party, PhaserTree};
 use std::sync::Wait;
 use std::thread;
 
 // Meets the others until the tree ends, and returns the last phase in which this thread took part.
 fn last_phase<R: Wait>(rt: &R, (number, mut own): (usize, Party<'_>)) -> u32 {
-    let mut other = Brought::AllArrived;
+    let mut other = None;
     for _ in rt.forever() {
         match (number, own.phase()) {
-            (0, 3) => other = own.bring(rt, 1, 1000),
+            (0, 3) => other = own.bring(rt, 1).ok(),
             (1, 5) => break,
             _ => {}
         }
-        if let Brought::Joined(party, _) = &mut other {
+        if let Some(party) = &mut other {
             party.arrive(rt);
         }
-        if let AwaitedAdvance::Ended(_) = own.meet(rt) {
+        if own.meet(rt).is_err() {
             break;
         }
     }
     let last = own.phase();
-    own.leave(rt);
+    let _ = own.leave(rt);
     last
 }
 
@@ -54,7 +54,7 @@ fn stands_for<R: Wait>(rt: &R, mut parties: Parties<'_>) -> u32 {
         }
     }
     let left = parties.size();
-    parties.leave_all(rt);
+    let _ = parties.leave_all(rt);
     left
 }
 
@@ -63,9 +63,7 @@ fn main(rt: HostRuntime) -> anyhow::Result<()> {
     let mut guest = tree.guest();
     let mut parties = Vec::new(rt.alloc());
     for number in 0..4 {
-        if let Joined::Joined(party, _) = guest.split().join(&rt, number) {
-            parties.push((number, party))?;
-        }
+        parties.push((number, guest.split().join(&rt, number)?))?;
     }
     let last = thread::map_vec(&rt, parties, &|it: (usize, Party<'_>)| last_phase(&rt, it))?;
     println!(rt; "{last:?}")?;

@@ -18,6 +18,7 @@ pub use Rattle.tier_calls.specs.Passes
 pub use Rattle.tier_calls.specs.Polls
 pub use Rattle.tier_calls.specs.Registers
 pub use Rattle.tier_calls.specs.Waited
+pub use Rattle.tier_calls.specs.Watches
 pub use Rattle.tier_shape.specs.Faults
 pub use Rattle.tier_shape.specs.Leaves
 pub use Rattle.tier_shape.specs.Preferred
@@ -30,6 +31,7 @@ pub use Rattle.tier_calls.specs.ArrivesAll
 pub use Rattle.tier_calls.specs.ArrivesWith
 pub use Rattle.tier_table.specs.GroupsAtLast
 pub use Rattle.tier_table.specs.GroupMembersAtLast
+pub mod Late
 pub mod Thin
 pub mod Together
 pub mod Trying

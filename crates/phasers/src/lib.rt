@@ -10,13 +10,15 @@
 //! * [`PhaserTree`](tree::PhaserTree): the tree. It ends as its [`EndPlan`](tree::EndPlan) says: `EndPlan::when_empty()`, or
 //!   `EndPlan::at_phase(p)` with the end of phase `p`. Then each call returns `Ended`.
 //! * [`Guest`](tree::Guest): a token without members. `split` makes another, one for each thread; `join` registers one
-//!   member at the leaf of a number, `register` several at a tier; `force` ends the tree.
+//!   member at the leaf of a number, `register` several at a tier; `await_phase` waits for a phase; `force` ends the tree.
 //! * [`Party`](tree::Party): a token with members, all at one tier. `meet` arrives and waits; `arrive` and `await_advance`
 //!   are its two halves; `poll` and `try_meet` don't wait. `bring` registers more members, `leave` takes one away.
+//!   Registrations and `meet` return a `Result`, whose errors `?` takes.
 //! * [`Parties`](parties::Parties): members that arrive together, for a thread that takes part for many.
 //!   `PhaserTree::with_parties` registers some at each leaf of a new tree, `Guest::join_all` at one leaf. `meet_all` arrives
 //!   with all of them and waits, `arrive_with` also lets new members join and old ones leave, `leave_all` and `leave_some`
 //!   let members leave. Each takes one exchange of a word, however many members they are.
+//! * [`Seat`](tree::Seat): a place in which one thread leaves a party for another, which joins late.
 //! * [`OnAdvance`](tree::OnAdvance): a hook of your own, which `PhaserTree::with_hook` runs at each advance.
 //!
 //! `PhaserTree::close` returns the words of the tiers at the end, when all tokens are gone.
@@ -27,28 +29,28 @@
 //!
 //! ```
 //! use phasers::parties::{Parties, PartiesArrived};
-//! use phasers::tree::{AwaitedAdvance, Brought, EndPlan, Joined, Party, PhaserTree};
+//! use phasers::tree::{EndPlan, Party, PhaserTree};
 //! use std::sync::Wait;
 //! use std::thread;
 //!
 //! // Meets the others until the tree ends, and returns the last phase in which this thread took part.
 //! fn last_phase<R: Wait>(rt: &R, (number, mut own): (usize, Party<'_>)) -> u32 {
-//!     let mut other = Brought::AllArrived;
+//!     let mut other = None;
 //!     for _ in rt.forever() {
 //!         match (number, own.phase()) {
-//!             (0, 3) => other = own.bring(rt, 1, 1000),
+//!             (0, 3) => other = own.bring(rt, 1).ok(),
 //!             (1, 5) => break,
 //!             _ => {}
 //!         }
-//!         if let Brought::Joined(party, _) = &mut other {
+//!         if let Some(party) = &mut other {
 //!             party.arrive(rt);
 //!         }
-//!         if let AwaitedAdvance::Ended(_) = own.meet(rt) {
+//!         if own.meet(rt).is_err() {
 //!             break;
 //!         }
 //!     }
 //!     let last = own.phase();
-//!     own.leave(rt);
+//!     let _ = own.leave(rt);
 //!     last
 //! }
 //!
@@ -78,7 +80,7 @@
 //!         }
 //!     }
 //!     let left = parties.size();
-//!     parties.leave_all(rt);
+//!     let _ = parties.leave_all(rt);
 //!     left
 //! }
 //!
@@ -87,9 +89,7 @@
 //!     let mut guest = tree.guest();
 //!     let mut parties = Vec::new(rt.alloc());
 //!     for number in 0..4 {
-//!         if let Joined::Joined(party, _) = guest.split().join(&rt, number) {
-//!             parties.push((number, party))?;
-//!         }
+//!         parties.push((number, guest.split().join(&rt, number)?))?;
 //!     }
 //!     let last = thread::map_vec(&rt, parties, &|it: (usize, Party<'_>)| last_phase(&rt, it))?;
 //!     println!(rt; "{last:?}")?;
@@ -185,16 +185,21 @@
 //! * A thread with an unarrived member that registers another one by `join` or `register` at another tier: if all
 //!   parties there have arrived, the call waits for the next phase, which waits for this thread. Use `bring`, which stays
 //!   at one tier.
+//! * A thread that waits, with an unarrived member, until another thread has joined by `join` or `register`: the same may
+//!   happen to the other. Bring a party by `bring`, and hand it to the other thread by a [`Seat`](tree::Seat). A thread that waits for nobody may join
+//!   at any time, after `await_phase` too: it then joins the phase that runs.
+//! * A thread that waits for a phase by `await_phase` while it has an unarrived member: the phase waits for the thread.
 //! * A thread that gives up without a word. A party that is dropped stays registered, and the others wait for it: call
 //!   `leave` first, or `force` the tree to end. At a barrier, call `break_off`.
 //! * A hook that calls its tree, or an action that calls its barrier.
 //!
 //! # What is in it
 //!
-//! * [`tree`]: the types above; their answers, [`Joined`](tree::Joined), [`Departed`](tree::Departed),
-//!   [`Brought`](tree::Brought), [`Met`](tree::Met), [`Settled`](tree::Settled), [`ArrivedInPlace`](tree::ArrivedInPlace),
-//!   [`Polled`](tree::Polled), [`AwaitedAdvance`](tree::AwaitedAdvance) and [`Forced`](tree::Forced); [`Shape`](tree::Shape), which tier is
-//!   whose parent; [`Tree`](tree::Tree), the same tree with a closure that ends it and calls that never wait;
+//! * [`tree`]: the types above; their answers, [`Departed`](tree::Departed), [`Met`](tree::Met),
+//!   [`Settled`](tree::Settled), [`ArrivedInPlace`](tree::ArrivedInPlace), [`Polled`](tree::Polled),
+//!   [`AwaitedAdvance`](tree::AwaitedAdvance) and [`Forced`](tree::Forced), and errors, [`JoinError`](tree::JoinError),
+//!   [`BringError`](tree::BringError), [`MeetError`](tree::MeetError) and [`TreeEnded`](tree::TreeEnded);
+//!   [`Shape`](tree::Shape), which tier is whose parent; [`Tree`](tree::Tree), the same tree with a closure that ends it and calls that never wait;
 //!   [`Core`](tree::Core), the tree as a value, one step at a time.
 //! * [`barrier`]: the types above; [`CyclicGate`](barrier::CyclicGate), the same barrier with a closure that may fail;
 //!   [`BarrierCore`](barrier::BarrierCore), the barrier as a value.
@@ -202,12 +207,16 @@
 //!   closure that ends it.
 //!
 //! Your contracts may cite the definitions that the calls use. There, a `Guest` or a `Party` is a `Holding`, like the token
-//! inside it.
+//! inside it, and a `PhaserTree` is its first token, off which `guest` splits others.
 #![tactic(auto)]
 
+mod answers;
 pub mod barrier;
+mod beside;
+mod late;
 pub mod parties;
 pub mod phaser;
+mod seat;
 mod shared;
 pub mod tree;
 mod trying;

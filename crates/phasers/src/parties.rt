@@ -69,6 +69,7 @@ impl<'a, A: OnAdvance> Model for Parties<'a, A> {
 
 /// The answer of a registration of several members: [`Guest::join_all`](crate::tree::Guest::join_all).
 #[derive(Drop)]
+#[must_use]
 pub enum JoinedParties<'a, A: OnAdvance = NoHook> {
     /// All members have joined. They are unarrived in this phase: meet by the parties.
     Joined(Parties<'a, A>, u32),
@@ -115,6 +116,7 @@ pub enum Unjoined<'a, A: OnAdvance = NoHook> {
 
 /// The answer of an arrival of all members.
 #[derive(Drop)]
+#[must_use]
 pub enum PartiesArrived<'a, A: OnAdvance = NoHook> {
     /// All members have arrived, or have left.
     Done {
@@ -135,6 +137,7 @@ pub enum PartiesArrived<'a, A: OnAdvance = NoHook> {
 
 /// The answer of [`Parties::bring_all`].
 #[derive(Drop)]
+#[must_use]
 pub enum PartiesBrought<'a, A: OnAdvance = NoHook> {
     /// The new members have joined. Like the others, they have not arrived in this phase.
     Joined(Parties<'a, A>, u32),
@@ -149,6 +152,7 @@ pub enum PartiesBrought<'a, A: OnAdvance = NoHook> {
 
 /// The answer of [`Parties::leave_all`].
 #[derive(Drop)]
+#[must_use]
 pub enum PartiesLeft<'a, A: OnAdvance = NoHook> {
     /// All members have left. Register by the guest to take part again, or drop it.
     Left {
@@ -262,8 +266,8 @@ impl<A: OnAdvance> PhaserTree<A> {
         rt: &R,
         counts: &[u32],
     ) -> Result<(Guest<'_, A>, Vec<Parties<'_, A>>), Unjoined<'_, A>>
-        ensures joined { IfOk result (λ r. BeginsIn self.old counts.now r.0 r.1.items) }
-        ensures refused { IfErr result (λ fault. BeginsNotIn TRIES self.old counts.now fault) }
+        ensures joined { IfOk result (λ r. BeginsIn self.old.tree counts.now r.0 r.1.items) }
+        ensures refused { IfErr result (λ fault. BeginsNotIn TRIES self.old.tree counts.now fault) }
     {
         let mut guest = self.guest();
         match guest.join_leaves(alloc, rt, counts) {

@@ -11,16 +11,18 @@ ghost use Rattle.tier_calls.specs.Polls as polls;
 ghost use Rattle.tier_calls.specs.Waited.{PollWaited};
 ghost use Rattle.tier_calls.specs.Forces.{Forces, ForcedBy};
 ghost use Rattle.tier_calls.specs.Forces as forces;
-ghost use Rattle.tier_steps.specs.declared.view.Passage.TheVariants.{Departure};
 ghost use Rattle.tier_calls.specs.Made.{HasEntered, HasLooked};
-ghost use Rattle.tier_table.specs.AtLast.{token_admitted, token_counted, PassedBy, RegistersAtLast, ArrivesAtLast, LedAtLast, AwaitsAdvance, AwaitWaited, HasEndedJoin, HasEndedArrival, HasEndedWait};
+ghost use Rattle.tier_table.specs.AtLast.{token_admitted, token_counted, LedAtLast, RegistersAtLast, AwaitsAdvance, AwaitWaited, HasEndedJoin, HasEndedArrival, HasEndedWait};
 ghost use Rattle.tier_table.specs.AtLast as at_last;
 ghost use Rattle.tier_shape.specs.Leaves.{leaves_of};
 ghost use Rattle.tier_shape.specs.Preferred.{leaf_at};
 ghost use Rattle.tier_shape.specs.Faults.{fault_number};
 ghost use Rattle.tier_shape.specs.Told.{shape_told};
-ghost use Rattle.phasers.specs.Thin.{admitted_of, counted_of, Meets, Brings, HasEndedBringing, LeavesWords};
+ghost use Rattle.phasers.specs.Thin.{IsFirst, admitted_of, awaited_of, counted_of, Meets, Brings, Leaves, HasEndedBringing, LeavesWords};
 
+pub use crate::answers::{BringError, Departed, JoinError, MeetError, TreeEnded};
+use crate::beside::{join_beside_wait, leave_next};
+pub use crate::seat::Seat;
 use crate::shared::SharedTree;
 pub use crate::shared::{NoHook, OnAdvance};
 pub use crate::trying::{Met, Owed, Settled};
@@ -31,16 +33,14 @@ use std::marker::Model;
 use std::sync::Wait;
 pub use tier_calls::forcing::Forced;
 pub use tier_calls::in_place::ArrivedInPlace;
-use tier_calls::joining::Registered;
 pub use tier_calls::polling::Polled;
 use tier_calls::tokens::{Crew, Door, Token};
 pub use tier_core::tree::Core;
 pub use tier_shape::{Shape, ShapeFault};
+use tier_table::TRIES;
 pub use tier_table::tree::Tree;
 pub use tier_table::waiting::AwaitedAdvance;
-use tier_table::waiting::{
-    ArrivedAtLast, RegisteredAtLast, await_advance, open_wait, register_wait,
-};
+use tier_table::waiting::{ArrivedAtLast, RegisteredAtLast, await_advance, register_wait};
 
 /// A tree of phasers that ends as its plan says (Java SE 21, tiered `Phaser`s).
 ///
@@ -52,10 +52,10 @@ use tier_table::waiting::{
 /// let mut tree = PhaserTree::from_widths(rt.alloc(), "2", plan).expect(&rt, "a tree");
 /// let mut guest = tree.guest();
 /// // The only member meets in phases 0 and 1; the tree ends with phase 2.
-/// if let Joined::Joined(mut party, _) = guest.split().join(&rt, 0) {
-///     assert!(rt; party.meet(&rt) == AwaitedAdvance::Passed(1));
-///     assert!(rt; party.meet(&rt) == AwaitedAdvance::Passed(2));
-///     assert!(rt; matches!(party.meet(&rt), AwaitedAdvance::Ended(_)));
+/// if let Ok(mut party) = guest.split().join(&rt, 0) {
+///     assert!(rt; party.meet(&rt) == Ok(1));
+///     assert!(rt; party.meet(&rt) == Ok(2));
+///     assert!(rt; matches!(party.meet(&rt), Err(MeetError::Ended(_))));
 /// }
 /// ```
 #[derive(Drop)]
@@ -66,11 +66,11 @@ pub struct PhaserTree<A: OnAdvance = NoHook> {
 
 impl<A: OnAdvance> Model for PhaserTree<A> {
     ghost use Rattle.std.specs.Prelude.{◌≡◌};
-    ghost use Rattle.tier_calls.specs.Holding.{Named};
+    ghost use Rattle.tier_calls.specs.Holding.{Holding};
 
-    ghost Value = { Named };
+    ghost Value = { Holding };
 
-    ghost view = { λ t. t.shared };
+    ghost view = { λ t. t.first };
 
     ghost invariant = { λ t. t.first.tree ≡ t.shared };
 }
@@ -111,61 +111,6 @@ impl<'a, A: OnAdvance> Model for Party<'a, A> {
     ghost invariant = { λ p. p.crew.tree ≡ p.shared.now };
 }
 
-/// The answer of a registration.
-#[derive(Drop)]
-pub enum Joined<'a, A: OnAdvance = NoHook> {
-    /// The members have joined. The party has them, and the number is its phase: meet by the party.
-    Joined(Party<'a, A>, u32),
-    /// There is no room: a tier of the path has this many parties, and 65535 is the most. Nobody has joined. Try another
-    /// tier, or wait until members have left.
-    Full(Guest<'a, A>, u32),
-    /// The tree has ended, and shows this number as its phase, which is negative. Nobody can join any more.
-    Ended(Guest<'a, A>, i32),
-}
-
-/// The answer of a departure.
-#[derive(Drop)]
-pub enum Departed<'a, A: OnAdvance = NoHook> {
-    /// A member has left, and the party has others.
-    Done {
-        /// The party without that member.
-        party: Party<'a, A>,
-        /// The phase in which it left.
-        phase: u32,
-        /// Whether the call took the advance.
-        led: bool,
-    },
-    /// The last member has left. Register by the guest to take part again, or drop it.
-    Left {
-        /// The token, without members now.
-        guest: Guest<'a, A>,
-        /// The phase in which the member left.
-        phase: u32,
-        /// Whether the call took the advance.
-        led: bool,
-    },
-    /// All members had arrived in this phase before, so none could leave in it. Call `await_advance` first.
-    AlreadyArrived(Party<'a, A>, u32),
-    /// The tree has ended, and shows this number as its phase, which is negative. Nobody has to leave any more.
-    Ended(Party<'a, A>, i32),
-}
-
-/// The answer of a party that brings new members.
-#[derive(Drop)]
-pub enum Brought<'a, A: OnAdvance = NoHook> {
-    /// The members have joined. The new party has them, and the number is its phase.
-    Joined(Party<'a, A>, u32),
-    /// There is no room: the tier has this many parties, and 65535 is the most. Nobody has joined.
-    Full(Guest<'a, A>, u32),
-    /// The tree has ended, and shows this number as its phase, which is negative. Nobody can join any more.
-    Ended(Guest<'a, A>, i32),
-    /// All tries failed, and nobody has joined. Call again.
-    Busy(Guest<'a, A>),
-    /// All members of the party have arrived, and nothing was done. Bring others before the last member arrives, or in
-    /// the next phase.
-    AllArrived,
-}
-
 impl PhaserTree {
     /// Creates a tree of empty tiers in `phase`, which ends as `plan` says.
     pub fn new(
@@ -175,7 +120,8 @@ impl PhaserTree {
         plan: EndPlan,
     ) -> Result<PhaserTree, AllocError>
         requires { phase ≤ 2147483647 }
-        ensures { IfOk result (λ t. t.key ≡ record { shape = shape; phase = phase; plan = plan }) }
+        ensures tree { IfOk result (λ t. t.tree.key ≡ record { shape = shape; phase = phase; plan = plan }) }
+        ensures first { IfOk result (IsFirst phase) }
     {
         PhaserTree::with_hook(alloc, shape, phase, plan, NoHook)
     }
@@ -184,8 +130,9 @@ impl PhaserTree {
     /// the root alone, and `2x3` is a root with two children that have three children each. Fails with the fault of
     /// `Shape::from_widths`.
     pub fn from_widths(alloc: Global, widths: &str, plan: EndPlan) -> Result<PhaserTree, ShapeFault>
-        ensures shape { IfOk result (λ t. shape_told widths.now ≡ Ok t.key.shape) }
-        ensures same { IfOk result (λ t. (t.key.phase ≡ 0) × (t.key.plan ≡ plan)) }
+        ensures shape { IfOk result (λ t. shape_told widths.now ≡ Ok t.tree.key.shape) }
+        ensures same { IfOk result (λ t. (t.tree.key.phase ≡ 0) × (t.tree.key.plan ≡ plan)) }
+        ensures first { IfOk result (IsFirst 0) }
         ensures refused { IfErr result (λ fault. (fault_number fault ≡ None → ⊥) → shape_told widths.now ≡ Err fault) }
     {
         let shape = match Shape::from_widths(alloc, widths) {
@@ -211,7 +158,8 @@ impl<A: OnAdvance> PhaserTree<A> {
     where
         A: Drop,
         requires { phase ≤ 2147483647 }
-        ensures { IfOk result (λ t. t.key ≡ record { shape = shape; phase = phase; plan = plan }) }
+        ensures tree { IfOk result (λ t. t.tree.key ≡ record { shape = shape; phase = phase; plan = plan }) }
+        ensures first { IfOk result (IsFirst phase) }
     {
         let (shared, first) = SharedTree::new(alloc, shape, phase, plan, hook)?;
         Ok(PhaserTree { shared, first })
@@ -219,14 +167,15 @@ impl<A: OnAdvance> PhaserTree<A> {
 
     /// Returns the shape of the tree.
     pub fn shape(&self) -> &Shape
-        ensures { result.now ≡ self.now.key.shape }
+        ensures { result.now ≡ self.now.tree.key.shape }
     {
         self.shared.tiers.shape()
     }
 
-    /// Returns a new token without members. Split further tokens off it, one for each thread.
+    /// Splits a new token off the tree's first one. It has no members and is in the root's current phase. Split further tokens
+    /// off it, one for each thread.
     pub fn guest(&mut self) -> Guest<'_, A>
-        ensures { IsSat self.old result }
+        ensures { IsSat self.old.tree result }
     {
         let PhaserTree { shared, first } = self;
         let door = shared.tiers.open_door(first);
@@ -279,7 +228,12 @@ impl<'a, A: OnAdvance> Guest<'a, A> {
     /// Registers `members` new members at `tier`. If the tier is empty, first opens the path to it from the nearest tier
     /// above that has parties. Tries again, and lets other threads run in between, while all parties of a tier on the
     /// path have arrived: a newcomer then has to wait for the next phase.
-    pub fn register<R: Wait>(self, rt: &R, tier: u16, members: u32) -> Joined<'a, A>
+    pub fn register<R: Wait>(
+        self,
+        rt: &R,
+        tier: u16,
+        members: u32,
+    ) -> Result<Party<'a, A>, JoinError<'a, A>>
         requires tier { tier < length self.tree.key.shape }
         requires members { (0 < members) × (members ≤ 65535) }
         ensures answer { RegistersAtLast self.entry.tree tier members (admitted_of result) }
@@ -289,9 +243,14 @@ impl<'a, A: OnAdvance> Guest<'a, A> {
     {
         let Guest { shared, door } = self;
         match register_wait(&shared.tiers, rt, door, tier, members) {
-            RegisteredAtLast::Joined(crew, phase) => Joined::Joined(Party { shared, crew }, phase),
-            RegisteredAtLast::Full(door, count) => Joined::Full(Guest { shared, door }, count),
-            RegisteredAtLast::Ended(door, shown) => Joined::Ended(Guest { shared, door }, shown),
+            RegisteredAtLast::Joined(crew, _) => Ok(Party { shared, crew }),
+            RegisteredAtLast::Full(door, count) => Err(JoinError::Full(
+                Guest { shared, door },
+                count,
+            )),
+            RegisteredAtLast::Ended(door, shown) => {
+                Err(JoinError::Ended(Guest { shared, door }, shown))
+            }
         }
     }
 
@@ -301,7 +260,7 @@ impl<'a, A: OnAdvance> Guest<'a, A> {
     /// Call it before the threads start, or from a thread none of whose members is unarrived: while it waits for an
     /// advance, such a member would hold that advance up for ever. A thread with an unarrived member brings others by
     /// [`Party::bring`].
-    pub fn join<R: Wait>(self, rt: &R, number: usize) -> Joined<'a, A>
+    pub fn join<R: Wait>(self, rt: &R, number: usize) -> Result<Party<'a, A>, JoinError<'a, A>>
         ensures answer { RegistersAtLast self.entry.tree (leaf_at (leaves_of self.entry.tree.key.shape) number) 1 (admitted_of result) }
         ensures unsplit { (token_admitted (admitted_of result)).opened ≡ self.entry.opened }
         ensures made { HasEntered self.entry.steps (token_admitted (admitted_of result)).steps }
@@ -408,56 +367,59 @@ impl<'a, A: OnAdvance> Party<'a, A> {
         await_advance(&shared.tiers, rt, &mut self.crew)
     }
 
-    /// Lets a member arrive, and waits until the phase in which all members have arrived is over. A party of one member
-    /// meets all others by this call. With several members, each but the last only arrives, and the call returns `Here`.
-    /// [`Parties`](crate::parties::Parties) lets several members arrive at once.
+    /// Lets a member arrive, waits until the phase in which all members have arrived is over, and returns the next phase. A
+    /// party of one member meets all others by this call. With several members, each but the last only arrives, and the call
+    /// fails with `Here`. [`Parties`](crate::parties::Parties) lets several members arrive at once. Fails with `Ended` if the
+    /// tree has ended.
     ///
-    /// Returns `Passed` only after an advance of the tree that found every member of every party arrived in the phase in
+    /// Returns a phase only after an advance of the tree that found every member of every party arrived in the phase in
     /// which this party arrived.
-    pub fn meet<R: Wait>(&mut self, rt: &R) -> AwaitedAdvance
+    pub fn meet<R: Wait>(&mut self, rt: &R) -> Result<u32, MeetError>
         ensures tree { self.new.tree ≡ self.old.tree }
-        ensures answer { Meets self.old self.new result }
+        ensures answer { Meets self.old self.new (awaited_of result) }
         ensures unsplit { self.new.opened ≡ self.old.opened }
     {
         self.arrive(rt);
-        self.await_advance(rt)
+        match self.await_advance(rt) {
+            AwaitedAdvance::Passed(phase) => Ok(phase),
+            AwaitedAdvance::Here(phase) => Err(MeetError::Here(phase)),
+            AwaitedAdvance::Ended(shown) => Err(MeetError::Ended(shown)),
+        }
     }
 
-    /// Registers `members` new members at this party's tier, as a separate party, with at most `tries` tries. A member
-    /// of this party has not arrived, so the phase can't end meanwhile, and the call doesn't wait for an advance. If
-    /// all members have arrived, does nothing and returns `AllArrived`.
-    pub fn bring<R: Wait>(&mut self, rt: &R, members: u32, tries: u32) -> Brought<'a, A>
+    /// Registers `members` new members at this party's tier, as a separate party. A member of this party has not arrived, so
+    /// the phase can't end meanwhile, and the call waits for no advance. If all members have arrived, does nothing and fails
+    /// with `AllArrived`.
+    pub fn bring<R: Wait>(
+        &mut self,
+        rt: &R,
+        members: u32,
+    ) -> Result<Party<'a, A>, BringError<'a, A>>
         requires members { (0 < members) × (members ≤ 65535) }
-        ensures answer { Brings self.old self.new members tries result }
+        ensures answer { Brings TRIES self.old self.new members result }
         ensures ended { (phase : ℕ) → self.old.view.end_seen ≡ Some phase → HasEndedBringing result }
     {
         if self.unarrived() == 0 {
-            return Brought::AllArrived;
+            return Err(BringError::AllArrived);
         }
         let Guest { shared, door } = self.split();
-        match shared
-            .tiers
-            .join_beside(&mut self.crew, door, members, tries)
-        {
-            Registered::Joined(crew, phase) => Brought::Joined(Party { shared, crew }, phase),
-            Registered::Full(door, count) => Brought::Full(Guest { shared, door }, count),
-            Registered::Ended(door, shown) => Brought::Ended(Guest { shared, door }, shown),
-            Registered::Busy(door) => Brought::Busy(Guest { shared, door }),
-            Registered::Held(_, _, _) => unreachable!(),
-            Registered::Owing(opening) => {
-                // Never taken. For the prover: an opening can't be dropped.
-                let _ = open_wait(&shared.tiers, rt, opening);
-                unreachable!()
+        match join_beside_wait(&shared.tiers, rt, &mut self.crew, door, members) {
+            RegisteredAtLast::Joined(crew, _) => Ok(Party { shared, crew }),
+            RegisteredAtLast::Full(door, count) => {
+                Err(BringError::Full(Guest { shared, door }, count))
+            }
+            RegisteredAtLast::Ended(door, shown) => {
+                Err(BringError::Ended(Guest { shared, door }, shown))
             }
         }
     }
 
-    /// Lets a member leave. Its departure counts as its arrival.
+    /// Lets a member leave. Its departure counts as its arrival. If all members have arrived in this phase, none can leave in
+    /// it: then the call first waits until the phase is over.
     pub fn leave<R: Wait>(self, rt: &R) -> Departed<'a, A>
-        ensures answer { ArrivesAtLast Departure self.entry (counted_of result) }
+        ensures answer { Leaves self.entry (counted_of result) }
         ensures waited { LedAtLast (counted_of result) }
         ensures unsplit { (token_counted (counted_of result)).opened ≡ self.entry.opened }
-        ensures made { PassedBy Departure self.entry.steps (counted_of result) }
         ensures ended { (phase : ℕ) → self.entry.view.end_seen ≡ Some phase → HasEndedArrival (counted_of result) }
     {
         let Party { shared, crew } = self;
@@ -470,10 +432,8 @@ impl<'a, A: OnAdvance> Party<'a, A> {
                 let guest = Guest { shared, door };
                 Departed::Left { guest, phase, led }
             }
-            ArrivedAtLast::AlreadyArrived(crew, phase) => {
-                Departed::AlreadyArrived(Party { shared, crew }, phase)
-            }
             ArrivedAtLast::Ended(crew, shown) => Departed::Ended(Party { shared, crew }, shown),
+            ArrivedAtLast::AlreadyArrived(crew, _) => leave_next(shared, rt, crew),
         }
     }
 }

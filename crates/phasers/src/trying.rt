@@ -29,6 +29,7 @@ impl<'a, A: OnAdvance> Model for Owed<'a, A> {
 }
 
 /// The answer of a meeting that doesn't wait.
+#[must_use]
 pub enum Met<'a, A: OnAdvance = NoHook> {
     /// The phase in which all members had arrived is over, and this is the next one.
     Passed(Party<'a, A>, u32),
@@ -45,6 +46,7 @@ pub enum Met<'a, A: OnAdvance = NoHook> {
 }
 
 /// The answer of [`Owed::settle`].
+#[must_use]
 pub enum Settled<'a, A: OnAdvance = NoHook> {
     /// The member has arrived.
     Done {

@@ -1,2 +1,1 @@
-pub mod AtLeaves
 pub mod Held

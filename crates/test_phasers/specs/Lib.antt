@@ -1,2 +1,1 @@
 pub mod Holders
-pub mod Seats

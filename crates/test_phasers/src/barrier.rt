@@ -3,6 +3,7 @@
 mod bounded;
 #[cfg(test)]
 mod counted;
+mod door;
 #[cfg(test)]
 mod ended;
 #[cfg(test)]

@@ -5,7 +5,7 @@ use advance_rule::{CountPlan, EndPlan, StoredAction, StoredAdvance, StoredCount}
 use cyclic_gate::{AwaitedStep, BarrierCore, CyclicGate};
 use phaser_one::PhaserOne;
 use phasers::barrier::{Barrier, GateState, NoAction};
-use phasers::tree::{AwaitedAdvance, Joined, PhaserTree};
+use phasers::tree::{MeetError, PhaserTree, Seat};
 use tier_core::call::{Call, Played};
 use tier_core::tree::Core;
 use tier_shape::Shape;
@@ -85,11 +85,24 @@ fn a_tree_that_ends_at_a_phase(rt: HostRuntime) {
     let mut tree = PhaserTree::from_widths(rt.alloc(), "2", plan).expect(&rt, "a tree");
     let mut guest = tree.guest();
     // The only member meets in phases 0 and 1; the tree ends with phase 2.
-    if let Joined::Joined(mut party, _) = guest.split().join(&rt, 0) {
-        assert!(rt; party.meet(&rt) == AwaitedAdvance::Passed(1));
-        assert!(rt; party.meet(&rt) == AwaitedAdvance::Passed(2));
-        assert!(rt; matches!(party.meet(&rt), AwaitedAdvance::Ended(_)));
+    if let Ok(mut party) = guest.split().join(&rt, 0) {
+        assert!(rt; party.meet(&rt) == Ok(1));
+        assert!(rt; party.meet(&rt) == Ok(2));
+        assert!(rt; matches!(party.meet(&rt), Err(MeetError::Ended(_))));
     }
+}
+
+#[test]
+fn a_seat_for_a_party(rt: HostRuntime) {
+    let plan = EndPlan::when_empty();
+    let mut tree = PhaserTree::from_widths(rt.alloc(), "2", plan).expect(&rt, "a tree");
+    let seat = Seat::new();
+    let mut own = tree.guest().join(&rt, 0).expect(&rt, "the leaf has room");
+    let party = own.bring(&rt, 1).expect(&rt, "the leaf has room");
+    assert!(rt; seat.give(&rt, party).is_ok());
+    // Another thread may call this.
+    let other = seat.take(&rt);
+    assert!(rt; (other.tier(), other.phase()) == (own.tier(), 0));
 }
 
 #[test]

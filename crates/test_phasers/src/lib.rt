@@ -8,11 +8,10 @@ pub mod calls;
 mod closures;
 #[cfg(test)]
 mod examples;
-pub mod groups;
+#[cfg(test)]
+mod leaving;
 #[cfg(test)]
 mod lists;
-#[cfg(test)]
-mod machine;
 #[cfg(test)]
 mod makers;
 #[cfg(test)]

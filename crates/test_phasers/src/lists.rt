@@ -4,6 +4,4 @@ mod act;
 #[cfg(test)]
 mod mirror;
 #[cfg(test)]
-pub mod numbers;
-#[cfg(test)]
 mod played;

@@ -1,18 +1,21 @@
 //! The calls of the crate `phasers`, and what no clause says: threads meet, and a hook runs once at each advance.
 use phasers::barrier::{Barrier, GateFault, NoAction};
 use phasers::tree::{
-    ArrivedInPlace, Departed, EndPlan, Forced, Guest, Joined, Met, OnAdvance, Owed, Party,
-    PhaserTree, Polled, Settled, Shape,
+    ArrivedInPlace, AwaitedAdvance, Departed, EndPlan, Forced, Guest, JoinError, Met, OnAdvance,
+    Owed, Party, PhaserTree, Polled, Seat, Settled, Shape, TreeEnded,
 };
 use std::process::Abort;
 use std::sync::Wait;
 use std::sync::atomic::{AtomicU64, Ordering};
 use std::thread;
+use std::thread::Threads;
 
 // A party meets `times` times, and leaves.
 fn meets<R: Wait>(rt: &R, mut party: Party<'_>, times: u32) -> bool {
     for _ in 0..times {
-        party.meet(rt);
+        if party.meet(rt).is_err() {
+            return false;
+        }
     }
     matches!(party.leave(rt), Departed::Left { .. })
 }
@@ -25,22 +28,99 @@ fn threads_meet_in_a_scope(rt: HostRuntime) {
     let shared = &rt;
     thread::scope(thread::scope_env(), shared, |scope| {
         for number in 0..4 {
-            if let Joined::Joined(party, _) = guest.split().join(shared, number) {
+            if let Ok(party) = guest.split().join(shared, number) {
                 let _ = scope.spawn(move || meets(shared, party, 100));
             }
         }
     });
-    assert!(rt; matches!(guest.join(&rt, 0), Joined::Ended(_, _)));
+    assert!(rt; matches!(guest.join(&rt, 0), Err(JoinError::Ended(_, _))));
+}
+
+// Waits for phase 1, takes a party, meets the other in that phase, and leaves. Counts what came as it should.
+fn comes_late<'a, R: Wait>(rt: &R, seat: &Seat<'a>, mut guest: Guest<'a>, right: &AtomicU64) {
+    let waits = guest.await_phase(rt, 1) == Ok(1);
+    let mut party = seat.take(rt);
+    let meets = party.phase() == 1 && party.meet(rt) == Ok(2);
+    let leaves = matches!(party.leave(rt), Departed::Left { .. });
+    right.fetch_add(
+        u64::from(waits) + u64::from(meets) + u64::from(leaves),
+        Ordering::SeqCst,
+    );
+}
+
+// Meets alone in phase 0, brings a party for the other thread, and meets it in phase 1.
+fn brings<'a, R: Wait + Abort>(rt: &R, seat: &Seat<'a>, mut own: Party<'a>) {
+    assert!(rt; own.meet(rt) == Ok(1));
+    let party = own.bring(rt, 1).expect(rt, "room");
+    assert!(rt; seat.give(rt, party).is_ok());
+    assert!(rt; own.meet(rt) == Ok(2));
+    let _ = own.leave(rt);
+}
+
+// Two threads, of which one joins late.
+fn two_with_a_seat<R: Threads + Wait + Abort + Sync>(rt: &R, guest: Guest<'_>, own: Party<'_>) {
+    let (seat, right) = (&Seat::new(), &AtomicU64::new(0));
+    thread::scope(thread::scope_env(), rt, |scope| {
+        let _ = scope.spawn(move || comes_late(rt, seat, guest, right));
+        brings(rt, seat, own);
+    });
+    assert!(rt; right.load(Ordering::SeqCst) == 3);
+}
+
+#[test]
+fn a_thread_joins_late(rt: HostRuntime) {
+    let plan = EndPlan::when_empty();
+    let mut tree = PhaserTree::from_widths(rt.alloc(), "2", plan).expect(&rt, "a tree");
+    let mut guest = tree.guest();
+    let own = guest.split().join(&rt, 0).expect(&rt, "joined");
+    two_with_a_seat(&rt, guest.split(), own);
+    assert!(rt; matches!(guest.await_phase(&rt, 9), Err(TreeEnded { .. })));
+}
+
+// A party of one member that has arrived leaves in the next phase, after the other one.
+fn leaves_in_the_next<R: Wait + Abort>(rt: &R, tree: &mut PhaserTree) {
+    let mut guest = tree.guest();
+    let mut one = joined(rt, guest.split(), 0);
+    let mut other = joined(rt, guest.split(), 1);
+    one.arrive(rt);
+    other.arrive(rt);
+    assert!(rt;
+        matches!(
+            one.leave(rt),
+            Departed::Left {
+                phase: 1,
+                led: false,
+                ..
+            }
+        )
+    );
+    assert!(rt; other.await_advance(rt) == AwaitedAdvance::Passed(1));
+    assert!(rt;
+        matches!(
+            other.leave(rt),
+            Departed::Left {
+                phase: 1,
+                led: true,
+                ..
+            }
+        )
+    );
+}
+
+#[test]
+fn who_has_arrived_leaves_in_the_next_phase(rt: HostRuntime) {
+    let plan = EndPlan::when_empty();
+    let mut tree = PhaserTree::from_widths(rt.alloc(), "2", plan).expect(&rt, "a tree");
+    leaves_in_the_next(&rt, &mut tree);
 }
 
 // A token of a tree of three tiers, and two members of another at its tier 1.
 fn registered<'a, R: Wait + Abort>(rt: &R, tree: &'a mut PhaserTree) -> (Guest<'a>, Party<'a>) {
     assert!(rt; tree.shape().count() == 3);
     let mut guest = tree.guest();
-    match guest.split().register(rt, 1, 2) {
-        Joined::Joined(party, 0) => (guest, party),
-        _ => panic!(rt; "not registered"),
-    }
+    let party = guest.split().register(rt, 1, 2).expect(rt, "registered");
+    assert!(rt; party.phase() == 0);
+    (guest, party)
 }
 
 // Whether a party is at tier 1, in phase 0, with two members that haven't arrived.
@@ -101,10 +181,9 @@ fn tried<'a, R: Wait + Abort>(rt: &R, party: Party<'a>, tries: u32) -> (Party<'a
 
 // A party of one member at the leaf of this number, which joins in phase 0.
 fn joined<'a, R: Wait + Abort>(rt: &R, guest: Guest<'a>, leaf: usize) -> Party<'a> {
-    match guest.join(rt, leaf) {
-        Joined::Joined(party, 0) => party,
-        _ => panic!(rt; "not joined"),
-    }
+    let party = guest.join(rt, leaf).expect(rt, "joined");
+    assert!(rt; party.phase() == 0);
+    party
 }
 
 // Two parties meet in phase 0, and the first of them then finds that it is over.
@@ -187,9 +266,9 @@ fn a_hook_runs_at_each_advance(rt: HostRuntime) {
         &rt, "a tree",
     );
     let mut guest = tree.guest();
-    if let Joined::Joined(mut party, _) = guest.split().join(&rt, 0) {
-        for _ in 0..3 {
-            party.meet(&rt);
+    if let Ok(mut party) = guest.split().join(&rt, 0) {
+        for phase in 6..9 {
+            assert!(rt; party.meet(&rt) == Ok(phase));
         }
     }
     // Phases 5, 6 and 7 end, each with one party at the root, the leaf.

@@ -1,31 +1,16 @@
 //! Trees, how they begin and what they leave.
 
-ghost use Rattle.std.specs.Prelude.{◌≡◌, ◌≤◌, ◌==◌, All};
+ghost use Rattle.std.specs.Prelude.{◌≡◌, ◌≤◌, All};
 ghost use Rattle.tier_table.specs.Closes.{held};
 
-use advance_rule::{EndPlan, StoredAdvance};
+use advance_rule::StoredAdvance;
 use std::alloc::Global;
 use std::process::Abort;
+use test_parts::rules::Rule;
 use tier_shape::Shape;
 use tier_table::closing::Closed;
 use tier_table::tokens::{Door, Token};
 use tier_table::tree::Tree;
-
-/// A rule of a tree.
-pub type Rule = fn(u32, u32) -> bool;
-
-/// A tree ends when nobody is registered.
-pub const WHEN_EMPTY: EndPlan = EndPlan {
-    when_empty: true,
-    at: None,
-};
-
-/// Whether nobody is registered.
-pub fn is_empty(_phase: u32, count: u32) -> bool
-    ensures { result ≡ (count == 0) }
-{
-    count == 0
-}
 
 /// A tree of these widths, in this phase, and its first token.
 pub fn planted(

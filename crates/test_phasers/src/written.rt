@@ -5,7 +5,6 @@ ghost use Rattle.std.specs.Prelude.{◌≡◌, All};
 ghost use Rattle.advance_rule.specs.Stored.{Answers};
 ghost use Rattle.advance_rule.specs.Plan.{end_ends_at};
 
-use crate::trees::WHEN_EMPTY;
 use advance_rule::StoredAdvance;
 use std::alloc::Global;
 use std::process::Abort;
@@ -13,6 +12,7 @@ use std::sync::Wait;
 use std::sync::atomic::{AtomicU64, Ordering};
 use std::thread;
 use std::thread::Threads;
+use test_parts::rules::WHEN_EMPTY;
 use tier_shape::Shape;
 use tier_table::arriving::Arrived;
 use tier_table::joining::Registered;

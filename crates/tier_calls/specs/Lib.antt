@@ -28,3 +28,4 @@ pub mod Led
 pub mod LeavesAll
 pub mod JoinsAll
 pub mod RegistersAll
+pub mod Watches

@@ -205,8 +205,7 @@ impl Tiers {
 }
 
 impl Tiers {
-    ghost use Rattle.tier_steps.specs.Step.{CanPass};
-    ghost use Rattle.tier_calls.specs.NewTokens.{IsEager, AreBlank};
+    ghost use Rattle.tier_calls.specs.NewTokens.{MayExchange};
     ghost use Rattle.tier_calls.specs.Exchanges.{sights_with, word_with, ExchangesBy, ExchangesLast};
 
     /// Makes one try by which all tokens of a group and some new ones pass the tier, from the word that was found there:
@@ -219,16 +218,8 @@ impl Tiers {
         leaving: u32,
         word: Word,
     ) -> EarlyTry
-        requires own { (group.tree ≡ self.now) × (new_tokens.table ≡ self.now.id) }
-        requires blank { AreBlank self.now.key new_tokens.tokens }
-        requires may { CanPass group.view.tier word group.view }
-        requires eager { IsEager group.view }
-        requires place { group.view.tier < length self.now.key.shape }
-        requires some { 0 < word.parties }
-        requires room { word.parties + length new_tokens.tokens ≤ MOST_PARTIES }
+        requires may { MayExchange self.now leaving word group new_tokens }
         requires more { length group.tokens < word.unarrived }
-        requires few { leaving ≤ length group.tokens }
-        requires come { leaving < length new_tokens.tokens + length group.tokens }
         requires ends { (J.key ≡ self.now.key) × (J.from ≡ word) × (J.to ≡ word_with group new_tokens leaving word) }
         requires sights { J.sights ≡ sights_with group new_tokens leaving word }
         ensures { ExchangesBy group new_tokens leaving word result }
@@ -278,16 +269,8 @@ impl Tiers {
         leaving: u32,
         word: Word,
     ) -> EarlyTry
-        requires own { (group.tree ≡ self.now) × (new_tokens.table ≡ self.now.id) }
-        requires blank { AreBlank self.now.key new_tokens.tokens }
-        requires may { CanPass group.view.tier word group.view }
-        requires eager { IsEager group.view }
-        requires place { group.view.tier < length self.now.key.shape }
-        requires some { 0 < word.parties }
-        requires room { word.parties + length new_tokens.tokens ≤ MOST_PARTIES }
+        requires may { MayExchange self.now leaving word group new_tokens }
         requires more { length group.tokens < word.unarrived }
-        requires few { leaving ≤ length group.tokens }
-        requires come { leaving < length new_tokens.tokens + length group.tokens }
         ensures { ExchangesBy group new_tokens leaving word result }
     {
         self.exchange_early_as::<Brand>(group, new_tokens, leaving, word)
@@ -301,16 +284,8 @@ impl Tiers {
         leaving: u32,
         word: Word,
     ) -> LastPass
-        requires own { (group.tree ≡ self.now) × (new_tokens.table ≡ self.now.id) }
-        requires blank { AreBlank self.now.key new_tokens.tokens }
-        requires may { CanPass group.view.tier word group.view }
-        requires eager { IsEager group.view }
-        requires place { group.view.tier < length self.now.key.shape }
-        requires some { 0 < word.parties }
-        requires room { word.parties + length new_tokens.tokens ≤ MOST_PARTIES }
+        requires may { MayExchange self.now leaving word group new_tokens }
         requires last { length group.tokens ≡ word.unarrived }
-        requires few { leaving ≤ length group.tokens }
-        requires come { leaving < length new_tokens.tokens + length group.tokens }
         requires ends { (J.key ≡ self.now.key) × (J.from ≡ word) × (J.to ≡ word_with group new_tokens leaving word) }
         requires sights { J.sights ≡ sights_with group new_tokens leaving word }
         ensures { ExchangesLast group new_tokens leaving word result }
@@ -363,16 +338,8 @@ impl Tiers {
         leaving: u32,
         word: Word,
     ) -> LastPass
-        requires own { (group.tree ≡ self.now) × (new_tokens.table ≡ self.now.id) }
-        requires blank { AreBlank self.now.key new_tokens.tokens }
-        requires may { CanPass group.view.tier word group.view }
-        requires eager { IsEager group.view }
-        requires place { group.view.tier < length self.now.key.shape }
-        requires some { 0 < word.parties }
-        requires room { word.parties + length new_tokens.tokens ≤ MOST_PARTIES }
+        requires may { MayExchange self.now leaving word group new_tokens }
         requires last { length group.tokens ≡ word.unarrived }
-        requires few { leaving ≤ length group.tokens }
-        requires come { leaving < length new_tokens.tokens + length group.tokens }
         ensures { ExchangesLast group new_tokens leaving word result }
     {
         self.exchange_last_as::<Brand>(group, new_tokens, leaving, word)

@@ -33,7 +33,8 @@
 //! * `tokens.rt`: the tokens; `seen.rt`: words as the numbers in the table, which a step unpacks only in part;
 //!   `tiers.rt`: single loads and exchanges; `going.rt`: calls that go on; `stepping.rt`: the steps of arrivals and
 //!   departures, by kind; `writing.rt`: what a step writes into a view; `arriving.rt`, `in_place.rt` (an arrival whose
-//!   crew isn't moved), `joining.rt`, `beside.rt` (`join_here`), `polling.rt`, `forcing.rt`, `closing.rt`: the calls;
+//!   crew isn't moved), `joining.rt`, `beside.rt` (`join_here`), `polling.rt`, `looking.rt`, `forcing.rt`,
+//!   `closing.rt`: the calls;
 //!   `next.rt`: which tier a call looks for; `seated.rt`: a token's seat.
 //! * `groups.rt`: groups, their arrivals and polls, how they split and go together; `arriving_with.rt`: an arrival with
 //!   which others join and leave, and the new tokens for it; `joining_all.rt`: registrations beside a group;
@@ -62,6 +63,7 @@ pub mod in_place;
 pub mod joining;
 pub mod joining_all;
 pub mod leaving_all;
+mod looking;
 mod next;
 pub mod polling;
 pub mod registering_all;

@@ -89,11 +89,15 @@ tokens_arrived (group_arrived.Full new parties) = new
 tokens_arrived (group_arrived.AlreadyArrived new phase) = new
 tokens_arrived (group_arrived.Ended new shown) = new
 
--- What follows an arrival of all members in a meeting. If the tokens were already seen in another phase than that in which they arrived, this phase has passed; before
+-- What follows an arrival of all members in this phase. If the tokens were already seen in another phase than that in which they arrived, this phase has passed; before
 -- the last advance all members of all tokens had arrived. Else they wait.
-abbrev pub MeetsAfter : GroupArrived → GroupHeld → AwaitedAdvance → Type 0
-MeetsAfter (group_arrived.Done mid phase led) new answer =
+abbrev pub AwaitsAfter : GroupHeld → ℕ → GroupHeld → AwaitedAdvance → Type 0
+AwaitsAfter mid phase new answer =
     ((mid.view.phase ≢ phase) × (new ≡ mid) × (answer ≡ awaited.Passed mid.view.phase) × WaitedFor mid.tree phase mid.view.phase) ⊎ AwaitsAll mid new answer
+
+-- what follows an arrival of all members in a meeting
+abbrev pub MeetsAfter : GroupArrived → GroupHeld → AwaitedAdvance → Type 0
+MeetsAfter (group_arrived.Done mid phase led) new answer = AwaitsAfter mid phase new answer
 MeetsAfter (group_arrived.Full mid parties) new answer = ⊥
 MeetsAfter (group_arrived.AlreadyArrived mid phase) new answer = AwaitsAll mid new answer
 MeetsAfter (group_arrived.Ended mid shown) new answer = (new ≡ mid) × (answer ≡ awaited.Ended shown)

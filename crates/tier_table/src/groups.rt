@@ -8,7 +8,7 @@ ghost use Rattle.tier_calls.specs.ArrivesWith.{ArrivesWith, OnlySplit};
 ghost use Rattle.tier_calls.specs.Finishes.{IsBeside, Finishes};
 ghost use Rattle.tier_calls.specs.Splits.{SplitAt, AreTogether, Together};
 ghost use Rattle.tier_calls.specs.Waited.{PollAllWaited};
-ghost use Rattle.tier_table.specs.GroupsAtLast.{HaveLookedOn, FinishesAtLast, ArrivesAllAtLast, ArrivesWithAtLast, AwaitsAll, MeetsAll, tokens_arrived};
+ghost use Rattle.tier_table.specs.GroupsAtLast.{HaveLookedOn, FinishesAtLast, ArrivesAllAtLast, ArrivesWithAtLast, AwaitsAfter, AwaitsAll, MeetsAll, tokens_arrived};
 
 use crate::tree::Tree;
 use crate::waiting::{ArrivedAtLast, AwaitedAdvance, resume_wait};
@@ -200,6 +200,22 @@ pub fn await_advance_all<R: Wait>(tiers: &Tiers, rt: &R, group: &mut Group) -> A
     unreachable!()
 }
 
+// Waits until `phase` is over, in which all members of `group` have arrived. Returns at once if the group is seen in another
+// phase already.
+fn await_after<R: Wait>(tiers: &Tiers, rt: &R, group: Group, phase: u32) -> (Group, AwaitedAdvance)
+    requires own { group.tree ≡ tiers.now }
+    ensures tree { result.0.tree ≡ group.tree }
+    ensures answer { AwaitsAfter group phase result.0 result.1 }
+{
+    let mut group = group;
+    let now = group.phase();
+    if now != phase {
+        return (group, AwaitedAdvance::Passed(now));
+    }
+    let waited = await_advance_all(tiers, rt, &mut group);
+    (group, waited)
+}
+
 /// Lets all members of `group` arrive, and waits until the phase is over. Returns the group and the answer of
 /// `await_advance_all`. If the phase is over by the time the arrival returns, that is `Passed`.
 pub fn meet_all_wait<R: Wait, F: Fn(u32, u32) -> bool>(
@@ -215,14 +231,7 @@ pub fn meet_all_wait<R: Wait, F: Fn(u32, u32) -> bool>(
     ensures answer { MeetsAll TRIES group result.0 result.1 }
 {
     match arrive_all_wait(tiers, rt, group, rule) {
-        GroupArrived::Done(mut group, phase, _) => {
-            let now = group.phase();
-            if now != phase {
-                return (group, AwaitedAdvance::Passed(now));
-            }
-            let answer = await_advance_all(tiers, rt, &mut group);
-            (group, answer)
-        }
+        GroupArrived::Done(group, phase, _) => await_after(tiers, rt, group, phase),
         GroupArrived::AlreadyArrived(mut group, _) => {
             let answer = await_advance_all(tiers, rt, &mut group);
             (group, answer)

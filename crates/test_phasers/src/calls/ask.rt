@@ -1,6 +1,4 @@
-//! What tokens are asked, and what they answer.
-
-use tier_core::call::Cause;
+//! What tokens are asked.
 
 /// What a token is asked.
 #[derive(Clone, Copy)]
@@ -21,33 +19,4 @@ pub enum Ask {
     Poll,
     /// To end the tree.
     Force,
-}
-
-/// What it answers.
-#[derive(Clone, Copy, PartialEq, Eq)]
-pub enum Told {
-    /// Nothing is done yet.
-    Busy,
-    /// Something is owed.
-    Owing,
-    /// Members joined in this phase.
-    Joined(u32),
-    /// They are held off in this phase.
-    Held(u32, Cause),
-    /// There is no room beside this number of parties.
-    Full(u32),
-    /// A member arrived or left in this phase; whether that led.
-    Done(u32, bool),
-    /// The last member left.
-    Left(u32, bool),
-    /// All members had arrived.
-    AlreadyArrived(u32),
-    /// The next phase.
-    Passed(u32),
-    /// All members have arrived, and others have not.
-    Waiting,
-    /// A member is unarrived.
-    Here(u32),
-    /// The tree has ended.
-    Ended(i32),
 }

@@ -6,10 +6,11 @@ ghost use Rattle.advance_rule.specs.Plan.{end_ends_at};
 ghost use Rattle.tier_table.specs.Closes.{held};
 ghost use Rattle.test_phasers.specs.Holders.{tree_of};
 
-use crate::calls::ask::{Ask, Told};
+use crate::calls::ask::Ask;
 use crate::calls::holders::Holder;
-use crate::trees::Rule;
 use std::process::Abort;
+use test_parts::rules::Rule;
+use test_parts::told::Told;
 use tier_table::arriving::{Arrived, Resumed};
 use tier_table::forcing::Forced;
 use tier_table::joining::{Opened, Registered};

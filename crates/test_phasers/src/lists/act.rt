@@ -5,13 +5,14 @@ ghost use Rattle.advance_rule.specs.Stored.{Answers};
 ghost use Rattle.advance_rule.specs.Plan.{end_ends_at};
 ghost use Rattle.test_phasers.specs.Holders.{tree_of};
 
-use crate::calls::ask::{Ask, Told};
+use crate::calls::ask::Ask;
 use crate::calls::call::call;
 use crate::calls::holders::Holder;
 use crate::lists::mirror::Mirror;
-use crate::lists::numbers::Numbers;
-use crate::trees::Rule;
 use std::process::Abort;
+use test_parts::numbers::Numbers;
+use test_parts::rules::Rule;
+use test_parts::told::Told;
 use tier_table::tree::Tree;
 
 // What a token is asked next; late in a list the end by force, too.

@@ -3,9 +3,10 @@
 ghost use Rattle.std.specs.Prelude.{IfSome};
 ghost use Rattle.tier_core.specs.Run.{IsCall};
 
-use crate::calls::ask::{Ask, Told};
-use crate::machine::{stepped, view_of};
+use crate::calls::ask::Ask;
 use std::process::Abort;
+use test_parts::machine::{stepped, view_of};
+use test_parts::told::Told;
 use tier_core::call::{Call, Played};
 use tier_core::tree::Core;
 use tier_steps::view::{Errand, View};
@@ -107,7 +108,7 @@ impl Mirror {
                 return None;
             }
             let before = words_of(&self.core);
-            let answer = stepped(rt, &mut self.core, token);
+            let answer = stepped(&mut self.core, token).expect(rt, "no step");
             if let Some(place) = changed(&before, &words_of(&self.core)) {
                 self.last[token] = Some(place);
                 left -= 1;
@@ -140,7 +141,9 @@ impl Mirror {
             return None;
         }
         match self.lost_at(rt, token) {
-            Some(0) if self.core.root().ended => Some(stepped(rt, &mut self.core, token)),
+            Some(0) if self.core.root().ended => Some(stepped(&mut self.core, token).expect(
+                rt, "no step",
+            )),
             Some(_) => self.go(rt, token, tries - 1),
             None => self.go(rt, token, tries),
         }
@@ -151,7 +154,7 @@ impl Mirror {
         requires { IsCall call }
     {
         assert!(rt; self.core.begin(token, call).is_ok());
-        match stepped(rt, &mut self.core, token) {
+        match stepped(&mut self.core, token).expect(rt, "no step") {
             Played::GoesOn => self.go(rt, token, tries),
             answer => Some(answer),
         }

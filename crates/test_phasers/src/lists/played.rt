@@ -10,13 +10,14 @@ use crate::calls::call::at_rest;
 use crate::calls::holders::{Eight, Four, Holder};
 use crate::lists::act::act;
 use crate::lists::mirror::{Mirror, words_of};
-use crate::lists::numbers::Numbers;
-use crate::machine::machine;
-use crate::trees::{Rule, WHEN_EMPTY, is_empty, left, planted, put};
+use crate::trees::{left, planted, put};
 use advance_rule::StoredAdvance;
 use phaser_word::Word;
 use std::alloc::Global;
 use std::process::Abort;
+use test_parts::machine::machine;
+use test_parts::numbers::Numbers;
+use test_parts::rules::{Rule, WHEN_EMPTY, is_empty};
 use tier_table::tokens::{Door, Token};
 use tier_table::tree::Tree;
 
@@ -185,7 +186,7 @@ fn list(rt: &impl Abort, alloc: Global, rule: StoredAdvance<Rule>, widths: &str,
     requires rule { Answers (pre rule.closure) (post rule.closure) (end_ends_at rule.plan) }
 {
     let mut mirror = Mirror {
-        core: machine(rt, alloc, widths, 8),
+        core: machine(alloc, widths, 8).expect(rt, "a machine"),
         last: [None; 8],
     };
     let (tree, door) = planted(rt, alloc, widths, 0, rule);

@@ -5,11 +5,11 @@ ghost use Rattle.advance_rule.specs.Stored.{Answers};
 ghost use Rattle.advance_rule.specs.Plan.{end_ends_at};
 ghost use Rattle.tier_table.specs.Closes.{held};
 
-use crate::trees::Rule;
 use std::process::Abort;
 use std::sync::Wait;
 use std::thread;
 use std::thread::Threads;
+use test_parts::rules::Rule;
 use tier_table::in_place::ArrivedInPlace;
 use tier_table::tokens::{Crew, Door, Token};
 use tier_table::tree::Tree;

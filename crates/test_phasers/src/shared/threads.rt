@@ -7,12 +7,13 @@ ghost use Rattle.tier_table.specs.Closes.{held};
 
 use crate::shared::duties::Duty::{Arrives, ComesAndGoes, Joins, Meets, MeetsByCrew, Stays};
 use crate::shared::duties::{Actor, Duty, all_act};
-use crate::trees::{Rule, WHEN_EMPTY, is_empty, left, planted, put};
+use crate::trees::{left, planted, put};
 use advance_rule::StoredAdvance;
 use std::alloc::Global;
 use std::process::Abort;
 use std::sync::Wait;
 use std::thread::Threads;
+use test_parts::rules::{Rule, WHEN_EMPTY, is_empty};
 use tier_table::closing::Closed;
 use tier_table::tokens::{Door, Token};
 use tier_table::tree::Tree;

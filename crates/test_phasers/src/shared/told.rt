@@ -1,7 +1,8 @@
 //! What a call may answer, by its token before it and after it.
 
-use crate::calls::ask::{Ask, Told};
+use crate::calls::ask::Ask;
 use crate::calls::holders::Holder;
+use test_parts::told::Told;
 
 /// What a token says of itself.
 #[derive(Clone, Copy, PartialEq, Eq)]

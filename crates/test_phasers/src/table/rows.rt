@@ -5,11 +5,12 @@ ghost use Rattle.advance_rule.specs.Stored.{Answers};
 ghost use Rattle.advance_rule.specs.Plan.{end_ends_at};
 ghost use Rattle.test_phasers.specs.Holders.{tree_of, ThreeOf};
 
-use crate::calls::ask::{Ask, Told};
+use crate::calls::ask::Ask;
 use crate::calls::call::call;
 use crate::calls::holders::{Holder, Three};
-use crate::trees::Rule;
 use std::process::Abort;
+use test_parts::rules::Rule;
+use test_parts::told::Told;
 use tier_table::joining::Registered;
 use tier_table::tree::Tree;
 

@@ -5,16 +5,17 @@ ghost use Rattle.advance_rule.specs.Stored.{Answers};
 ghost use Rattle.advance_rule.specs.Plan.{end_ends_at};
 
 use crate::calls::ask::Ask::{Arrive, Beside, Force, Leave, Open, Poll, Register, Resume};
-use crate::calls::ask::Told::{
-    AlreadyArrived, Busy, Done, Ended, Full, Held, Here, Joined, Left, Owing, Passed, Waiting,
-};
 use crate::calls::holders::Holder;
 use crate::table::rows::{Row, played};
-use crate::table::trees::{are, left_by_three, with_three};
-use crate::trees::{Rule, WHEN_EMPTY, is_empty};
+use crate::table::trees::{left_by_three, with_three};
 use advance_rule::{EndPlan, StoredAdvance};
 use std::alloc::Global;
 use std::process::Abort;
+use test_parts::counts::are;
+use test_parts::rules::{Rule, WHEN_EMPTY, is_empty};
+use test_parts::told::Told::{
+    AlreadyArrived, Busy, Done, Ended, Full, Held, Here, Joined, Left, Owing, Passed, Waiting,
+};
 use tier_core::call::Cause;
 use tier_table::closing::ClosedToken;
 

@@ -5,11 +5,11 @@ ghost use Rattle.test_phasers.specs.Holders.{ThreeOf};
 
 use crate::calls::call::at_rest;
 use crate::calls::holders::{Holder, Three};
-use crate::trees::{Rule, left, planted};
+use crate::trees::{left, planted};
 use advance_rule::StoredAdvance;
-use phaser_word::Word;
 use std::alloc::Global;
 use std::process::Abort;
+use test_parts::rules::Rule;
 use tier_table::closing::Closed;
 use tier_table::tree::Tree;
 
@@ -44,17 +44,4 @@ pub(crate) fn left_by_three(
     let (zero, one, two) = (at_rest(rt, zero), at_rest(rt, one), at_rest(rt, two));
     let tokens = vec![in alloc; zero, one, two].expect(rt, "memory");
     left(rt, alloc, tree, tokens)
-}
-
-/// Whether the words are these: the phase, the parties, how many of them are unarrived, and whether it has ended.
-pub(crate) fn are(words: &[Word], wants: &[(u32, u32, u32, bool)]) -> bool {
-    if words.len() != wants.len() {
-        return false;
-    }
-    for (word, want) in words.iter().zip(wants) {
-        if (word.phase, word.parties, word.unarrived, word.ended) != *want {
-            return false;
-        }
-    }
-    true
 }

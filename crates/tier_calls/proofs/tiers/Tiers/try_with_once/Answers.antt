@@ -25,53 +25,43 @@ returns-then-joining-word-clause-went c =
     let d = ap (λ (z : Fields). z.parties) c.word-2.view_is in
     (0, (omega arith), k, finds_full c.args.joining c.look_all-word.ensures c.tier-tier.ensures k d (let a = c.if-joining-word.true in let e = c.word-2.invariant.parties in omega arith))
 
-pub exchange_early-requires-clause-blank : goal.exchange_early-requires-clause-blank
-exchange_early-requires-clause-blank c = are_blank c.new_tokens-new_tokens.ensures.new
-
 pub exchange_early-requires-clause-may : goal.exchange_early-requires-clause-may
-exchange_early-requires-clause-may c = ready c.look_all-word.ensures c.tier-tier.ensures c.requires.unarrived (ap (λ (w : Fields). w.ended) (sym c.word.view_is) ∙ c.if-word.false) (ap (λ (z : GroupHeld). lags c.look_all-word.result z.view) (sym c.group.view_is) ∙ (sym c.is_behind.ensures ∙ c.if-is_behind.false))
-
-pub exchange_early-requires-clause-eager : goal.exchange_early-requires-clause-eager
-exchange_early-requires-clause-eager c = eager_now c.look_all-word.ensures c.tier-tier.ensures c.requires.unarrived c.requires.eager (ap (λ (w : Fields). w.ended) (sym c.word.view_is) ∙ c.if-word.false)
-
-pub exchange_early-requires-clause-some : goal.exchange_early-requires-clause-some
-exchange_early-requires-clause-some c =
+exchange_early-requires-clause-may c =
     let k = looked_yet c.look_all-word.ensures c.tier-tier.ensures c.requires.unarrived in
-    has_parties c.look_all-word.ensures (c.tier-tier.ensures ∙ sym k.view.same.tier) (ready c.look_all-word.ensures c.tier-tier.ensures c.requires.unarrived (ap (λ (w : Fields). w.ended) (sym c.word.view_is) ∙ c.if-word.false) (ap (λ (z : GroupHeld). lags c.look_all-word.result z.view) (sym c.group.view_is) ∙ (sym c.is_behind.ensures ∙ c.if-is_behind.false)))
-
-pub exchange_early-requires-clause-room : goal.exchange_early-requires-clause-room
-exchange_early-requires-clause-room c =
-    let a = are_many c.new_tokens-new_tokens.ensures.new in let b = c.if-joining-word.false in let d = ap (λ (z : Fields). z.parties) c.word-2.view_is in let e = c.word-2.invariant.parties in omega arith
-
-pub exchange_early-requires-clause-few : goal.exchange_early-requires-clause-few
-exchange_early-requires-clause-few c = let a = still_many c.look_all-word.ensures in let b = c.requires.few in omega arith
-
-pub exchange_early-requires-clause-come : goal.exchange_early-requires-clause-come
-exchange_early-requires-clause-come c = let a = still_many c.look_all-word.ensures in let b = c.requires.come in let d = are_many c.new_tokens-new_tokens.ensures.new in omega arith
-
-pub exchange_last-requires-clause-blank : goal.exchange_last-requires-clause-blank
-exchange_last-requires-clause-blank c = are_blank c.new_tokens-new_tokens.ensures.new
+    let can = ready c.look_all-word.ensures c.tier-tier.ensures c.requires.unarrived (ap (λ (w : Fields). w.ended) (sym c.word.view_is) ∙ c.if-word.false) (ap (λ (z : GroupHeld). lags c.look_all-word.result z.view) (sym c.group.view_is) ∙ (sym c.is_behind.ensures ∙ c.if-is_behind.false)) in
+    let many = are_many c.new_tokens-new_tokens.ensures.new in
+    let still = still_many c.look_all-word.ensures in
+    record {
+      own = (c.look_all-word.ensures.tree ∙ c.requires.own.1, c.new_tokens-new_tokens.ensures.new.table);
+      blank = are_blank c.new_tokens-new_tokens.ensures.new;
+      may = can;
+      eager = eager_now c.look_all-word.ensures c.tier-tier.ensures c.requires.unarrived c.requires.eager (ap (λ (w : Fields). w.ended) (sym c.word.view_is) ∙ c.if-word.false);
+      place = (let a = k.view.same.tier in let b = c.requires.place in omega arith);
+      some = has_parties c.look_all-word.ensures (c.tier-tier.ensures ∙ sym k.view.same.tier) can;
+      room = (let a = c.if-joining-word.false in let b = ap (λ (z : Fields). z.parties) c.word-2.view_is in let e = c.word-2.invariant.parties in omega arith);
+      enough = (let a = c.if-word-size.true in let b = c.size.ensures.size in let d = ap (λ (z : Fields). z.unarrived) c.word-2.view_is in omega arith);
+      few = (let a = c.requires.few in omega arith);
+      come = (let a = c.requires.come in omega arith);
+    }
 
 pub exchange_last-requires-clause-may : goal.exchange_last-requires-clause-may
-exchange_last-requires-clause-may c = ready c.look_all-word.ensures c.tier-tier.ensures c.requires.unarrived (ap (λ (w : Fields). w.ended) (sym c.word.view_is) ∙ c.if-word.false) (ap (λ (z : GroupHeld). lags c.look_all-word.result z.view) (sym c.group.view_is) ∙ (sym c.is_behind.ensures ∙ c.if-is_behind.false))
-
-pub exchange_last-requires-clause-eager : goal.exchange_last-requires-clause-eager
-exchange_last-requires-clause-eager c = eager_now c.look_all-word.ensures c.tier-tier.ensures c.requires.unarrived c.requires.eager (ap (λ (w : Fields). w.ended) (sym c.word.view_is) ∙ c.if-word.false)
-
-pub exchange_last-requires-clause-some : goal.exchange_last-requires-clause-some
-exchange_last-requires-clause-some c =
+exchange_last-requires-clause-may c =
     let k = looked_yet c.look_all-word.ensures c.tier-tier.ensures c.requires.unarrived in
-    has_parties c.look_all-word.ensures (c.tier-tier.ensures ∙ sym k.view.same.tier) (ready c.look_all-word.ensures c.tier-tier.ensures c.requires.unarrived (ap (λ (w : Fields). w.ended) (sym c.word.view_is) ∙ c.if-word.false) (ap (λ (z : GroupHeld). lags c.look_all-word.result z.view) (sym c.group.view_is) ∙ (sym c.is_behind.ensures ∙ c.if-is_behind.false)))
-
-pub exchange_last-requires-clause-room : goal.exchange_last-requires-clause-room
-exchange_last-requires-clause-room c =
-    let a = are_many c.new_tokens-new_tokens.ensures.new in let b = c.if-joining-word.false in let d = ap (λ (z : Fields). z.parties) c.word-2.view_is in let e = c.word-2.invariant.parties in omega arith
-
-pub exchange_last-requires-clause-few : goal.exchange_last-requires-clause-few
-exchange_last-requires-clause-few c = let a = still_many c.look_all-word.ensures in let b = c.requires.few in omega arith
-
-pub exchange_last-requires-clause-come : goal.exchange_last-requires-clause-come
-exchange_last-requires-clause-come c = let a = still_many c.look_all-word.ensures in let b = c.requires.come in let d = are_many c.new_tokens-new_tokens.ensures.new in omega arith
+    let can = ready c.look_all-word.ensures c.tier-tier.ensures c.requires.unarrived (ap (λ (w : Fields). w.ended) (sym c.word.view_is) ∙ c.if-word.false) (ap (λ (z : GroupHeld). lags c.look_all-word.result z.view) (sym c.group.view_is) ∙ (sym c.is_behind.ensures ∙ c.if-is_behind.false)) in
+    let many = are_many c.new_tokens-new_tokens.ensures.new in
+    let still = still_many c.look_all-word.ensures in
+    record {
+      own = (c.look_all-word.ensures.tree ∙ c.requires.own.1, c.new_tokens-new_tokens.ensures.new.table);
+      blank = are_blank c.new_tokens-new_tokens.ensures.new;
+      may = can;
+      eager = eager_now c.look_all-word.ensures c.tier-tier.ensures c.requires.unarrived c.requires.eager (ap (λ (w : Fields). w.ended) (sym c.word.view_is) ∙ c.if-word.false);
+      place = (let a = k.view.same.tier in let b = c.requires.place in omega arith);
+      some = has_parties c.look_all-word.ensures (c.tier-tier.ensures ∙ sym k.view.same.tier) can;
+      room = (let a = c.if-joining-word.false in let b = ap (λ (z : Fields). z.parties) c.word-2.view_is in let e = c.word-2.invariant.parties in omega arith);
+      enough = (let few = last_count c.look_all-word.ensures (subst (λ (n : ℕ). CanPass n c.look_all-word.result c.look_all-word.new.group.view) (k.view.same.tier ∙ sym c.tier-tier.ensures) can) in let a = c.size.ensures.size in let b = ap (λ (z : Fields). z.unarrived) c.word-2.view_is in let d = c.if-word-size.false in omega arith);
+      few = (let a = c.requires.few in omega arith);
+      come = (let a = c.requires.come in omega arith);
+    }
 
 pub exchange_last-requires-clause-last : goal.exchange_last-requires-clause-last
 exchange_last-requires-clause-last c =

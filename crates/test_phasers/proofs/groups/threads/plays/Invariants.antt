@@ -1,5 +1,0 @@
-use Rattle.std.proofs.Common.{◌≡◌}
-use Rattle.test_phasers.proofs.groups.threads.plays.Given as goal
-
-abbrev pub invariant-loop-phase : goal.invariant-loop-phase
-invariant-loop-phase g l = (l.door.tree ≡ l.tree.tree) × (l.group.tree ≡ l.tree.tree)
