@@ -1,2 +1,2 @@
 pub mod Outlets
-pub mod Handing
+pub mod Left

@@ -6,13 +6,13 @@
 //!
 //! # Where things are
 //!
-//! * `run.rt`: a run; `engine.rt`: the stretches of a job with the lines that are still to be written; `outlet.rt`: the writer, which
+//! * `run.rt`: a run; `lines.rt`: the lines that are still to be written; `outlet.rt`: the writer, which
 //!   workers share; `streaming.rt`: what a run is of; `fault.rt`: why a run doesn't end.
-//! * `specs/Written.antt`: what is written; `Handed.antt`: the stretches and lines that workers hold.
+//! * `specs/Written.antt`: what is written.
 #![tactic(auto)]
 
-mod engine;
 mod fault;
+mod lines;
 mod outlet;
 mod run;
 mod streaming;

@@ -5,17 +5,16 @@ ghost use Rattle.advance_rule.specs.Stored.{Answers};
 ghost use Rattle.advance_rule.specs.Plan.{end_ends_at};
 ghost use Rattle.programs.specs.Meaning.{children};
 ghost use Rattle.step_parts.specs.Program.{program_of};
-ghost use Rattle.step_parts.specs.SlotParts.{path_in};
-ghost use Rattle.stretch_parts.specs.Parts.{AreFresh, tasks_in};
+ghost use Rattle.stretch_queue.specs.Hooked.{AreNext};
 ghost use Rattle.program_stretches.specs.Closing.{HasLeft};
 ghost use Rattle.job_stream.specs.Running.{IsRunOf, job_reading};
 ghost use Rattle.job_stream.specs.Streamed.{lines_of};
 ghost use Rattle.worker_pool.specs.JobPlan.{IsJobPlan};
-ghost use Rattle.stretch_groups.specs.Refusals.{IsOfWorkers};
+ghost use Rattle.stretch_queue.specs.Refusals.{IsOfWorkers};
 ghost use Rattle.stream_workers.specs.Written.{StreamsOn, CauseOn};
 
-use crate::engine::Handing;
 use crate::fault::{Unstreamed, why_unstreamed};
+use crate::lines::Streamed;
 use crate::outlet::{Lent, Outlet};
 use crate::streaming::Streaming;
 use advance_rule::{EndPlan, StoredAdvance};
@@ -32,7 +31,7 @@ use std::thread::Threads;
 use task_code::job::Job;
 use task_lang::task::Task;
 use tier_shape::Shape;
-use worker_pool::{Gate, Refused, Starter, run_engine, stretches_wanted};
+use worker_pool::{Gate, Refused, Starter, run_stretches, stretches_wanted};
 
 // How a run is set up: the tree at which workers meet, how many they are, when the tree ends, and the hooks.
 #[derive(Drop)]
@@ -138,8 +137,7 @@ fn stream_begun<
 ) -> Result<JobStatus, Unstreamed>
     requires log { stretches.name ≡ log.now }
     requires run { IsRunOf job.now limit stretches.log }
-    requires fresh { AreFresh 0 stretches.parts × (stretches.count ≡ length (tasks_in stretches.parts)) }
-    requires paths { map path_in (tasks_in stretches.parts) ≡ children [] 0 stretches.count }
+    requires next { AreNext stretches }
     requires workers { (1 ≤ setup.workers) × (setup.workers ≤ 64) }
     requires plan { IsJobPlan setup.advance.plan }
     requires rule { Answers (F.pre setup.advance.closure) (F.post setup.advance.closure) (end_ends_at setup.advance.plan) }
@@ -186,8 +184,7 @@ fn stream_lent<
 ) -> Lent<'w, W>
     requires log { stretches.name ≡ log.now }
     requires run { IsRunOf job.now limit stretches.log }
-    requires fresh { AreFresh 0 stretches.parts × (stretches.count ≡ length (tasks_in stretches.parts)) }
-    requires paths { map path_in (tasks_in stretches.parts) ≡ children [] 0 stretches.count }
+    requires next { AreNext stretches }
     requires workers { (1 ≤ setup.workers) × (setup.workers ≤ 64) }
     requires plan { IsJobPlan setup.advance.plan }
     requires rule { Answers (F.pre setup.advance.closure) (F.post setup.advance.closure) (end_ends_at setup.advance.plan) }
@@ -209,8 +206,13 @@ fn stream_lent<
         starter,
     } = setup;
     let outlet = Mutex::new(Outlet::<'w, W, J>::new(lent, job, limit));
-    let engine = Handing::new(rt, &outlet, stretches);
-    let left = run_engine(rt, alloc, engine, shape, workers, advance, gate, starter);
+    let hook = Streamed {
+        rt,
+        outlet: &outlet,
+    };
+    let left = run_stretches(
+        rt, alloc, stretches, hook, false, shape, workers, advance, gate, starter,
+    );
     conclude(alloc, log, outlet.into_inner(), left, first, workers, ended)
 }
 

@@ -1,11 +1,10 @@
 -- What is known of stretches that are out, as they go and come.
-use Rattle.std.specs.Prelude.{◌==◌, if◌then◌else◌, IfSome}
+use Rattle.std.specs.Prelude.{◌==◌, if◌then◌else◌, IfSome, IfOk, MatchOption, Result, Ok, Err}
 use Rattle.std.specs.Option.{option_map}
 use Rattle.std.proofs.Common.{◌≡◌, ◌≢◌, ◌⊎◌, inl, inr, ℕ, Bool, true, false, List, [], ◌∷◌, Option, Some, None, refl, sym, ap, ◌∙◌, subst, arith, ⊎_elim}
 use Rattle.pass_list.specs.declared.rule.Ticket.{Ticket}
 use Rattle.pass_list.specs.Passed.{PassValue, IsOut, without, ticket}
-use Rattle.stretch_groups.specs.HandedOut.{Each, OneIs, AreApart, AreOut, AreLeft}
-use Rattle.stretch_groups.specs.Living.{LeftValue}
+use Rattle.stretch_queue.specs.HandedOut.{Each, AreApart, AreOut}
 
 pub not_both : (b : Bool) → b ≡ true → b ≡ false → ⊥
 not_both b t f = absurd (apart (sym t ∙ f))
@@ -15,11 +14,6 @@ not_both b t f = absurd (apart (sym t ∙ f))
 
 pub same_key : (a b : ℕ) → a ≡ b → (a == b) ≡ false → ⊥
 same_key a b e n = grind arith
-
-pub one_map : {A : Type 0} (P Q : A → Type 0) (xs : List A) → ((x : A) → P x → Q x) → OneIs P xs → OneIs Q xs
-one_map P Q [] f k = absurd k
-one_map P Q (x ∷ xs) f (inl p) = inl (f x p)
-one_map P Q (x ∷ xs) f (inr k) = inr (one_map P Q xs f k)
 
 module _ {T : Type 0} where
   pub each_here : (P : Ticket T → Type 0) (ts : List (Ticket T)) (t : Ticket T) → Each P ts → IsOut t ts → P t
@@ -110,30 +104,10 @@ module _ {T : Type 0} where
       value None = (0, 0)
       value (Some x) = x
 
-  -- ---- one of the tickets
+-- what is known of one that was asked for, if it is there
+pub there_taken : {X : Type 0} (o : Option X) (x : X) (A : Type 0) (T : X → Type 0) → o ≡ Some x → MatchOption o A T → T x
+there_taken o x A T e h = subst (λ (p : Option _). MatchOption p A T) e h
 
-  pub one_of : (P : Ticket T → Type 0) (ts : List (Ticket T)) (t : Ticket T) → IsOut t ts → P t → OneIs P ts
-  one_of P [] t k p = absurd k
-  one_of P (u ∷ ts) t (inl e) p = inl (subst P (sym e) p)
-  one_of P (u ∷ ts) t (inr k) p = inr (one_of P ts t k p)
-
-  -- if one is struck out, it was this one, or it is still there
-  pub one_left : (P : Ticket T → Type 0) (ts us : List (Ticket T)) (t : Ticket T) → ((u : Ticket T) → IsOut u ts → (t ≡ u) ⊎ IsOut u us) → OneIs P ts → P t ⊎ OneIs P us
-  one_left P ts us t others k = from ts (λ u l. l) k
-    where
-      from : (vs : List (Ticket T)) → ((u : Ticket T) → IsOut u vs → IsOut u ts) → OneIs P vs → P t ⊎ OneIs P us
-      from [] there k = absurd k
-      from (v ∷ vs) there (inl p) = ⊎_elim (λ e. inl (subst P (sym e) p)) (λ l. inr (one_of P us v l p)) (others v (there v (inl refl)))
-      from (v ∷ vs) there (inr l) = from vs (λ u m. there u (inr m)) l
-
--- what is said of one that is there
-pub there : {X : Type 0} (o : Option X) (x : X) (A : Type 0) → o ≡ Some x → IfSome o (λ y. A) → A
-there o x A e h = subst (λ (p : Option _). IfSome p (λ y. A)) e h
-
--- what is said of one that is there, whatever it is
-pub there_of : {X : Type 0} (o : Option X) (x : X) (P : X → Type 0) → o ≡ Some x → IfSome o P → P x
-there_of o x P e h = subst (λ (p : Option _). IfSome p P) e h
-
--- what a pass that comes back knows of the paths that its group leaves
-pub known_left : {pass held : PassValue LeftValue} {t : Ticket LeftValue} {paths : List (List ℕ)} → pass ≡ held → AreLeft held paths → pass.held ≡ Some t → t.known.faulted ≡ false → paths ≡ t.known.paths
-known_left {pass} {held} {t} {paths} same left is = there_of pass.held t (λ u. u.known.faulted ≡ false → paths ≡ u.known.paths) is (subst (λ (p : PassValue LeftValue). AreLeft p paths) (sym same) left)
+pub if_ok : {X E : Type 0} (answer : Result X E) (F G : X → Type 0) → IfOk answer F → ((x : X) → F x → G x) → IfOk answer G
+if_ok (Ok x) F G h f = f x h
+if_ok (Err e) F G h f = h

@@ -1,6 +1,9 @@
-pub mod QueueValue
-pub mod Leaving
+pub mod Refusals
+pub mod HandedOut
+pub mod Hooked
 pub mod Watched
-pub mod PassLists
-pub mod QueueState
+pub mod QueueValue
+pub mod Segments
+pub mod Leaves
+pub mod Signs
 pub mod QueueView

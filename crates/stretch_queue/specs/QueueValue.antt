@@ -1,37 +1,48 @@
--- An engine as workers share it, and what came first of all that refused the run (own).
-use Rattle.std.specs.Prelude.{◌==◌, ◌||◌, ◌&&◌, Bool, not, List, length, Option, None, Some, is_some}
+-- The queue of a run, as contracts see it, and what its type keeps (own).
+use Rattle.std.specs.Prelude.{◌≡◌, ◌==◌, ◌||◌, ◌&&◌, ℕ, Bool, true, false, not, List, [], length, slice_get, Option, None, Some, IfSome, is_some}
 use Rattle.std.specs.Option.{unwrap_or}
-use Rattle.stretch_groups.specs.declared.engine.Closed.{Closed}
-use Rattle.stretch_groups.specs.declared.engine.Closed.TheVariants as closed
-use Rattle.stretch_groups.specs.declared.fault.Refused.{Refused}
-use Rattle.stretch_groups.specs.Groups.{GroupValue}
-use Rattle.stretch_queue.specs.declared.queue.HandedBack.{HandedBack}
-use Rattle.stretch_queue.specs.declared.queue.HandedBack.TheVariants.{Unchanged, Ready, Ended}
+use Rattle.atomic_table.specs.Seated.{TableId}
+use Rattle.program_stretches.specs.StretchesValue.{StretchesValue, status_in}
+use Rattle.stretch_queue.specs.declared.fault.Refused.{Refused}
+use Rattle.stretch_queue.specs.declared.queue.Lists.{Lists}
+use Rattle.stretch_queue.specs.HandedOut.{AreOut, out_at}
+use Rattle.stretch_queue.specs.Hooked.{bare}
+use Rattle.stretch_queue.specs.Refusals.{IsOfWorkers}
+use Rattle.stretch_queue.specs.Watched.{has_ended_in, can_leave_in}
 
-pub record QueueValue (E : Type 0) : Type 0 where
-  pub engine : E
+-- the stretches; whether the hook has stopped the run; the first refusal; and the numbers of the stretches that are ready
+pub record QueueValue (Q S : Type 0) : Type 0 where
+  pub stretches : StretchesValue Q S
+  pub stopped : Bool
   pub first : Option Refused
-  pub ready : List GroupValue
-  -- whether the tasks were cut anew, and groups of the superstep before aren't back
-  pub awaits : Bool
+  pub ready : List ℕ
 
-abbrev pub with_engine : {E : Type 0} → QueueValue E → E → QueueValue E
-with_engine b engine = record b { engine = engine }
+-- no pass of these lists is out
+abbrev pub AreNew : Lists → Type 0
+AreNew l = (l.stretches.out ≡ []) × (l.stops.out ≡ [])
 
--- the first refusal stays
-abbrev pub refused_by : {E : Type 0} → QueueValue E → Refused → QueueValue E
-refused_by b refused = record b { first = Some (unwrap_or b.first refused) }
+-- the lists have these names
+abbrev pub AreNamed : TableId → TableId → Lists → Type 0
+AreNamed passes stops l = (l.stretches.name ≡ passes) × (l.stops.name ≡ stops)
 
--- workers stop: the engine has ended, or the run is refused
-abbrev pub is_over : {E : Type 0} → (E → Bool) → QueueValue E → Bool
-is_over ended b = is_some b.first || ended b.engine
+module _ {Q S : Type 0} where
+  -- the first refusal stays
+  abbrev pub refused_by : QueueValue Q S → Refused → QueueValue Q S
+  refused_by b refused = record b { first = Some (unwrap_or b.first refused) }
 
--- a worker has to wait: nothing is ready, and workers don't stop
-abbrev pub is_idle : {E : Type 0} → (E → Bool) → QueueValue E → Bool
-is_idle ended b = (length b.ready == 0) && not (is_over ended b)
+  -- workers stop: the run has ended, or is refused
+  abbrev pub is_over : QueueValue Q S → Bool
+  is_over b = is_some b.first || has_ended_in b.stretches b.stopped
 
--- how the superstep was closed, if it was
-abbrev pub closing : HandedBack → Option Closed
-closing Unchanged = None
-closing Ready = Some closed.Landed
-closing Ended = Some closed.Ended
+  -- a worker has to wait: nothing is ready, and workers don't stop
+  abbrev pub is_idle : QueueValue Q S → Bool
+  is_idle b = (length b.ready == 0) && not (is_over b)
+
+  pub record IsQueue (kept : StretchesValue Q S → Bool → Type 0) (mark : TableId) (workers : ℕ) (passes stops : TableId) (lists : Lists) (b : QueueValue Q S) : Type 0 where
+    pub of_mark : b.stretches.name ≡ mark
+    pub of_workers : IfSome b.first (IsOfWorkers workers)
+    pub named : AreNamed passes stops lists
+    pub are_out : AreOut (λ k. out_at (slice_get b.stretches.parts k)) b.stretches.step lists.stretches.out
+    pub keeps : b.first ≡ None → kept (bare b.stretches) b.stopped
+    pub leaves : b.first ≡ None → has_ended_in b.stretches b.stopped ≡ true → (can_leave_in b.stretches b.stopped ≡ true) × ((k : ℕ) → out_at (slice_get b.stretches.parts k) ≡ false)
+    pub nobody : is_over b ≡ false → lists.stops.out ≡ []

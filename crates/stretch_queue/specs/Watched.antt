@@ -1,22 +1,15 @@
 -- What a watcher has allowed of a run by stretches (own).
-use Rattle.std.specs.Prelude.{◌≡◌, ◌⊎◌, ◌+◌, ◌||◌, if◌then◌else◌, ℕ, ℤ, Bool, true, false, List, [], ◌∷◌, ◌++◌, length, map, None, is_some}
+use Rattle.std.specs.Prelude.{◌≡◌, ◌⊎◌, ◌+◌, ◌||◌, if◌then◌else◌, ℕ, ℤ, Bool, true, false, List, [], ◌∷◌, ◌++◌, length, map, None, Some, is_some}
 use Rattle.atomic_table.specs.Seated.{TableId}
 use Rattle.snapshot_log.specs.Agreed.{LogValue}
 use Rattle.phase_records.specs.ReportValue.{ReportValue}
 use Rattle.programs.specs.History.{HasRunTo}
-use Rattle.program_stretches.specs.declared.fault.Outcome as outcomes
 use Rattle.stretch_parts.specs.Parts.{Reading}
 use Rattle.program_stretches.specs.Opening.{OpeningValue, live_of}
 use Rattle.program_stretches.specs.StretchesValue.{StretchesValue, status_in, can_leave, can_stop}
-use Rattle.program_stretches.specs.Closing.{IsClosed}
-use Rattle.stretch_groups.specs.declared.engine.Closed as closings
-use Rattle.stretch_groups.specs.declared.engine.Closed.TheVariants as closed
-use Rattle.stretch_queue.specs.Leaving.{closed_by}
-
--- a run that workers share, and whether its watcher has stopped it
-pub record RunValue (Q S : Type 0) : Type 0 where
-  pub stretches : StretchesValue Q S
-  pub stopped : Bool
+use Rattle.program_stretches.specs.Closing.{HasLeft, HasLeftTo}
+use Rattle.phase_records.specs.Status.{Limit}
+use Rattle.stretch_queue.specs.Hooked.{bare}
 
 module _ {Q S : Type 0} where
   -- the watcher let each superstep of this log begin
@@ -44,18 +37,30 @@ module _ {Q S : Type 0} where
     pub running : stopped ≡ false → status_in v ≡ None → AllWent goes v.log
     pub halted : stopped ≡ true → (status_in v ≡ None) × stops v.step v.arrays v.count
 
-  -- the run has ended, or its watcher has stopped it
-  abbrev pub has_ended_in : RunValue Q S → Bool
-  has_ended_in v = is_some (status_in v.stretches) || v.stopped
+  -- the run has ended, or its hook has stopped it
+  abbrev pub has_ended_in : StretchesValue Q S → Bool → Bool
+  has_ended_in v stopped = is_some (status_in v) || stopped
 
   -- what it leaves can be had
-  abbrev pub can_leave_in : RunValue Q S → Bool
-  can_leave_in v = if v.stopped then can_stop v.stretches else can_leave v.stretches
+  abbrev pub can_leave_in : StretchesValue Q S → Bool → Bool
+  can_leave_in v stopped = if stopped then can_stop v else can_leave v
 
 module _ {Q S T : Type 0} where
-  -- how closing a superstep changes the run: a watcher that stops it ends it too
-  abbrev pub ClosesBy : (Q → Reading S T) → RunValue Q S → RunValue Q S → closings.Closed → Type 0
-  ClosesBy m old new answer = (outcome : outcomes.Outcome) × (IsClosed m old.stretches new.stretches outcome × (answer ≡ (if new.stopped then closed.Ended else closed_by outcome)))
+  -- what a run leaves that has ended in this state, or was stopped in it by its hook
+  abbrev pub LeavesAs : (Q → Reading S T) → StretchesValue Q S → Bool → LogValue (OpeningValue Q S) → ℕ → ReportValue → List S → Type 0
+  LeavesAs m v true w given outcome living =
+      (w.name ≡ v.name) × (w.log ≡ v.log) × (given ≡ v.given) × HasLeftTo m (λ o. v.step) w.log given outcome living
+      × (outcome.arrays ≡ v.arrays) × (outcome.status ≡ Limit v.step) × (length living ≡ v.count)
+  LeavesAs m v false w given outcome living =
+      (w.name ≡ v.name) × (w.log ≡ v.log) × (given ≡ v.given) × HasLeft m w.log given outcome living × (Some outcome.status ≡ status_in v)
+
+  -- what a run leaves whose hook kept this of it until its end
+  pub record HasLeftKept (m : Q → Reading S T) (kept : StretchesValue Q S → Bool → Type 0) (mark : TableId) (w : LogValue (OpeningValue Q S)) (given : ℕ) (outcome : ReportValue) (living : List S) : Type 0 where
+    pub last : StretchesValue Q S
+    pub stopped : Bool
+    pub of_mark : last.name ≡ mark
+    pub keeps : kept (bare last) stopped
+    pub leaves : LeavesAs m last stopped w given outcome living
 
   -- This is the result of a run with a watcher that began with the first opening of this log.
   pub record HasLeftWatched (stops goes : ℕ → List (List ℕ × List ℤ) → ℕ → Type 0) (m : Q → Reading S T) (log : List (OpeningValue Q S)) (outcome : ReportValue) (living : List S) : Type 0 where
@@ -63,7 +68,3 @@ module _ {Q S T : Type 0} where
     pub since : List (OpeningValue Q S)
     pub begun : log ≡ since ++ first ∷ []
     pub run : HasRunTo stops goes (m first.program).frame (m first.program).may first.most first.arrays (map (m first.program).meant (live_of first)) first.limit outcome (map (m first.program).meant living)
-
-  -- the same of the log of this name
-  abbrev pub GivesWatched : (ℕ → List (List ℕ × List ℤ) → ℕ → Type 0) → (ℕ → List (List ℕ × List ℤ) → ℕ → Type 0) → (Q → Reading S T) → TableId → LogValue (OpeningValue Q S) → ReportValue → List S → Type 0
-  GivesWatched stops goes m id w outcome living = (w.name ≡ id) × HasLeftWatched stops goes m w.log outcome living

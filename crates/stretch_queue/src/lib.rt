@@ -1,13 +1,21 @@
-//! What workers share of a run, without threads and without a tree: the engine, which of its stretches are ready, and which
-//! participants are back from the tree. `worker_pool` runs workers on it.
+//! What workers share of a run, without threads: the stretches of its tasks, which of them are ready, and the members of the tree that
+//! arrive for their tasks. `worker_pool` runs workers on it.
 //!
-//! * `queue`: which stretches are ready, and which participants are back from the tree.
-//! * `program_engine`: the stretches of a program as an engine.
-//! * What the queue is made of comes from `stretch_groups`: its modules have the same names here.
-//! * `specs/Leaving.antt`: what a run of a program leaves; `Watched.antt`: the same with a watcher.
+//! * `queue`: all that is shared. `running`: what names a run in contracts.
+//! * `hand`: a stretch while a worker holds it. `tokens`: the members that arrive for its tasks; `moves`: how many tasks came and
+//!   left. `led`: the sign that members have advanced the tree.
+//! * `hook`: what closes supersteps; `watched`: a hook with a watcher. `hooks`: what a caller hooks into segments and starts.
+//!   `fault`: why a run leaves nothing.
+//! * `specs/Watched.antt`: what a run leaves; `QueueValue.antt`: what always holds for the queue.
 #![tactic(auto)]
 
-pub mod program_engine;
+pub mod fault;
+pub mod hand;
+pub mod hook;
+pub mod hooks;
+pub mod led;
+pub mod moves;
 pub mod queue;
-
-pub use stretch_groups::{engine, fault, groups, hand, hooks, led, participant};
+pub mod running;
+pub mod tokens;
+pub mod watched;

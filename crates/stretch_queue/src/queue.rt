@@ -1,131 +1,272 @@
-//! The engine that the workers of a run share, and which of its stretches are ready.
-ghost use Rattle.std.specs.Prelude.{◌≡◌, [], true, false, None, Err, IfOk, IfErr};
-ghost use Rattle.stretch_queue.specs.PassLists.{AreNew};
-ghost use Rattle.stretch_groups.specs.declared.fault.Reason.TheVariants as reason;
-ghost use Rattle.stretch_groups.specs.declared.fault.Refused.TheVariants as refused;
+//! What the workers of a run share: its stretches, which of them are ready, and the members of the tree that arrive for their tasks.
+ghost use Rattle.std.specs.Prelude.{◌≡◌, ℕ, [], true, false, None, Err, IfErr, IfOk, IfSome, is_some};
+ghost use Rattle.stretch_queue.specs.Refusals.{IsOfWorkers};
+ghost use Rattle.stretch_parts.specs.Parts.{reading_of};
+ghost use Rattle.stretch_queue.specs.Watched.{LeavesAs, can_leave_in};
+ghost use Rattle.stretch_queue.specs.declared.fault.Reason.TheVariants as reason;
+ghost use Rattle.stretch_queue.specs.declared.fault.Refused.TheVariants as refused;
 
-use pass_list::list::PassList;
+use crate::fault::{Reason, Refused};
+use crate::hand::{HeldStretch, RanStretch};
+use crate::hook::{Closed, Hook};
+use crate::led::Led;
+use crate::moves::Moves;
+use crate::running::Running;
+use crate::tokens::Tokens;
+use pass_list::list::{Pass, PassList};
+use program_stretches::{Left, Stretches};
+use programs::program::{Program, TaskLoop};
 use std::alloc::{AllocError, Global};
 use std::collections::VecDeque;
 use std::marker::{Model, PhantomData};
 use std::mem;
-use stretch_groups::engine::{Closed, Engine, Stretch};
-use stretch_groups::fault::{Reason, Refused};
-use stretch_groups::groups::{Coming, push_group, regrouped};
-use stretch_groups::hand::{Changes, HeldStretch, RanStretch};
-use stretch_groups::led::Led;
-use stretch_groups::participant::{Group, HeldGroup, Leaving, Stopped};
-pub use stretch_groups::running::{GroupList, Running};
 
 /// The pass lists of a run.
 #[derive(Drop)]
-pub struct Lists<J: Running> {
+pub struct Lists {
     /// Passes for stretches that workers hold.
     pub stretches: PassList<()>,
-    /// Passes for groups that workers hold. Each knows what its group leaves.
-    pub groups: PassList<Leaving<J>>,
     /// Passes for workers that have stopped.
     pub stops: PassList<()>,
 }
 
-/// The engine of a run, the groups of its participants, and the first refusal. Its type keeps that the engine has the mark of the
-/// run, that a worker that couldn't be started is one of the run, and that each pass for a stretch is for one of this superstep
-/// that is out. Until workers must stop, it also keeps that no worker has stopped, that each ready group has the paths of the tasks
-/// of its stretch, in their order, and that no group is lost.
+/// The pass of a worker that has stopped. A worker gets it when it sees that workers must stop.
 #[derive(Drop)]
-pub struct Queue<E: Engine, J: Running, L: GroupList> {
-    engine: E,
-    lists: Lists<J>,
-    // The groups of ready stretches. No worker holds them.
-    ready: VecDeque<Group<J>>,
-    // The groups of this superstep that are back from the tree. If all tasks stay, they become ready when it is closed.
-    back: VecDeque<Group<J>>,
-    // After tasks came or left: a place for each group of the superstep before.
-    coming: Coming<J>,
-    // Whether a task came or left in a stretch of this superstep that was delivered.
-    moves: bool,
-    // Whether tasks came or left in the superstep before, and not all of its groups are back.
-    awaits: bool,
-    // The first refusal of the run.
-    first: Option<Refused>,
-    of: PhantomData<(J, L)>,
+pub struct Stopped<J: Running> {
+    pass: Pass<()>,
+    of: PhantomData<J>,
+    ghost own: { (pass.name ≡ J.stops) × (is_some pass.held ≡ true) },
+}
+
+/// The members of the tasks of a stretch that was delivered.
+#[derive(Drop)]
+pub struct Delivered<J: Running> {
+    /// The number of the stretch.
+    pub number: usize,
+    /// Its superstep.
+    pub step: u32,
+    /// The members, which haven't arrived in this superstep.
+    pub tokens: Tokens<J>,
+    /// How many tasks came and left.
+    pub moves: Moves,
+}
+
+/// The members of the tasks of a stretch after they have arrived, or left.
+#[derive(Drop)]
+pub struct Arrived<J: Running> {
+    /// The number of the stretch.
+    pub number: usize,
+    /// Its superstep.
+    pub step: u32,
+    /// The members that are left.
+    pub tokens: Tokens<J>,
+}
+
+/// All members of a run after tasks have moved between stretches. They have to be cut anew for the next stretches.
+#[derive(Drop)]
+pub struct Recut<J: Running> {
+    /// The members.
+    pub tokens: Vec<Tokens<J>>,
+    /// How many tasks each of the next stretches has.
+    pub sizes: Vec<usize>,
 }
 
 /// What a worker does next.
 #[derive(Drop)]
-pub enum Next<E: Engine, J: Running> {
+pub enum Next<'p, P: TaskLoop, H: Hook<P>, J: Running> {
     /// Run the segments of this stretch.
-    Run(HeldStretch<E::Stretch, J>),
+    Run(HeldStretch<'p, P, H::Lines, J>),
     /// Stop.
     Stop(Stopped<J>),
 }
 
-/// The effect of handing back a group of participants.
-#[derive(Clone, Copy)]
-pub enum HandedBack {
+/// The effect of handing back the members of a stretch.
+#[derive(Drop)]
+pub enum HandedBack<J: Running> {
     /// No stretch became ready.
     Unchanged,
     /// Stretches became ready, or the run has ended with no task left or at its limit.
     Ready,
-    /// A fault or a watcher has ended the run; the tree must be ended too.
+    /// A fault or the hook has ended the run; the tree must be ended too.
     Ended,
+    /// The members have to be cut anew. No stretch is ready before that.
+    Recut(Recut<J>),
 }
 
-impl<E: Engine, J: Running, L: GroupList> Model for Queue<E, J, L> {
-    ghost use Rattle.stretch_groups.specs.EngineReading.{read_by};
-    ghost use Rattle.stretch_queue.specs.QueueState.{IsQueue};
-    ghost use Rattle.stretch_queue.specs.QueueValue.{QueueValue};
-    ghost use Rattle.stretch_queue.specs.QueueView.{queue_of, queue_value};
-
-    ghost Value = { QueueValue E };
-
-    ghost view = { queue_value };
-
-    ghost invariant = { λ i. IsQueue
-        (read_by E.mark E.len E.count E.paths E.living E.faulted E.ready E.out E.stays E.step E.ended E.leaves)
-        J.mark J.workers J.passes L.groups J.stops (queue_of i) };
+/// The stretches of a run, its hook, the members that arrive for their tasks, and the first refusal. Its type keeps that the
+/// stretches have the mark of the run, that the hook keeps what it says of them, that a worker that couldn't be started is one of
+/// the run, and that each pass for a stretch is for one of this superstep that is out. Until workers must stop, it also keeps that
+/// no worker has stopped.
+#[derive(Drop)]
+pub struct Queue<'t, 'p, P: TaskLoop, H: Hook<P>, J: Running> {
+    stretches: Stretches<'t, 'p, P>,
+    hook: H,
+    // Whether the hook has stopped the run.
+    stopped: bool,
+    // What the next stretch takes along.
+    lines: Option<H::Lines>,
+    lists: Lists,
+    // By the number of a stretch: the members of its tasks. `None` while a worker holds them.
+    tokens: Vec<Option<Tokens<J>>>,
+    // By the number of a stretch: how many members it has after this superstep, once it is delivered.
+    sizes: Vec<usize>,
+    // The numbers of the stretches that are there with the members of their tasks.
+    ready: VecDeque<usize>,
+    // Whether tasks have moved between stretches, so that members have to be cut anew once all are back.
+    moved: bool,
+    // The first refusal of the run.
+    first: Option<Refused>,
+    of: PhantomData<J>,
 }
 
-impl<E: Engine, J: Running, L: GroupList> Queue<E, J, L> {
-    ghost use Rattle.std.specs.Prelude.{◌≡◌, ◌≢◌, [], None, Some, Err, true, false, is_some, IsTrue, IfOk, IfSome, IfErr, Ok, OnOk, OnErr, MatchOption};
-    ghost use Rattle.stretch_queue.specs.PassLists.{AreNew, AreNamed};
-    ghost use Rattle.stretch_queue.specs.QueueValue.{with_engine, refused_by, is_over, is_idle, closing};
-    ghost use Rattle.stretch_groups.specs.AtRest.{CanBegin};
-    ghost use Rattle.stretch_groups.specs.Groups.{groups_with};
-    ghost use Rattle.stretch_groups.specs.Changes.{Tells};
-    ghost use Rattle.stretch_groups.specs.HandedOut.{AreLeft};
-    ghost use Rattle.stretch_groups.specs.Living.{living_by};
-    ghost use Rattle.stretch_groups.specs.Refusals.{IsOfWorkers, refusal_of};
-    ghost use Rattle.stretch_groups.specs.declared.fault.Reason.TheVariants as reason;
-    ghost use Rattle.stretch_groups.specs.declared.fault.Refused.TheVariants as refused;
-    ghost use Rattle.stretch_groups.specs.declared.engine.Closed.TheVariants as closed;
-    ghost use Rattle.stretch_queue.specs.declared.queue.HandedBack.TheVariants as back;
+impl<'t, 'p, P: TaskLoop, H: Hook<P>, J: Running> Model for Queue<'t, 'p, P, H, J> {
+    ghost use Rattle.stretch_queue.specs.QueueValue.{QueueValue, IsQueue};
+    ghost use Rattle.stretch_queue.specs.QueueView.{queue_of};
 
-    /// Creates a queue for this engine. None of its stretches is out or has run. `ready` has the groups of all its stretches, by
-    /// number, unless the run is refused from the start.
+    ghost Value = { QueueValue P P.Task };
+
+    ghost view = { queue_of };
+
+    ghost invariant = { λ i. IsQueue H.kept J.mark J.workers J.passes J.stops i.lists (queue_of i) };
+}
+
+// Returns what a run leaves that has ended, or that its hook has stopped.
+fn left_by<'p, P: TaskLoop>(
+    alloc: Global,
+    stretches: Stretches<'_, 'p, P>,
+    halted: bool,
+) -> Result<Left<'p, P>, Refused>
+    requires left { can_leave_in stretches halted ≡ true }
+    ensures left { IfOk result (λ l. LeavesAs (reading_of P.frame P.may P.meant P.Task.path_of) stretches.entry halted l.writer l.given l.ran.report l.ran.tasks.items) }
+    ensures memory { IfErr result (λ fault. fault ≡ refused.Memory) }
+{
+    let left = if halted {
+        stretches.stop(alloc)
+    } else {
+        stretches.into_left(alloc)
+    };
+    match left {
+        Ok(Some(left)) => Ok(left),
+        Ok(None) => unreachable!(),
+        Err(_) => Err(Refused::Memory),
+    }
+}
+
+// Returns the numbers below this one, in order.
+fn numbers_below(alloc: Global, count: usize) -> Result<VecDeque<usize>, AllocError> {
+    let mut numbers = VecDeque::new(alloc);
+    for number in 0..count {
+        if numbers.push_back(number).is_err() {
+            return Err(AllocError);
+        }
+    }
+    Ok(numbers)
+}
+
+// The numbers of all stretches, which are ready, and the refusal of the run if memory runs out.
+fn begin_ready(
+    alloc: Global,
+    count: usize,
+    sizes: &mut Vec<usize>,
+) -> (VecDeque<usize>, Option<Refused>)
+    ensures { (workers : ℕ) → IfSome result.1 (IsOfWorkers workers) }
+{
+    match (sizes.resize(count, 0), numbers_below(alloc, count)) {
+        (Ok(()), Ok(ready)) => (ready, None),
+        (_, _) => (VecDeque::new(alloc), Some(Refused::Memory)),
+    }
+}
+
+/// Returns the number of tasks of each stretch.
+pub fn lengths_of<P: Program>(
+    alloc: Global,
+    stretches: &Stretches<'_, '_, P>,
+) -> Result<Vec<usize>, AllocError> {
+    let mut lengths = Vec::with_capacity(alloc, stretches.len())?;
+    for number in 0..stretches.len() {
+        lengths.push(stretches.length(number))?;
+    }
+    Ok(lengths)
+}
+
+// Moves members that are there to the end of a list.
+fn gather<J: Running>(
+    alloc: Global,
+    places: &mut Vec<Option<Tokens<J>>>,
+) -> Result<Vec<Tokens<J>>, AllocError> {
+    let mut tokens = Vec::with_capacity(alloc, places.len())?;
+    while let Some(place) = places.pop() {
+        if let Some(one) = place {
+            tokens.push(one)?;
+        }
+    }
+    Ok(tokens)
+}
+
+// Returns true if no place is empty.
+fn are_full<J: Running>(places: &[Option<Tokens<J>>]) -> bool {
+    for place in places {
+        if place.is_none() {
+            return false;
+        }
+    }
+    true
+}
+
+// Appends the numbers of the places that have members.
+fn list_ready<J: Running>(
+    places: &[Option<Tokens<J>>],
+    ready: &mut VecDeque<usize>,
+) -> Result<(), Reason> {
+    for number in 0..places.len() {
+        if places[number].is_some() && ready.push_back(number).is_err() {
+            return Err(Reason::Memory);
+        }
+    }
+    Ok(())
+}
+
+impl<'t, 'p, P: TaskLoop, H: Hook<P>, J: Running> Queue<'t, 'p, P, H, J> {
+    ghost use Rattle.std.specs.Prelude.{◌≡◌, ◌≢◌, [], None, Some, Err, true, false, is_some, IfOk, IfSome, IfErr, Ok, OnOk, OnErr, length};
+    ghost use Rattle.stretch_parts.specs.Parts.{covers, reading_of};
+    ghost use Rattle.stretch_queue.specs.QueueValue.{AreNew, AreNamed, refused_by, is_over, is_idle};
+    ghost use Rattle.program_stretches.specs.Closing.{Accepts};
+    ghost use Rattle.program_stretches.specs.StretchesValue.{with_slot, status_in};
+    ghost use Rattle.stretch_queue.specs.Hooked.{bare, AreNext};
+    ghost use Rattle.stretch_queue.specs.Watched.{HasLeftKept};
+    ghost use Rattle.stretch_queue.specs.Refusals.{IsOfWorkers, refusal_of};
+    ghost use Rattle.stretch_queue.specs.declared.fault.Reason.TheVariants as reason;
+    ghost use Rattle.stretch_queue.specs.declared.fault.Refused.TheVariants as refused;
+
+    /// Creates a queue for these stretches, of which none is out or has run. `tokens` has the members of their tasks, by number. If
+    /// memory runs out, the run is refused.
     pub fn new(
         alloc: Global,
-        engine: E,
-        lists: Lists<J>,
-        ready: VecDeque<Group<J>>,
-        first: Option<Refused>,
+        stretches: Stretches<'t, 'p, P>,
+        hook: H,
+        stopped: bool,
+        lists: Lists,
+        tokens: Vec<Option<Tokens<J>>>,
     ) -> Self
-        requires mark { E.mark engine ≡ J.mark }
-        requires lists { AreNew lists × AreNamed J.passes L.groups J.stops lists }
-        requires begins { CanBegin (E.ready engine) (E.out engine) (E.paths engine) (E.len engine) (E.count engine) (E.stays engine) (E.ended engine) (E.leaves engine) }
-        requires groups { first ≡ None → ready.items ≡ groups_with (E.paths engine) (E.len engine) }
-        requires refused { IfSome first (IsOfWorkers J.workers) }
-        ensures engine { result.engine ≡ engine }
-        ensures first { result.first ≡ first }
+        requires mark { stretches.name ≡ J.mark }
+        requires lists { AreNew lists × AreNamed J.passes J.stops lists }
+        requires next { AreNext stretches }
+        requires kept { H.kept (bare stretches) stopped }
+        requires stopped { stopped ≡ true → status_in stretches ≡ None }
+        ensures stretches { result.stretches ≡ stretches.entry }
     {
+        let mut sizes = Vec::new(alloc);
+        let (ready, first) = begin_ready(alloc, tokens.len(), &mut sizes);
         Queue {
-            engine,
+            stretches,
+            hook,
+            stopped,
+            lines: None,
             lists,
+            tokens,
+            sizes,
             ready,
-            back: VecDeque::new(alloc),
-            coming: Coming::new(alloc),
-            moves: false,
-            awaits: false,
+            moved: false,
             first,
             of: PhantomData,
         }
@@ -133,21 +274,21 @@ impl<E: Engine, J: Running, L: GroupList> Queue<E, J, L> {
 
     /// Returns true if workers must stop: the run has ended or was refused.
     pub fn is_over(&self) -> bool
-        ensures { result ≡ is_over E.ended self.now }
+        ensures { result ≡ is_over self.now }
     {
-        self.first.is_some() || self.engine.has_ended()
+        self.first.is_some() || self.stretches.has_ended() || self.stopped
     }
 
     /// Returns true if a worker has to wait: no stretch is ready, and workers needn't stop.
     pub fn is_idle(&self) -> bool
-        ensures { result ≡ is_idle E.ended self.now }
+        ensures { result ≡ is_idle self.now }
     {
         self.ready.is_empty() && !self.is_over()
     }
 
     // Issues the pass of a worker that stops.
     fn stop(&mut self) -> Stopped<J>
-        requires over { is_over E.ended self.old ≡ true }
+        requires over { is_over self.old ≡ true }
         ensures { self.new ≡ self.old }
     {
         let pass = self.lists.stops.issue(0, 0, &());
@@ -157,60 +298,92 @@ impl<E: Engine, J: Running, L: GroupList> Queue<E, J, L> {
         }
     }
 
+    // Takes the members of the stretch of this number, if they are there.
+    fn take_tokens(&mut self, number: usize) -> Option<Tokens<J>>
+        ensures { self.new ≡ self.old }
+    {
+        match self.tokens.get_mut(number) {
+            Some(place) => mem::replace(place, None),
+            None => None,
+        }
+    }
+
+    // Hands out the stretch of this number, with the members of its tasks. Fails with `Internal` if they aren't there, or aren't as
+    // many.
+    fn hand_out(&mut self, number: usize) -> Result<HeldStretch<'p, P, H::Lines, J>, Reason>
+        requires running { is_over self.old ≡ false }
+        ensures same { (self.new.first ≡ self.old.first) × (self.new.ready ≡ self.old.ready) }
+    {
+        let Some(tokens) = self.take_tokens(number) else {
+            return Err(Reason::Internal);
+        };
+        if tokens.size() != self.stretches.length(number) {
+            return Err(Reason::Internal);
+        }
+        let Some(stretch) = self.stretches.take(number)? else {
+            return Err(Reason::Internal);
+        };
+        let pass = self
+            .lists
+            .stretches
+            .issue(stretch.step(), stretch.number(), &());
+        let lines = mem::replace(&mut self.lines, None);
+        Ok(HeldStretch::new(stretch, pass, tokens, lines))
+    }
+
     /// Hands out the first ready stretch, or returns `Stop` if workers must stop. The caller ensures that the worker needn't
-    /// wait. Fails only if memory runs out; then workers must stop.
-    pub fn next(&mut self) -> Result<Next<E, J>, AllocError>
-        requires idle { is_idle E.ended self.old ≡ false }
-        ensures running { OnErr result (is_over E.ended self.old ≡ false) }
-        ensures refused { OnErr result (self.new.first ≡ Some refused.Memory) }
+    /// wait. If it fails, workers must stop: the run is refused for that reason.
+    pub fn next(&mut self) -> Result<Next<'p, P, H, J>, Reason>
+        requires idle { is_idle self.old ≡ false }
+        ensures noted { IfErr result (λ reason. self.new.first ≡ Some (refusal_of reason)) }
+        ensures unrefused { OnOk result (self.new.first ≡ self.old.first) }
     {
         if self.is_over() {
             return Ok(Next::Stop(self.stop()));
         }
-        let Some(group) = self.ready.pop_front() else {
+        let Some(number) = self.ready.pop_front() else {
             unreachable!()
         };
-        let step = self.engine.step();
-        match self.engine.take(group.number) {
-            Ok(Some(stretch)) => {
-                let pass = self.lists.stretches.issue(step, group.number, &());
-                Ok(Next::Run(HeldStretch::new(stretch, pass, group)))
-            }
-            Ok(None) => unreachable!(),
-            Err(fault) => {
-                self.first = Some(Refused::Memory);
-                Err(fault)
+        match self.hand_out(number) {
+            Ok(held) => Ok(Next::Run(held)),
+            Err(reason) => {
+                self.first = Some(reason.refusal());
+                Err(reason)
             }
         }
     }
 
-    /// Takes back a stretch whose segments have run. Returns the group of its participants, and the changes.
-    pub fn deliver(
-        &mut self,
-        ran: RanStretch<E::Stretch, J>,
-        changes: Changes,
-    ) -> (HeldGroup<J, L>, Changes)
-        requires told { Tells (E.Stretch.stays ran) (E.Stretch.faulted ran) (E.Stretch.paths ran) (E.Stretch.told ran) changes }
-        ensures taken { E.accepts self.old.engine ran }
-        ensures added { self.new ≡ with_engine self.old (E.with_stretch self.old.engine ran) }
-        ensures changes { result.1 ≡ changes }
-        ensures left { AreLeft result.0.pass (living_by result.0.group.paths changes) }
+    // Notes how many members the stretch of this number has after this superstep.
+    fn note_size(&mut self, number: usize, size: usize)
+        ensures { self.new ≡ self.old }
     {
-        let (stretch, pass, group) = ran.into_parts();
+        if let Some(place) = self.sizes.get_mut(number) {
+            *place = size;
+        }
+    }
+
+    /// Takes back a stretch whose segments have run. Returns the members of its tasks.
+    pub fn deliver(&mut self, ran: RanStretch<'p, P, J>) -> Delivered<J>
+        ensures taken { Accepts self.old.stretches ran.entry }
+        ensures added { self.new ≡ record self.old { stretches = with_slot self.old.stretches ran.entry.number (Some ran.entry.part) } }
+        ensures number { (result.number ≡ ran.entry.number) × (result.step ≡ ran.entry.step) }
+    {
+        let (stretch, pass, tokens, moves) = ran.into_parts();
         self.lists.stretches.redeem(pass);
+        let number = stretch.number();
         let step = stretch.step();
-        let number = group.number;
-        let stay = changes.is_same();
-        let leaving = Leaving {
-            group,
-            changes,
-            faulted: stretch.has_faulted(),
-        };
-        let own = self.lists.groups.issue(step, number, &leaving);
-        self.engine.accept(stretch);
-        self.moves = self.moves | !stay;
-        let Leaving { group, changes, .. } = leaving;
-        (HeldGroup::new(group, step, own), changes)
+        let size = moves.size_after(stretch.len());
+        match self.stretches.accept(stretch) {
+            Ok(()) => {}
+            Err(_) => unreachable!(),
+        }
+        self.note_size(number, size);
+        Delivered {
+            number,
+            step,
+            tokens,
+            moves,
+        }
     }
 
     /// Notes why the run is refused, unless something was noted before. From now on, workers must stop.
@@ -231,163 +404,201 @@ impl<E: Engine, J: Running, L: GroupList> Queue<E, J, L> {
         self.refuse(reason.refusal())
     }
 
-    // If groups are awaited and all are back, cuts their participants into groups for the stretches, and makes these ready. Returns
-    // true if it did. If memory runs out, refuses the run.
-    fn pair_up(&mut self) -> Result<bool, AllocError>
-        requires running { is_over E.ended self.old ≡ false }
-        requires awaits { self.old.awaits ≡ true }
-        ensures waits { result ≡ Ok false → self.new ≡ self.old }
-        ensures done { OnOk result (self.new ≡ record self.old { ready = self.new.ready; awaits = self.new.awaits }) }
-        ensures failed { OnErr result (self.new ≡ record self.old { first = Some refused.Memory }) }
+    // Puts members into the place of their stretch.
+    fn put_tokens(&mut self, number: usize, tokens: Tokens<J>) -> Result<(), Reason>
+        ensures same { self.new ≡ self.old }
     {
-        if self.coming.missing > 0 {
-            return Ok(false);
-        }
-        match regrouped(&self.engine, &mut self.coming) {
-            Ok(groups) => {
-                self.ready = groups;
-                self.awaits = false;
-                Ok(true)
+        match self.tokens.get_mut(number) {
+            Some(place) => {
+                *place = Some(tokens);
+                Ok(())
             }
-            Err(fault) => {
-                self.first = Some(Refused::Memory);
-                Err(fault)
-            }
+            None => Err(Reason::Internal),
         }
     }
 
-    // Takes back a group of this superstep. If memory runs out, refuses the run.
-    fn take_back(&mut self, held: HeldGroup<J, L>) -> Result<(), AllocError>
-        requires running { is_over E.ended self.old ≡ false }
-        requires now { held.step ≡ E.step self.old.engine }
-        requires passed { AreLeft held.pass held.group.paths }
-        ensures done { OnOk result (self.new ≡ self.old) }
-        ensures failed { OnErr result (self.new ≡ record self.old { first = Some refused.Memory }) }
-        ensures settled { self.old.awaits ≡ false }
+    // Makes the stretch of this number ready.
+    fn make_ready(&mut self, number: usize) -> Result<(), Reason>
+        ensures same { (self.new.stretches ≡ self.old.stretches) × (self.new.stopped ≡ self.old.stopped) × (self.new.first ≡ self.old.first) }
     {
-        let (group, pass) = held.into_parts();
-        self.lists.groups.redeem(pass);
-        match push_group(&mut self.back, group) {
+        match self.ready.push_back(number) {
             Ok(()) => Ok(()),
-            Err(fault) => {
-                self.first = Some(Refused::Memory);
-                Err(fault)
-            }
+            Err(_) => Err(Reason::Memory),
         }
     }
 
-    // Takes back a group whose superstep has been closed in the meantime. Returns true if a stretch became ready. If memory runs
-    // out, refuses the run.
-    fn take_back_late(&mut self, held: HeldGroup<J, L>) -> Result<bool, AllocError>
-        requires running { is_over E.ended self.old ≡ false }
-        requires late { held.step ≢ E.step self.old.engine }
-        requires passed { AreLeft held.pass held.group.paths }
-        ensures waits { result ≡ Ok false → self.new ≡ self.old }
-        ensures done { OnOk result (self.new ≡ record self.old { ready = self.new.ready; awaits = self.new.awaits }) }
-        ensures failed { OnErr result (self.new ≡ record self.old { first = Some refused.Memory; ready = self.new.ready }) }
+    // Returns true if each stretch has as many tasks as its members after the last superstep.
+    fn are_same(&self) -> bool {
+        if self.stretches.len() != self.sizes.len() {
+            return false;
+        }
+        for number in 0..self.sizes.len() {
+            if self.sizes.get(number).copied() != Some(self.stretches.length(number)) {
+                return false;
+            }
+        }
+        true
+    }
+
+    // Makes the stretches ready whose members are back.
+    fn make_all_ready(&mut self) -> Result<(), Reason>
+        ensures same { (self.new.stretches ≡ self.old.stretches) × (self.new.stopped ≡ self.old.stopped) × (self.new.first ≡ self.old.first) }
     {
-        let (group, pass) = held.into_parts();
-        self.lists.groups.redeem(pass);
-        if self.awaits {
-            self.coming.put(group);
-            return self.pair_up();
-        }
-        match push_group(&mut self.ready, group) {
-            Ok(()) => Ok(true),
-            Err(fault) => {
-                self.first = Some(Refused::Memory);
-                Err(fault)
-            }
-        }
+        list_ready(&self.tokens, &mut self.ready)
     }
 
-    // Closes the superstep, and makes the next one's stretches ready as far as their participants are back.
-    fn close(&mut self, alloc: Global) -> Result<HandedBack, Reason>
-        requires running { is_over E.ended self.old ≡ false }
-        requires settled { self.old.awaits ≡ false }
-        ensures whole { OnOk result (E.whole self.old.engine ≡ true) }
-        ensures internal { result ≡ Err reason.Internal → E.whole self.old.engine ≡ false }
-        ensures memory { result ≡ Err reason.Memory → E.whole self.old.engine ≡ true }
-        ensures closed { IfOk result (λ back. MatchOption (closing back) ⊥ (E.closes self.old.engine self.new.engine)) }
-        ensures noted { IfErr result (λ reason. self.new.first ≡ Some (refusal_of reason)) }
+    // Takes all members, if none is missing, for the next stretches.
+    fn recut(&mut self, alloc: Global) -> Result<HandedBack<J>, Reason>
+        ensures same { self.new ≡ self.old }
+    {
+        if !are_full(&self.tokens) {
+            return Ok(HandedBack::Unchanged);
+        }
+        let tokens = gather(alloc, &mut self.tokens)?;
+        let sizes = lengths_of(alloc, &self.stretches)?;
+        Ok(HandedBack::Recut(Recut { tokens, sizes }))
+    }
+
+    // Prepares the next superstep: makes its stretches ready as far as the members of their tasks are back, or if tasks have moved
+    // between stretches, takes all members once they are back.
+    fn prepare(&mut self, alloc: Global) -> Result<HandedBack<J>, Reason>
+        ensures same { (self.new.stretches ≡ self.old.stretches) × (self.new.stopped ≡ self.old.stopped) × (self.new.first ≡ self.old.first) }
+    {
+        if self.are_same() {
+            self.make_all_ready()?;
+            return Ok(HandedBack::Ready);
+        }
+        self.moved = true;
+        self.recut(alloc)
+    }
+
+    // Closes the superstep.
+    fn close(&mut self, alloc: Global) -> Result<HandedBack<J>, Reason>
+        requires running { is_over self.old ≡ false }
+        ensures whole { OnOk result (covers true self.old.stretches.count 0 self.old.stretches.parts ≡ true) }
         ensures unrefused { OnOk result (self.new.first ≡ self.old.first) }
     {
-        let len = self.engine.len();
-        match self.engine.close(alloc) {
-            Ok(Closed::Landed) => {}
-            Ok(Closed::Ended) => return Ok(HandedBack::Ended),
+        match self.hook.close(alloc, &mut self.stretches) {
+            Ok(Closed::Landed(lines)) => self.lines = lines,
+            Ok(Closed::Stopped) => {
+                self.stopped = true;
+                return Ok(HandedBack::Ended);
+            }
+            Ok(Closed::Faulted) => return Ok(HandedBack::Ended),
             Err(reason) => {
                 self.first = Some(reason.refusal());
                 return Err(reason);
             }
         }
-        if self.engine.has_ended() {
+        if self.stretches.has_ended() {
             return Ok(HandedBack::Ready);
         }
-        if !self.moves {
-            // No group was ready before.
-            mem::swap(&mut self.ready, &mut self.back);
-            return Ok(HandedBack::Ready);
-        }
-        let groups = mem::replace(&mut self.back, VecDeque::new(alloc));
-        self.moves = false;
-        self.awaits = true;
-        if self.coming.open(len, groups).is_err() {
-            self.first = Some(Refused::Memory);
-            return Err(Reason::Memory);
-        }
-        match self.pair_up() {
-            Ok(_paired) => Ok(HandedBack::Ready),
-            Err(_) => Err(Reason::Memory),
+        self.prepare(alloc)
+    }
+
+    // Takes back members of this superstep. If one of them advanced the tree, closes the superstep.
+    fn take_back(
+        &mut self,
+        alloc: Global,
+        arrived: Arrived<J>,
+        led: Option<Led<J>>,
+    ) -> Result<HandedBack<J>, Reason>
+        requires running { is_over self.old ≡ false }
+        ensures unled { led ≡ None → self.new ≡ self.old }
+        ensures unrefused { OnOk result (self.new.first ≡ self.old.first) }
+    {
+        let Arrived { number, tokens, .. } = arrived;
+        self.put_tokens(number, tokens)?;
+        if led.is_some() {
+            self.close(alloc)
+        } else {
+            Ok(HandedBack::Unchanged)
         }
     }
 
-    /// Takes back the group of a stretch whose tasks have arrived or left in this superstep. If one of them advanced the tree
-    /// (`led`), closes the superstep. If workers must stop, drops the group. If it fails, workers must stop: the run is refused for
-    /// that reason, with `Internal` only if the tree has advanced although a stretch isn't back.
+    // Takes back members whose superstep has been closed in the meantime.
+    fn take_back_late(
+        &mut self,
+        alloc: Global,
+        arrived: Arrived<J>,
+    ) -> Result<HandedBack<J>, Reason>
+        ensures same { (self.new.stretches ≡ self.old.stretches) × (self.new.stopped ≡ self.old.stopped) × (self.new.first ≡ self.old.first) }
+    {
+        let Arrived { number, tokens, .. } = arrived;
+        self.put_tokens(number, tokens)?;
+        if self.moved {
+            return self.recut(alloc);
+        }
+        self.make_ready(number)?;
+        Ok(HandedBack::Ready)
+    }
+
+    /// Takes back the members of a stretch that have arrived or left in its superstep. If one of them advanced the tree (`led`),
+    /// closes the superstep. If workers must stop, drops them. If it fails, workers must stop: the run is refused for that reason.
     pub fn hand_back(
         &mut self,
         alloc: Global,
-        held: HeldGroup<J, L>,
+        arrived: Arrived<J>,
         led: Option<Led<J>>,
-    ) -> Result<HandedBack, Reason>
-        requires passed { AreLeft held.pass held.group.paths }
-        ensures unled { led ≡ None → self.new.engine ≡ self.old.engine }
-        ensures over { is_over E.ended self.old ≡ true → self.new ≡ self.old }
-        ensures internal { result ≡ Err reason.Internal → (is_some led ≡ true) × (E.whole self.old.engine ≡ false) }
-        ensures closed { is_some led ≡ true → is_over E.ended self.old ≡ false → held.step ≡ E.step self.old.engine → IfOk result (λ back. MatchOption (closing back) ⊥ (E.closes self.old.engine self.new.engine)) }
-        ensures ended { result ≡ Ok back.Ended → E.closes self.old.engine self.new.engine closed.Ended }
-        ensures unchanged { result ≡ Ok back.Unchanged → self.new ≡ self.old }
+    ) -> Result<HandedBack<J>, Reason>
+        ensures unled { led ≡ None → self.new.stretches ≡ self.old.stretches }
+        ensures over { is_over self.old ≡ true → self.new ≡ self.old }
         ensures noted { IfErr result (λ reason. self.new.first ≡ Some (refusal_of reason)) }
         ensures unrefused { OnOk result (self.new.first ≡ self.old.first) }
     {
         if self.is_over() {
             return Ok(HandedBack::Unchanged);
         }
-        if self.engine.step() != held.step {
-            return match self.take_back_late(held) {
-                Ok(true) => Ok(HandedBack::Ready),
-                Ok(false) => Ok(HandedBack::Unchanged),
-                Err(_) => Err(Reason::Memory),
-            };
-        }
-        match self.take_back(held) {
-            Ok(()) if led.is_some() => self.close(alloc),
-            Ok(()) => Ok(HandedBack::Unchanged),
-            Err(_) => Err(Reason::Memory),
+        let handed_back = if self.stretches.step() == arrived.step {
+            self.take_back(alloc, arrived, led)
+        } else {
+            self.take_back_late(alloc, arrived)
+        };
+        match handed_back {
+            Ok(effect) => Ok(effect),
+            Err(reason) => {
+                self.first = Some(reason.refusal());
+                Err(reason)
+            }
         }
     }
 
-    /// Returns the outcome of the run, or its first refusal if there is one. Without a refusal, fails only if memory runs out.
+    /// Takes back all members, which were cut anew for the next stretches: those of the stretch of each number. Makes the
+    /// stretches ready. Fails only if memory runs out; then workers must stop.
+    pub fn put_back(&mut self, tokens: Vec<Option<Tokens<J>>>) -> Result<(), Reason>
+        ensures same { self.new.stretches ≡ self.old.stretches }
+        ensures noted { IfErr result (λ reason. self.new.first ≡ Some (refusal_of reason)) }
+        ensures unrefused { OnOk result (self.new.first ≡ self.old.first) }
+    {
+        self.sizes.clear();
+        let made = self.sizes.resize(tokens.len(), 0);
+        self.tokens = tokens;
+        self.moved = false;
+        let ready = match made {
+            Ok(()) => self.make_all_ready(),
+            Err(_) => Err(Reason::Memory),
+        };
+        match ready {
+            Ok(()) => Ok(()),
+            Err(reason) => {
+                self.first = Some(reason.refusal());
+                Err(reason)
+            }
+        }
+    }
+
+    /// Returns what the run leaves, or its first refusal if there is one. Without a refusal, fails only if memory runs out.
     /// `stopped` is the pass of a worker that has stopped.
-    pub fn conclude(self, alloc: Global, stopped: Stopped<J>) -> Result<E::Outcome, Refused>
-        ensures outcome { IfOk result (E.gives J.mark) }
-        ensures first { IfSome self.first (λ refused. result ≡ Err refused) }
-        ensures memory { self.first ≡ None → IfErr result (λ fault. fault ≡ refused.Memory) }
+    pub fn conclude(self, alloc: Global, stopped: Stopped<J>) -> Result<Left<'p, P>, Refused>
+        ensures left { IfOk result (λ l. HasLeftKept (reading_of P.frame P.may P.meant P.Task.path_of) H.kept J.mark l.writer l.given l.ran.report l.ran.tasks.items) }
+        ensures first { IfSome self.entry.first (λ refused. result ≡ Err refused) }
+        ensures memory { self.entry.first ≡ None → IfErr result (λ fault. fault ≡ refused.Memory) }
         ensures started { IfErr result (IsOfWorkers J.workers) }
     {
         let Queue {
-            engine,
+            stretches,
+            hook: _,
+            stopped: halted,
             mut lists,
             first,
             ..
@@ -395,21 +606,11 @@ impl<E: Engine, J: Running, L: GroupList> Queue<E, J, L> {
         let Stopped { pass, of: _ } = stopped;
         lists.stops.redeem(pass);
         match first {
-            Some(refused) => Err(refused),
-            None => outcome_by(alloc, engine),
+            Some(refused) => {
+                stretches.give_up();
+                Err(refused)
+            }
+            None => left_by(alloc, stretches, halted),
         }
-    }
-}
-
-// Returns the outcome of a run that has ended.
-fn outcome_by<E: Engine>(alloc: Global, engine: E) -> Result<E::Outcome, Refused>
-    requires left { E.leaves engine ≡ true }
-    ensures outcome { IfOk result (E.gives (E.mark engine)) }
-    ensures memory { IfErr result (λ fault. fault ≡ refused.Memory) }
-{
-    match engine.into_outcome(alloc) {
-        Ok(Some(outcome)) => Ok(outcome),
-        Ok(None) => unreachable!(),
-        Err(_) => Err(Refused::Memory),
     }
 }

@@ -1,10 +1,15 @@
--- What the pool knows of the tree at which its workers meet.
-use Rattle.std.proofs.Common.{◌≡◌, ℕ, zero, suc, ◌+◌, ◌<◌, ◌%◌, List, [], ◌∷◌, length, get_or, refl, subst, sym, arith}
-use Rattle.std.specs.List.{Contains}
+-- What the pool knows of the leaves of the tree at which its workers meet.
+use Rattle.std.proofs.Common.{◌≡◌, ℕ, zero, suc, ◌<◌, ◌≤◌, ◌%◌, Bool, true, false, List, [], ◌∷◌, length, get_or, refl, subst, sym, ap, ◌∙◌, arith}
+use Rattle.std.specs.Prelude.{filter, not}
+use Rattle.std.proofs.lemmas.List.Filters.{length-filter_both}
+use Rattle.std.specs.List.{Contains, range_with_len}
 use Rattle.std.proofs.Math.Nat.{mod-lt}
-use Rattle.tier_shape.specs.Leaves.{leaves_of}
-use Rattle.tier_shape.proofs.Childless.{leaves_right}
-use Rattle.tier_shape.specs.Preferred.{leaf_at, number_in, last_number, preferred}
+use Rattle.std.proofs.lemmas.List.FromFn.{length-range_with_len}
+use Rattle.tier_shape.specs.Leaves.{leaves_of, is_leaf_of}
+use Rattle.tier_shape.specs.Paths.{IsTiers}
+use Rattle.tier_shape.proofs.Childless.{leaves_right, trees_have_a_leaf}
+use Rattle.tier_shape.specs.Preferred.{leaf_at}
+use Rattle.worker_pool.specs.LeafTiers.{AreLeaves}
 
 -- a leaf is a tier of its tree
 leaf_within : (ps : List ℕ) (tier : ℕ) → Contains (leaves_of ps) tier → tier < length ps
@@ -24,7 +29,18 @@ numbered_within ps tiers number tier all some e =
     (leaf_within ps (leaf_at (leaves_of ps) number)
     (number % length (leaves_of ps), below, any_default (leaves_of ps) (number % length (leaves_of ps)) _ 0 below))
 
--- so is the preferred one of a spawned task
-pub preferred_within : (ps tiers path : List ℕ) (home tier : ℕ) → tiers ≡ leaves_of ps → 0 < length tiers → tier ≡ preferred (leaves_of ps) home path → tier < length ps
-preferred_within ps tiers path home tier all some e =
-    numbered_within ps tiers (number_in (leaves_of ps) home + 1 + last_number path) tier all some e
+fewer : (p : ℕ → Bool) (xs : List ℕ) → length (filter p xs) ≤ length xs
+fewer p xs = let e = length-filter_both p (λ x. not (p x)) (λ x. refl) xs in omega (arith, e)
+
+-- the leaves of a tree
+pub are_leaves : (ps tiers : List ℕ) → IsTiers ps → tiers ≡ leaves_of ps → AreLeaves ps tiers
+are_leaves ps tiers t e = record {
+  all = e;
+  some = subst (λ (xs : List ℕ). 0 < length xs) (sym e) (trees_have_a_leaf ps t.shape).1;
+  few =
+      let a = fewer (is_leaf_of ps) (range_with_len 0 (length ps)) in
+      let b = length-range_with_len 0 (length ps) in
+      let c = t.few in
+      let d = ap length e in
+      omega (arith, a, b, c, d);
+}

@@ -1,7 +1,5 @@
-pub mod Entries
+pub mod LeafTiers
+pub mod Begun
 pub mod JobPlan
-pub use Rattle.stretch_groups.specs.Refusals
-pub use Rattle.stretch_groups.specs.Living
-pub use Rattle.stretch_groups.specs.AtRest
-pub use Rattle.stretch_queue.specs.Leaving
+pub use Rattle.stretch_queue.specs.Refusals
 pub use Rattle.stretch_queue.specs.Watched

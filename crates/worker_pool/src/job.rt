@@ -5,7 +5,7 @@ ghost use Rattle.advance_rule.specs.Plan.{end_ends_at};
 ghost use Rattle.step_parts.specs.Program.{program_of};
 ghost use Rattle.step_parts.specs.JobMeaning.{report_of};
 ghost use Rattle.worker_pool.specs.JobPlan.{limit_of, IsJobPlan};
-ghost use Rattle.stretch_groups.specs.Refusals.{IsOfWorkers};
+ghost use Rattle.stretch_queue.specs.Refusals.{IsOfWorkers};
 
 use crate::program::run_program;
 use advance_rule::StoredAdvance;

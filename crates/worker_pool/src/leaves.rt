@@ -1,43 +1,53 @@
 //! The leaves of the tree of a run, by number.
-ghost use Rattle.std.specs.Prelude.{◌≡◌, ◌<◌, IfOk, length};
+ghost use Rattle.std.specs.Prelude.{◌≡◌, ◌<◌, ◌≤◌, IfOk, length};
 ghost use Rattle.tier_shape.specs.Leaves.{leaves_of};
+ghost use Rattle.worker_pool.specs.LeafTiers.{AreLeaves};
 
 use std::alloc::{AllocError, Global};
 use std::marker::PhantomData;
-use stretch_queue::queue::Running;
+use stretch_queue::running::Running;
 use tier_shape::Shape;
-use tier_shape::leaves::{leaf_at, preferred};
+use tier_shape::leaves::leaf_at;
 
 /// The tiers that are leaves of the tree of the run. A leaf is known by its number, modulo the number of leaves.
 #[derive(Drop)]
 pub(crate) struct Leaves<J: Running> {
     tiers: Vec<u16>,
     of: PhantomData<J>,
-    ghost all: { tiers.items ≡ leaves_of J.tree.key.shape },
-    ghost some: { 0 < length tiers.items },
+    ghost all: { AreLeaves J.tree.key.shape tiers.items },
 }
 
 /// Lists the tiers that are leaves of a shape.
 pub(crate) fn leaves_in(alloc: Global, shape: &Shape) -> Result<Vec<u16>, AllocError>
-    ensures { IfOk result (λ tiers. (tiers.items ≡ leaves_of shape.now) × (0 < length tiers.items)) }
+    ensures { IfOk result (λ tiers. AreLeaves shape.now tiers.items) }
 {
-    // For the prover: the contract of `count` says that this is a shape, so it has a leaf.
+    // For the prover: the contract of `count` says that this is a shape, so it has a leaf, and at most 64.
     let _tiers = shape.count();
     let tiers = shape.leaves(alloc)?;
     Ok(tiers)
 }
 
 impl<J: Running> Leaves<J> {
-    ghost use Rattle.tier_shape.specs.Preferred.{leaf_at, preferred};
+    ghost use Rattle.tier_shape.specs.Preferred.{leaf_at};
 
     /// Keeps the leaves of the tree of the run.
     pub(crate) fn new(tiers: Vec<u16>) -> Self
-        requires all { tiers.items ≡ leaves_of J.tree.key.shape }
-        requires some { 0 < length tiers.items }
+        requires { AreLeaves J.tree.key.shape tiers.items }
     {
         Leaves {
             tiers,
             of: PhantomData,
+        }
+    }
+
+    /// The number of leaves.
+    pub(crate) fn count(&self) -> u16
+        ensures count { result ≡ length (leaves_of J.tree.key.shape) }
+        ensures some { 1 ≤ result }
+    {
+        match u16::try_from(self.tiers.len()) {
+            Ok(count) => count,
+            Err(_) => unreachable!(),
         }
     }
 
@@ -47,13 +57,5 @@ impl<J: Running> Leaves<J> {
         ensures within { result < length J.tree.key.shape }
     {
         leaf_at(&self.tiers, number)
-    }
-
-    /// The leaf that a spawned task tries first, given its path and the tier of its spawner.
-    pub(crate) fn preferred(&self, home: u16, path: &[u16]) -> u16
-        ensures leaf { result ≡ preferred (leaves_of J.tree.key.shape) home path.now }
-        ensures within { result < length J.tree.key.shape }
-    {
-        preferred(&self.tiers, home, path)
     }
 }

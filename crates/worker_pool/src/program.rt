@@ -7,10 +7,10 @@ ghost use Rattle.stretch_parts.specs.Parts.{AreFresh, tasks_in};
 ghost use Rattle.programs.specs.Meaning.{children};
 ghost use Rattle.programs.specs.History.{HasRun, HasRunTo};
 ghost use Rattle.worker_pool.specs.JobPlan.{limit_of, IsJobPlan};
-ghost use Rattle.stretch_groups.specs.Refusals.{IsOfWorkers};
+ghost use Rattle.stretch_queue.specs.Refusals.{IsOfWorkers};
 ghost use Rattle.stretch_queue.specs.Watched.{IsOpened};
 
-use crate::run::{limit_in, run_engine, stretches_wanted};
+use crate::run::{limit_in, run_stretches, stretches_wanted};
 use advance_rule::StoredAdvance;
 use program_stretches::{Left, Opened, Stretches};
 use programs::alone::Ran;
@@ -22,7 +22,7 @@ use std::sync::Wait;
 use std::thread::Threads;
 use stretch_queue::fault::Refused;
 use stretch_queue::hooks::{Gate, Starter};
-use stretch_queue::program_engine::Run;
+use stretch_queue::watched::{Watched, halts};
 use superstep_memory::arrays::Arrays;
 use tier_shape::Shape;
 
@@ -129,7 +129,7 @@ where
     match Stretches::new(
         alloc, &log, start, program, arrays, tasks, most, limit, pieces,
     ) {
-        Ok(stretches) => run_stretches(
+        Ok(stretches) => run_watched(
             rt, alloc, &log, stretches, shape, workers, advance, gate, starter, watch,
         ),
         Err(_) => Err(Refused::Memory),
@@ -137,7 +137,7 @@ where
 }
 
 // Runs these stretches, whose log has the one opening of the first superstep, with a watcher.
-fn run_stretches<
+fn run_watched<
     't,
     'p,
     P: TaskLoop + Sync,
@@ -162,7 +162,6 @@ where
     P::Task: Send,
     requires log { stretches.name ≡ log.now }
     requires fresh { AreFresh 0 stretches.parts × (stretches.count ≡ length (tasks_in stretches.parts)) }
-    requires paths { map P.Task.path_of (tasks_in stretches.parts) ≡ children [] 0 stretches.count }
     requires given { stretches.given ≡ 0 }
     requires opened { IsOpened stretches [] }
     requires workers { (1 ≤ workers) × (workers ≤ 64) }
@@ -173,10 +172,13 @@ where
     ensures started { IfErr result (IsOfWorkers workers) }
 {
     let first = stretches.snapshot();
-    match run_engine(
+    let halted = halts(&stretches, watch);
+    match run_stretches(
         rt,
         alloc,
-        Run::new(stretches, watch),
+        stretches,
+        Watched { watch },
+        halted,
         shape,
         workers,
         advance,

@@ -4,20 +4,22 @@ ghost use Rattle.std.specs.Thread.{IsSync};
 ghost use Rattle.advance_rule.specs.Action.{AnswersAction};
 ghost use Rattle.advance_rule.specs.Stored.{Answers};
 ghost use Rattle.advance_rule.specs.Plan.{end_ends_at};
-ghost use Rattle.stretch_groups.specs.Refusals.{IsOfWorkers};
+ghost use Rattle.stretch_queue.specs.Refusals.{IsOfWorkers};
 
 use crate::shared::Shared;
 use crate::work::work;
 use cyclic_gate::{CyclicGate, GateFault};
+use programs::program::TaskLoop;
 use std::alloc::Global;
 use std::sync::Wait;
 use std::thread;
 use std::thread::{JoinHandle, Threads};
-use stretch_queue::engine::Engine;
 use stretch_queue::fault::Refused;
+use stretch_queue::hook::Hook;
 use stretch_queue::hooks::{Gate, Starter};
-use stretch_queue::participant::{OwnToken, Stopped};
-use stretch_queue::queue::{GroupList, Running};
+use stretch_queue::queue::Stopped;
+use stretch_queue::running::Running;
+use stretch_queue::tokens::OwnToken;
 
 /// How a run is set up: the number of workers, the gate before and after each segment, and which workers may be started.
 #[derive(Drop)]
@@ -29,13 +31,18 @@ pub(crate) struct Setup<'a, G: Gate, S: Starter> {
 
 // Notes why the run is refused before all workers have reached the barrier, and stops those that wait there.
 fn call_off<
-    E: Engine,
+    P: TaskLoop,
+    H: Hook<P>,
     J: Running,
-    L: GroupList,
     R: Wait,
     F: Fn(u32, u32) -> bool,
     A: Fn(u64) -> bool,
->(rt: &R, shared: &Shared<E, J, L, F>, barrier: &CyclicGate<A>, refused: Refused) -> Stopped<J>
+>(
+    rt: &R,
+    shared: &Shared<'_, '_, P, H, J, F>,
+    barrier: &CyclicGate<A>,
+    refused: Refused,
+) -> Stopped<J>
     requires refused { IsOfWorkers J.workers refused }
     requires action { AnswersAction (A.pre barrier.now.action.closure) (A.post barrier.now.action.closure) barrier.now.action.plan }
 {
@@ -47,9 +54,9 @@ fn call_off<
 // What a started worker does: it waits for the others at the barrier, then works. If it runs out of memory there, it
 // stops the others. If the barrier is broken, a worker has noted why before, and this one stops as soon as it sees the note.
 fn wait_and_work<
-    E: Engine,
+    P: TaskLoop,
+    H: Hook<P>,
     J: Running,
-    L: GroupList,
     R: Wait,
     F: Fn(u32, u32) -> bool,
     A: Fn(u64) -> bool,
@@ -57,7 +64,7 @@ fn wait_and_work<
 >(
     rt: &R,
     alloc: Global,
-    shared: &Shared<E, J, L, F>,
+    shared: &Shared<'_, '_, P, H, J, F>,
     gate: &G,
     barrier: &CyclicGate<A>,
     k: u32,
@@ -111,9 +118,9 @@ fn join_all<R: Threads + Wait, J: Running>(
 /// Starts the workers, and returns after joining all that were started. If one can't be started, that is noted and the
 /// others stop before they take a task.
 pub(crate) fn start_all<
-    E: Engine + Send,
+    P: TaskLoop + Sync,
+    H: Hook<P> + Send,
     J: Running + Send + Sync,
-    L: GroupList + Send + Sync,
     R: Threads + Wait + Sync,
     F: Fn(u32, u32) -> bool + Sync,
     A: Fn(u64) -> bool + Sync,
@@ -122,13 +129,14 @@ pub(crate) fn start_all<
 >(
     rt: &R,
     alloc: Global,
-    shared: &Shared<E, J, L, F>,
+    shared: &Shared<'_, '_, P, H, J, F>,
     own: &mut OwnToken<J>,
     barrier: &CyclicGate<A>,
     setup: Setup<'_, G, S>,
 ) -> Stopped<J>
 where
-    E::Stretch: Send,
+    P::Task: Send,
+    H::Lines: Send,
     requires workers { (setup.workers ≡ J.workers) × (1 ≤ setup.workers) }
     requires rule { Answers (F.pre shared.now.tree.phaser.rule.closure) (F.post shared.now.tree.phaser.rule.closure) (end_ends_at shared.now.tree.phaser.rule.plan) }
     requires action { AnswersAction (A.pre barrier.now.action.closure) (A.post barrier.now.action.closure) barrier.now.action.plan }

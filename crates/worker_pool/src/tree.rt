@@ -1,21 +1,25 @@
-//! The tree at which workers synchronize. Each call is repeated until it has an answer that lasts.
-ghost use Rattle.std.specs.Prelude.{◌≡◌};
+//! The tree at which workers synchronize: how the members of a stretch join, arrive and leave, and how they are cut anew.
+ghost use Rattle.std.specs.Prelude.{◌≡◌, ◌<◌, ◌++◌, ◌∷◌, [], length, IfSome, OnOk, OnErr};
 
 use crate::leaves::Leaves;
+use std::alloc::{AllocError, Global};
 use std::sync::Wait;
 use std::thread;
 use stretch_queue::fault::Reason;
 use stretch_queue::led::Led;
-use stretch_queue::participant::{OwnToken, Participant};
-use stretch_queue::queue::Running;
-use superstep_memory::path::Path;
+use stretch_queue::moves::{LeafMoves, Moves};
+use stretch_queue::queue::Recut;
+use stretch_queue::running::Running;
+use stretch_queue::tokens::{Bundle, OwnToken, Tokens};
+use tier_calls::registering_all::Halt;
 use tier_table::TRIES;
 use tier_table::forcing::Forced;
-use tier_table::in_place::ArrivedInPlace;
-use tier_table::joining::{Opened, Registered};
-use tier_table::tokens::{Crew, Door, Opening};
+use tier_table::group_members::{GroupLeft, RegisteredAll};
+use tier_table::groups::{Group, GroupArrived};
+use tier_table::joining::Opened;
+use tier_table::polling::Polled;
+use tier_table::tokens::Opening;
 use tier_table::tree::Tree;
-use tier_table::waiting::ArrivedAtLast;
 
 /// The tree of phasers of the run, and its leaves. Its type keeps that it is the run's tree.
 #[derive(Drop)]
@@ -25,30 +29,76 @@ pub(crate) struct WorkerTree<J: Running, F: Fn(u32, u32) -> bool> {
     ghost own: { phaser.tree ≡ J.tree },
 }
 
-/// How a registration ended.
-enum Entry {
-    // The member has joined.
-    In(Crew),
-    // The tier is held or busy; another tier may do.
-    Off(Door),
-    // The tier has no room; another tier may have.
-    Full(Door),
+// How a registration of new members ended.
+#[derive(Drop)]
+enum Entry<J: Running> {
+    // They have joined, but for so many.
+    In(Bundle<J>, u32),
+    // Nobody has joined: the tier is held, busy or full. Another may do.
+    Off,
     // The tree has ended.
     Over,
 }
 
+// Members of one tier, and what they do in a superstep besides arriving.
+#[derive(Drop)]
+struct Planned<J: Running> {
+    bundle: Bundle<J>,
+    moves: LeafMoves,
+}
+
+impl<J: Running> Planned<J> {
+    // They arrive.
+    fn new(bundle: Bundle<J>) -> Self {
+        Planned {
+            bundle,
+            moves: LeafMoves {
+                joining: 0,
+                leaving: 0,
+            },
+        }
+    }
+
+    // Lets more of them leave, as many as there are and at most `leaving`. Returns how many of those are left over.
+    fn let_leave(&mut self, leaving: u32) -> u32 {
+        let staying = self.bundle.group.size().saturating_sub(self.moves.leaving);
+        let more = leaving.min(staying);
+        self.moves.leaving = self.moves.leaving.saturating_add(more);
+        leaving - more
+    }
+
+    // Lets more members join them.
+    fn let_join(&mut self, joining: u32) {
+        self.moves.joining = self.moves.joining.saturating_add(joining);
+    }
+}
+
+// Appends an item.
+fn append<T: Drop>(list: &mut Vec<T>, item: T) -> Result<(), AllocError>
+    ensures items { OnOk result (list.new.items ≡ list.old.items ++ item ∷ []) }
+    ensures kept { OnErr result (list.new.items ≡ list.old.items) }
+{
+    list.push(item)?;
+    Ok(())
+}
+
+// Returns the place of the members of this tier.
+fn place_of<J: Running>(planned: &[Planned<J>], tier: u16) -> Option<usize>
+    ensures { IfSome result (λ place. place < length planned.now) }
+{
+    for place in 0..planned.len() {
+        if planned[place].bundle.group.tier() == tier {
+            return Some(place);
+        }
+    }
+    None
+}
+
 impl<J: Running, F: Fn(u32, u32) -> bool> WorkerTree<J, F> {
-    ghost use Rattle.std.specs.Prelude.{◌≡◌, ◌<◌, true, is_some, IfOk, IfErr, IfSome, OnOk, length};
+    ghost use Rattle.std.specs.Prelude.{◌≡◌, ◌<◌, ◌≤◌, true, is_some, length, IfOk, IfSome};
     ghost use Rattle.advance_rule.specs.Stored.{Answers};
     ghost use Rattle.advance_rule.specs.Plan.{end_ends_at};
     ghost use Rattle.tier_shape.specs.Leaves.{leaves_of};
-    ghost use Rattle.tier_table.specs.Openings.{asked_tier};
-    ghost use Rattle.tier_shape.specs.Preferred.{leaf_at};
-    ghost use Rattle.worker_pool.specs.Entries.{IsOf, IsAtLeaf};
-    ghost use Rattle.stretch_groups.specs.Refusals.{IsOfTree};
-    ghost use Rattle.stretch_groups.specs.declared.fault.Reason.TheVariants as reason;
-    ghost use Rattle.tier_table.specs.Arrives.{HasPassed};
-    ghost use Rattle.tier_steps.specs.declared.view.Passage.TheVariants.{Arrival};
 
     /// Keeps the tree of the run with its leaves.
     pub(crate) fn new(phaser: Tree<F>, leaves: Leaves<J>) -> Self
@@ -58,21 +108,32 @@ impl<J: Running, F: Fn(u32, u32) -> bool> WorkerTree<J, F> {
         WorkerTree { phaser, leaves }
     }
 
+    /// The number of leaves.
+    pub(crate) fn leaf_count(&self) -> u16
+        ensures some { 1 ≤ result }
+    {
+        self.leaves.count()
+    }
+
     /// Splits off the token of a worker.
     pub(crate) fn own_token(&self, own: &mut OwnToken<J>) -> OwnToken<J> {
         OwnToken::new(self.phaser.split(&mut own.door))
     }
 
-    // Resumes the opening of a path until it is done.
-    fn open<R: Wait>(&self, rt: &R, mut opening: Opening) -> Entry
+    // Resumes the opening of a path, for one of `count` new members, until it is done.
+    fn open<R: Wait>(&self, rt: &R, mut opening: Opening, count: u32) -> Entry<J>
         requires { opening.token.tree ≡ J.tree }
-        ensures { IsOf J.tree (asked_tier opening.token.view.errand) result }
     {
         for _ in rt.forever() {
             match self.phaser.resume_opening(opening, TRIES) {
-                Opened::Joined(crew, _phase) => return Entry::In(crew),
-                Opened::Held(door, _phase, _cause) => return Entry::Off(door),
-                Opened::Full(door, _count) => return Entry::Full(door),
+                Opened::Joined(crew, _phase) => {
+                    if crew.size() != 1 {
+                        return Entry::Over;
+                    }
+                    return Entry::In(Bundle::new(Group::of(crew)), count.saturating_sub(1));
+                }
+                Opened::Held(_door, _phase, _cause) => return Entry::Off,
+                Opened::Full(_door, _count) => return Entry::Off,
                 Opened::Ended(_door, _shown) => return Entry::Over,
                 Opened::Owing(rest) => {
                     opening = rest;
@@ -83,138 +144,348 @@ impl<J: Running, F: Fn(u32, u32) -> bool> WorkerTree<J, F> {
         unreachable!()
     }
 
-    // Registers a member at a tier, and opens the path to the tier if it is empty.
-    fn register<R: Wait>(&self, rt: &R, door: Door, tier: u16) -> Entry
-        requires own { door.tree ≡ J.tree }
+    // Registers `count` new members at a tier, with a limited number of tries. Opens the path to the tier if it is empty.
+    fn register<R: Wait>(&self, rt: &R, own: &mut OwnToken<J>, tier: u16, count: u32) -> Entry<J>
         requires tier { tier < length J.tree.key.shape }
-        ensures { IsOf J.tree tier result }
+        requires some { 0 < count }
     {
-        match self.phaser.register(door, tier, 1, TRIES) {
-            Registered::Joined(crew, _phase) => Entry::In(crew),
-            Registered::Held(door, _phase, _cause) => Entry::Off(door),
-            Registered::Full(door, _count) => Entry::Full(door),
-            Registered::Busy(door) => Entry::Off(door),
-            Registered::Ended(_door, _shown) => Entry::Over,
-            Registered::Owing(opening) => self.open(rt, opening),
-        }
-    }
-
-    // Registers a member at the tier of a crew that has an unarrived member.
-    fn join_here<R: Wait>(&self, rt: &R, crew: &mut Crew, mut door: Door) -> Result<Crew, Reason>
-        requires own { (crew.old.tree ≡ J.tree) × (door.tree ≡ J.tree) }
-        requires unarrived { crew.old.view.arrived < crew.old.view.size }
-        ensures same { (crew.new.tree ≡ J.tree) × (crew.new.view.arrived < crew.new.view.size) × (crew.new.view.tier ≡ crew.old.view.tier) }
-        ensures joined { IfOk result (λ child. (child.tree ≡ J.tree) × (child.view.tier ≡ crew.old.view.tier)) }
-        ensures refused { IfErr result IsOfTree }
-    {
-        for _ in rt.forever() {
-            match self.phaser.join_here(crew, door, 1, TRIES) {
-                Registered::Joined(child, _phase) => return Ok(child),
-                Registered::Busy(rest) => {
-                    door = rest;
-                    thread::yield_now();
-                }
-                Registered::Full(_door, _count) => return Err(Reason::Full),
-                Registered::Ended(_door, _shown) => return Err(Reason::Internal),
-                Registered::Held(..) | Registered::Owing(_) => unreachable!(),
+        let door = self.phaser.split(&mut own.door);
+        match self.phaser.register_all(door, tier, count, TRIES) {
+            RegisteredAll::Joined(group, _phase) => Entry::In(Bundle::new(group), 0),
+            RegisteredAll::Partly(group, Halt::Full(_) | Halt::Ended(_) | Halt::Busy) => {
+                Entry::In(Bundle::new(group), count - 1)
             }
+            RegisteredAll::Held(_door, _phase, _cause) => Entry::Off,
+            RegisteredAll::Full(_door, _count) => Entry::Off,
+            RegisteredAll::Busy(_door) => Entry::Off,
+            RegisteredAll::Ended(_door, _shown) => Entry::Over,
+            RegisteredAll::Owing(opening) => self.open(rt, opening, count),
         }
-        unreachable!()
     }
 
-    /// Registers the start task with this number, at the leaf with this number modulo the number of leaves. Only a full leaf refuses
-    /// it, since no task has arrived yet.
-    pub(crate) fn register_start<R: Wait>(
+    // Lets all members of a group leave. Returns the sign if that advanced the tree.
+    fn leave<R: Wait>(&self, rt: &R, bundle: Bundle<J>) -> Result<Option<Led<J>>, Reason>
+        requires rule { Answers (F.pre self.now.phaser.rule.closure) (F.post self.now.phaser.rule.closure) (end_ends_at self.now.phaser.rule.plan) }
+    {
+        let Bundle { group, .. } = bundle;
+        let answer = self.phaser.leave_all_wait(rt, group);
+        let led = Led::of_departure(&answer);
+        match answer {
+            GroupLeft::Left(_door, _phase, _led) => Ok(led),
+            GroupLeft::AlreadyArrived(_group, _phase) => Err(Reason::Internal),
+            GroupLeft::Ended(_group, _shown) => Err(Reason::Internal),
+        }
+    }
+
+    // Lets new members join a group and arrive, some of its members leave, and the others arrive, by one exchange. Returns the members
+    // that are left, and the sign if that advanced the tree.
+    fn arrive_group<R: Wait>(
         &self,
         rt: &R,
         own: &mut OwnToken<J>,
-        path: Path,
-        number: usize,
-    ) -> Result<Participant<J>, Reason>
-        ensures leaf { IfOk result (λ participant. participant.crew.view.tier ≡ leaf_at (leaves_of J.tree.key.shape) number) }
-        ensures path { IfOk result (λ participant. participant.path ≡ path) }
-        ensures refused { IfErr result IsOfTree }
+        bundle: Bundle<J>,
+        moves: LeafMoves,
+    ) -> Result<(Option<Bundle<J>>, Option<Led<J>>), Reason>
+        requires rule { Answers (F.pre self.now.phaser.rule.closure) (F.post self.now.phaser.rule.closure) (end_ends_at self.now.phaser.rule.plan) }
     {
-        let fresh = self.phaser.split(&mut own.door);
-        match self.register(rt, fresh, self.leaves.tier(number)) {
-            Entry::In(crew) => Ok(Participant::new(path, crew)),
-            Entry::Full(_) => Err(Reason::Full),
-            Entry::Off(_) | Entry::Over => Err(Reason::Internal),
+        let LeafMoves { joining, leaving } = moves;
+        let size = bundle.group.size();
+        if leaving > size {
+            return Err(Reason::Internal);
+        }
+        if joining == 0 && leaving == size {
+            let led = self.leave(rt, bundle)?;
+            return Ok((None, led));
+        }
+        let Bundle { group, .. } = bundle;
+        let answer = if joining == 0 && leaving == 0 {
+            self.phaser.arrive_all_wait(rt, group)
+        } else {
+            self.phaser
+                .arrive_with_wait(rt, &mut own.door, group, joining, leaving)
+        };
+        let led = Led::of_arrival(&answer);
+        match answer {
+            GroupArrived::Done(group, _phase, _led) => Ok((Some(Bundle::new(group)), led)),
+            GroupArrived::Full(_group, _count) => Err(Reason::Full),
+            GroupArrived::AlreadyArrived(_group, _phase) => Err(Reason::Internal),
+            GroupArrived::Ended(_group, _shown) => Err(Reason::Internal),
         }
     }
 
-    /// Registers a task that the task of `crew` has spawned: at its preferred leaf, or if that is refused or is its spawner's tier,
-    /// beside its spawner.
-    pub(crate) fn register_spawned<R: Wait>(
+    // Lets the members of a stretch arrive. Those that join do so at the first group, and those that leave are taken of the groups
+    // one after another.
+    fn arrive_together<R: Wait>(
         &self,
         rt: &R,
-        crew: &mut Crew,
-        path: Path,
-    ) -> Result<Participant<J>, Reason>
-        requires own { crew.old.tree ≡ J.tree }
-        requires unarrived { crew.old.view.arrived < crew.old.view.size }
-        ensures same { (crew.new.tree ≡ J.tree) × (crew.new.view.arrived < crew.new.view.size) × (crew.new.view.tier ≡ crew.old.view.tier) }
-        ensures leaf { IfOk result (λ participant. IsAtLeaf (leaves_of J.tree.key.shape) crew.old.view.tier path.items participant.crew.view.tier) }
-        ensures path { IfOk result (λ participant. participant.path ≡ path) }
-        ensures refused { IfErr result IsOfTree }
+        own: &mut OwnToken<J>,
+        tokens: &mut Tokens<J>,
+        moves: LeafMoves,
+    ) -> Result<Option<Led<J>>, Reason>
+        requires rule { Answers (F.pre self.now.phaser.rule.closure) (F.post self.now.phaser.rule.closure) (end_ends_at self.now.phaser.rule.plan) }
     {
-        let fresh = self.phaser.split_crew(crew);
-        let tier = self.leaves.preferred(crew.tier(), path.as_slice());
-        if tier == crew.tier() {
-            let child = self.join_here(rt, crew, fresh)?;
-            return Ok(Participant::new(path, child));
-        }
-        match self.register(rt, fresh, tier) {
-            Entry::In(child) => Ok(Participant::new(path, child)),
-            Entry::Off(door) | Entry::Full(door) => {
-                let child = self.join_here(rt, crew, door)?;
-                Ok(Participant::new(path, child))
+        let mut led = None;
+        let mut rest = moves;
+        for _ in 0..tokens.len() {
+            let Some(bundle) = tokens.pop_first() else {
+                return Err(Reason::Internal);
+            };
+            let leaving = rest.leaving.min(bundle.group.size());
+            let joining = rest.joining;
+            rest.leaving -= leaving;
+            rest.joining = 0;
+            let (stays, one_led) = self.arrive_group(
+                rt,
+                own,
+                bundle,
+                LeafMoves { joining, leaving },
+            )?;
+            if let Some(bundle) = stays {
+                tokens.push(bundle)?;
             }
+            led = one_led.or(led);
+        }
+        if rest.leaving > 0 || rest.joining > 0 {
+            return Err(Reason::Internal);
+        }
+        Ok(led)
+    }
+
+    // Lets those that were spawned join the members of their leaf, if there are some, and registers the others there. Returns how many
+    // found no room or no time.
+    fn join_leaf<R: Wait>(
+        &self,
+        rt: &R,
+        own: &mut OwnToken<J>,
+        planned: &mut Vec<Planned<J>>,
+        number: usize,
+        joining: u32,
+    ) -> Result<u32, Reason> {
+        if joining == 0 {
+            return Ok(0);
+        }
+        let tier = self.leaves.tier(number);
+        if let Some(place) = place_of(planned, tier) {
+            planned[place].let_join(joining);
+            return Ok(0);
+        }
+        match self.register(rt, own, tier, joining) {
+            Entry::In(bundle, rest) => {
+                append(planned, Planned::new(bundle))?;
+                Ok(rest)
+            }
+            Entry::Off => Ok(joining),
             Entry::Over => Err(Reason::Internal),
         }
     }
 
-    /// Brings a crew up to date with the phase in which its task runs, and in which it hasn't arrived.
-    pub(crate) fn come_in(&self, crew: &mut Crew) -> Result<(), Reason>
-        requires { crew.old.tree ≡ J.tree }
-        ensures same { crew.new.tree ≡ J.tree }
-        ensures unarrived { OnOk result (crew.new.view.arrived < crew.new.view.size) }
-        ensures internal { IfErr result (λ fault. fault ≡ reason.Internal) }
-    {
-        let _polled = self.phaser.poll(crew);
-        if crew.unarrived() == 0 {
+    // Lets those that stop leave the members of their leaf. Returns how many find no member there.
+    fn leave_leaf(&self, planned: &mut Vec<Planned<J>>, number: usize, leaving: u32) -> u32 {
+        if leaving == 0 {
+            return 0;
+        }
+        match place_of(planned, self.leaves.tier(number)) {
+            Some(place) => planned[place].let_leave(leaving),
+            None => leaving,
+        }
+    }
+
+    // Plans for each group how many members join and leave it. Those of the stretch are the first groups. A spawned task that finds no
+    // room or no time at its leaf joins the first group.
+    fn plan<R: Wait>(
+        &self,
+        rt: &R,
+        own: &mut OwnToken<J>,
+        planned: &mut Vec<Planned<J>>,
+        moves: &[LeafMoves],
+    ) -> Result<(), Reason> {
+        let mut leaving = 0;
+        let mut joining: u32 = 0;
+        for number in 0..moves.len() {
+            let LeafMoves {
+                joining: come,
+                leaving: go,
+            } = moves[number];
+            let left_over = self.leave_leaf(planned, number, go);
+            leaving = left_over.saturating_add(leaving);
+            let homeless = self.join_leaf(rt, own, planned, number, come)?;
+            joining = joining.saturating_add(homeless);
+        }
+        for place in 0..planned.len() {
+            leaving = planned[place].let_leave(leaving);
+        }
+        match planned.first_mut() {
+            Some(first) => first.let_join(joining),
+            None => return Err(Reason::Internal),
+        }
+        if leaving > 0 {
             return Err(Reason::Internal);
         }
         Ok(())
     }
 
-    /// Arrives for the member of a crew. Returns the sign if this arrival advanced the tree.
-    pub(crate) fn arrive<R: Wait>(&self, rt: &R, crew: &mut Crew) -> Result<Option<Led<J>>, Reason>
-        requires own { crew.old.tree ≡ J.tree }
+    // Lets the members of a stretch arrive. Spawned tasks join at their leaves, and those that stop leave there.
+    fn arrive_by_leaf<R: Wait>(
+        &self,
+        rt: &R,
+        alloc: Global,
+        own: &mut OwnToken<J>,
+        tokens: &mut Tokens<J>,
+        moves: &[LeafMoves],
+    ) -> Result<Option<Led<J>>, Reason>
         requires rule { Answers (F.pre self.now.phaser.rule.closure) (F.post self.now.phaser.rule.closure) (end_ends_at self.now.phaser.rule.plan) }
-        ensures same { crew.new.tree ≡ J.tree }
-        ensures passed { IfOk result (λ led. (is_some led ≡ crew.new.view.led) × HasPassed Arrival crew.old.view crew.new.view) }
-        ensures internal { IfErr result (λ fault. fault ≡ reason.Internal) }
     {
-        match self.phaser.arrive_in_place(rt, crew) {
-            ArrivedInPlace::Done { phase: _, led } => Ok(Led::of_arrival(crew, led)),
-            ArrivedInPlace::AlreadyArrived(_phase) => Err(Reason::Internal),
-            ArrivedInPlace::Ended(_shown) => Err(Reason::Internal),
+        let mut planned = Vec::with_capacity(alloc, tokens.len())?;
+        for _ in 0..tokens.len() {
+            match tokens.pop_first() {
+                Some(bundle) => append(&mut planned, Planned::new(bundle))?,
+                None => return Err(Reason::Internal),
+            }
+        }
+        self.plan(rt, own, &mut planned, moves)?;
+        let mut led = None;
+        while let Some(one) = planned.pop() {
+            let Planned { bundle, moves } = one;
+            let (stays, one_led) = self.arrive_group(rt, own, bundle, moves)?;
+            if let Some(bundle) = stays {
+                tokens.push(bundle)?;
+            }
+            led = one_led.or(led);
+        }
+        Ok(led)
+    }
+
+    /// Synchronizes the members of a stretch that was delivered: new ones join and arrive for the tasks that were spawned, those of
+    /// tasks that stopped leave, and the others arrive; by one exchange at each tier. Returns the sign if one of them advanced the
+    /// tree.
+    pub(crate) fn arrive<R: Wait>(
+        &self,
+        rt: &R,
+        alloc: Global,
+        own: &mut OwnToken<J>,
+        tokens: &mut Tokens<J>,
+        moves: &Moves,
+    ) -> Result<Option<Led<J>>, Reason>
+        requires rule { Answers (F.pre self.now.phaser.rule.closure) (F.post self.now.phaser.rule.closure) (end_ends_at self.now.phaser.rule.plan) }
+    {
+        if moves.at_leaves.is_empty() {
+            return self.arrive_together(rt, own, tokens, moves.all);
+        }
+        self.arrive_by_leaf(rt, alloc, own, tokens, &moves.at_leaves)
+    }
+
+    // Looks at the root for members. Returns their phase if none has arrived in it.
+    fn look(&self, bundle: &mut Bundle<J>) -> Option<u32>
+        ensures unarrived { IfSome result (λ phase. (bundle.new.group.view.arrived ≡ 0) × (bundle.new.group.view.phase ≡ phase)) }
+        ensures tier { bundle.new.group.view.tier ≡ bundle.old.group.view.tier }
+    {
+        match self.phaser.poll_all(&mut bundle.group) {
+            Polled::Passed(phase) | Polled::Here(phase) => Some(phase),
+            Polled::Waiting | Polled::Ended(_) => None,
         }
     }
 
-    /// Leaves for the only member of a crew. Returns the sign if that advanced the tree.
-    pub(crate) fn leave<R: Wait>(&self, rt: &R, crew: Crew) -> Result<Option<Led<J>>, Reason>
-        requires own { crew.tree ≡ J.tree }
-        requires rule { Answers (F.pre self.now.phaser.rule.closure) (F.post self.now.phaser.rule.closure) (end_ends_at self.now.phaser.rule.plan) }
-        ensures internal { IfErr result (λ fault. fault ≡ reason.Internal) }
+    // Puts two groups of one tier together. Fails if they aren't unarrived in one phase.
+    fn join_two(&self, one: &mut Bundle<J>, other: Bundle<J>) -> Result<(), Reason>
+        requires tier { other.group.view.tier ≡ one.old.group.view.tier }
     {
-        match self.phaser.leave_wait(rt, crew) {
-            ArrivedAtLast::Left(door, _phase, led) => Ok(Led::of_departure(&door, led)),
-            ArrivedAtLast::Done(_crew, _phase, _led) => Err(Reason::Internal),
-            ArrivedAtLast::AlreadyArrived(_crew, _phase) => Err(Reason::Internal),
-            ArrivedAtLast::Ended(_crew, _shown) => Err(Reason::Internal),
+        let mut other = other;
+        match (self.look(one), self.look(&mut other)) {
+            (Some(phase), Some(same)) if phase == same => {
+                let Bundle { group, .. } = other;
+                self.phaser.join_groups(&mut one.group, group);
+                Ok(())
+            }
+            (_, _) => Err(Reason::Internal),
         }
+    }
+
+    // Puts members to the first of these that are at their tier, or appends them.
+    fn merge(&self, bundles: &mut Vec<Bundle<J>>, bundle: Bundle<J>) -> Result<(), Reason> {
+        for place in 0..bundles.len() {
+            if bundles[place].group.tier() == bundle.group.tier() {
+                return self.join_two(&mut bundles[place], bundle);
+            }
+        }
+        append(bundles, bundle)?;
+        Ok(())
+    }
+
+    // Puts all these members to those that are at their tiers.
+    fn merge_all(
+        &self,
+        bundles: &mut Vec<Bundle<J>>,
+        tokens: &mut Tokens<J>,
+    ) -> Result<(), Reason> {
+        for _ in 0..tokens.len() {
+            match tokens.pop_first() {
+                Some(bundle) => self.merge(bundles, bundle)?,
+                None => return Err(Reason::Internal),
+            }
+        }
+        Ok(())
+    }
+
+    // Splits off all but the first `count` members.
+    fn split(&self, bundle: &mut Bundle<J>, count: u32) -> Bundle<J>
+        requires { (0 < count) × (count < length bundle.old.group.tokens) }
+    {
+        Bundle::new(self.phaser.split_group(&mut bundle.group, count))
+    }
+
+    // Takes so many members of the last groups.
+    fn take_members(
+        &self,
+        alloc: Global,
+        bundles: &mut Vec<Bundle<J>>,
+        count: usize,
+    ) -> Result<Tokens<J>, Reason> {
+        let mut tokens = Tokens::new(alloc);
+        let mut need = count;
+        while need > 0 {
+            let Some(mut bundle) = bundles.pop() else {
+                return Err(Reason::Internal);
+            };
+            let has = bundle.group.size() as usize;
+            if need < has {
+                let rest = self.split(&mut bundle, need as u32);
+                append(bundles, rest)?;
+                tokens.push(bundle)?;
+                return Ok(tokens);
+            }
+            need -= has;
+            tokens.push(bundle)?;
+        }
+        Ok(tokens)
+    }
+
+    /// Cuts members into those of stretches of these sizes.
+    pub(crate) fn cut(
+        &self,
+        alloc: Global,
+        mut bundles: Vec<Bundle<J>>,
+        sizes: &[usize],
+    ) -> Result<Vec<Option<Tokens<J>>>, Reason> {
+        let mut all = Vec::with_capacity(alloc, sizes.len())?;
+        for place in 0..sizes.len() {
+            let tokens = self.take_members(alloc, &mut bundles, sizes[place])?;
+            append(&mut all, Some(tokens))?;
+        }
+        Ok(all)
+    }
+
+    /// Cuts all members anew, for stretches between which tasks have moved.
+    pub(crate) fn cut_anew(
+        &self,
+        alloc: Global,
+        recut: Recut<J>,
+    ) -> Result<Vec<Option<Tokens<J>>>, Reason> {
+        let Recut { mut tokens, sizes } = recut;
+        let mut bundles = Vec::new(alloc);
+        while let Some(mut one) = tokens.pop() {
+            self.merge_all(&mut bundles, &mut one)?;
+        }
+        self.cut(alloc, bundles, &sizes)
     }
 
     /// Ends the tree. Changes nothing if it has ended.

@@ -2,7 +2,7 @@
 ghost use Rattle.std.specs.Prelude.{◌≡◌, ◌≤◌, Some, IfOk, IfErr};
 ghost use Rattle.step_parts.specs.Program.{program_of};
 ghost use Rattle.step_parts.specs.JobMeaning.{report_of};
-ghost use Rattle.stretch_groups.specs.Refusals.{IsOfWorkers};
+ghost use Rattle.stretch_queue.specs.Refusals.{IsOfWorkers};
 
 use crate::job::run_job;
 use advance_rule::{EndPlan, StoredAdvance};

@@ -3,20 +3,22 @@ ghost use Rattle.advance_rule.specs.Stored.{Answers};
 ghost use Rattle.advance_rule.specs.Plan.{end_ends_at};
 
 use crate::shared::Shared;
+use programs::program::TaskLoop;
 use std::alloc::Global;
 use std::sync::Wait;
-use stretch_queue::engine::Engine;
 use stretch_queue::fault::Reason;
 use stretch_queue::hand::HeldStretch;
+use stretch_queue::hook::Hook;
 use stretch_queue::hooks::Gate;
-use stretch_queue::participant::{OwnToken, Stopped};
-use stretch_queue::queue::{GroupList, Next, Running};
+use stretch_queue::queue::{Next, Stopped};
+use stretch_queue::running::Running;
+use stretch_queue::tokens::OwnToken;
 
 /// Runs stretches until workers stop. `own` is the token of the worker, by which it can end the tree.
-pub(crate) fn work<E: Engine, J: Running, L: GroupList, R: Wait, F: Fn(u32, u32) -> bool, G: Gate>(
+pub(crate) fn work<P: TaskLoop, H: Hook<P>, J: Running, R: Wait, F: Fn(u32, u32) -> bool, G: Gate>(
     rt: &R,
     alloc: Global,
-    shared: &Shared<E, J, L, F>,
+    shared: &Shared<'_, '_, P, H, J, F>,
     gate: &G,
     own: &mut OwnToken<J>,
 ) -> Stopped<J>
@@ -33,10 +35,10 @@ pub(crate) fn work<E: Engine, J: Running, L: GroupList, R: Wait, F: Fn(u32, u32)
 }
 
 // Runs the next stretch, or stops if workers stop.
-fn do_next<E: Engine, J: Running, L: GroupList, R: Wait, F: Fn(u32, u32) -> bool, G: Gate>(
+fn do_next<P: TaskLoop, H: Hook<P>, J: Running, R: Wait, F: Fn(u32, u32) -> bool, G: Gate>(
     rt: &R,
     alloc: Global,
-    shared: &Shared<E, J, L, F>,
+    shared: &Shared<'_, '_, P, H, J, F>,
     gate: &G,
     own: &mut OwnToken<J>,
 ) -> Result<Option<Stopped<J>>, Reason>
@@ -51,18 +53,18 @@ fn do_next<E: Engine, J: Running, L: GroupList, R: Wait, F: Fn(u32, u32) -> bool
     }
 }
 
-// Runs the segments of a stretch, delivers it, and then synchronizes its tasks.
-fn do_stretch<E: Engine, J: Running, L: GroupList, R: Wait, F: Fn(u32, u32) -> bool, G: Gate>(
+// Runs the segments of a stretch, delivers it, and then lets the members of its tasks arrive.
+fn do_stretch<'p, P: TaskLoop, H: Hook<P>, J: Running, R: Wait, F: Fn(u32, u32) -> bool, G: Gate>(
     rt: &R,
     alloc: Global,
-    shared: &Shared<E, J, L, F>,
+    shared: &Shared<'_, 'p, P, H, J, F>,
     gate: &G,
     own: &mut OwnToken<J>,
-    held: HeldStretch<E::Stretch, J>,
+    held: HeldStretch<'p, P, H::Lines, J>,
 ) -> Result<(), Reason>
     requires rule { Answers (F.pre shared.now.tree.phaser.rule.closure) (F.post shared.now.tree.phaser.rule.closure) (end_ends_at shared.now.tree.phaser.rule.plan) }
 {
-    let (ran, changes) = held.run(rt, alloc, gate)?;
-    let (group, changes) = shared.deliver(rt, ran, changes);
-    shared.pass_all(rt, alloc, own, group, changes)
+    let ran = held.run(rt, alloc, gate, shared.tree.leaf_count())?;
+    let delivered = shared.deliver(rt, ran);
+    shared.arrive(rt, alloc, own, delivered)
 }

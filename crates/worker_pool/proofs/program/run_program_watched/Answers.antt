@@ -13,7 +13,7 @@ pub returns-in-Ok-new-clause-ran : goal.returns-in-Ok-new-clause-ran
 returns-in-Ok-new-clause-ran g c =
     let b = c.in-Ok-new.ensures in
     let limit : b.opening.limit ≡ limit_of c.args.advance.plan = b.of_limit ∙ c.limit_in-limit.ensures.limit ∙ ap limit_of c.plan.ensures in
-    if_ok c.run_stretches.result _ _ c.run_stretches.ensures.ran
+    if_ok c.run_watched.result _ _ c.run_watched.ensures.ran
     (λ ran h.
     subst (λ (q : g.row.P.Denot). HasRunTo g.W.Watch.stops g.W.Watch.goes (g.P.Program.frame q) (g.P.Program.may q) c.args.most c.args.arrays (map (g.P.Program.meant q) c.args.tasks.items) (limit_of c.args.advance.plan) ran.report (map (g.P.Program.meant q) ran.tasks.items)) b.of_program
     (subst (λ (n : ℕ). HasRunTo g.W.Watch.stops g.W.Watch.goes (g.P.Program.frame b.opening.program) (g.P.Program.may b.opening.program) n c.args.arrays (map (g.P.Program.meant b.opening.program) c.args.tasks.items) (limit_of c.args.advance.plan) ran.report (map (g.P.Program.meant b.opening.program) ran.tasks.items)) b.of_most
@@ -22,8 +22,8 @@ returns-in-Ok-new-clause-ran g c =
     (subst (λ (n : ℕ). HasRunTo g.W.Watch.stops g.W.Watch.goes (g.P.Program.frame b.opening.program) (g.P.Program.may b.opening.program) b.opening.most b.opening.arrays (map (g.P.Program.meant b.opening.program) (live_of b.opening)) n ran.report (map (g.P.Program.meant b.opening.program) ran.tasks.items)) limit
     (h b.opening b.log))))))
 
-pub run_stretches-requires-clause-opened : goal.run_stretches-requires-clause-opened
-run_stretches-requires-clause-opened g c = λ lifetimes bounds.
+pub run_watched-requires-clause-opened : goal.run_watched-requires-clause-opened
+run_watched-requires-clause-opened g c = λ lifetimes bounds.
     let b = c.in-Ok-new.ensures in
     record {
       opening = b.opening;

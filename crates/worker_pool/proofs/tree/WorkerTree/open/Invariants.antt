@@ -1,8 +1,6 @@
 use Rattle.std.proofs.Common.{◌≡◌}
-use Rattle.tier_table.specs.Openings.{asked_tier}
 use Rattle.worker_pool.proofs.tree.WorkerTree.open.Given as goal
 
 abbrev pub invariant-loop : goal.invariant-loop
 invariant-loop g l =
     (goal.iterator-loop g).can_next l.iterator' × (goal.iterator-loop g).is_finite l.iterator' × (l.opening.token.tree ≡ g.J.Running.tree)
-    × (asked_tier l.opening.token.view.errand ≡ asked_tier l.fn.opening.token.view.errand)

@@ -1,3 +1,0 @@
-pub mod Grouping
-pub mod Places
-pub mod Sorted
