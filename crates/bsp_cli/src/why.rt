@@ -3,12 +3,12 @@
 ghost use Rattle.std.specs.Prelude.{◌≡◌, Err, IfOk, IfSome};
 ghost use Rattle.text_lines.specs.declared.refusal.Refusal.{Refusal};
 ghost use Rattle.trace_text.specs.Trace.{asked_of};
-ghost use Rattle.job_reasons.specs.Reasons.{refusal_reason as told_reason};
+ghost use Rattle.job_faults.specs.Reasons.{refusal_reason as told_reason};
 
 use crate::asked::{clashes, parser};
 use crate::clash::CLASH;
 use devices::{Reader, Writer};
-use job_reasons::{Kind, job_reason, refusal_reason};
+use job_faults::{Kind, job_reason, refusal_reason};
 use std::alloc::{AllocError, Global};
 use trace_text::{TraceFault, run_trace};
 

@@ -1,1 +1,4 @@
 pub mod Listed
+pub mod Behind
+pub mod Lasts
+pub mod Reasoned

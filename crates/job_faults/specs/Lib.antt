@@ -4,3 +4,6 @@ pub mod Listing
 pub mod Places
 pub mod Worked
 pub mod WorkedPlaces
+pub mod Meanings
+pub mod Reasons
+pub mod WorkedReasons

@@ -4,7 +4,7 @@ ghost use Rattle.std.specs.List.{flat_map};
 ghost use Rattle.job_faults.specs.Listing.{code_name, fault_line, listing};
 
 use crate::faults::faults_of;
-use itoa::{Buffer, Integer};
+use crate::pieces::push_field;
 use job_reader::{Code, Refusal};
 use std::alloc::{AllocError, Global};
 
@@ -28,14 +28,6 @@ pub fn code_name(code: Code) -> &'static str
         Code::BadLength => "BadLength",
         Code::Reserved => "Reserved",
     }
-}
-
-// Appends a text and a number.
-fn push_field<I: Integer>(out: &mut Vec<u8>, name: &[u8], n: I) -> Result<(), AllocError>
-    ensures { OnOk result (out.new.items ≡ out.old.items ++ name.now ++ I.text n) }
-{
-    out.extend_from_slice(name)?;
-    out.extend_from_slice(Buffer::new().format(n).as_bytes())
 }
 
 // Appends the line that reports a faulty line.

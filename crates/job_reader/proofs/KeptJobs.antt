@@ -21,9 +21,9 @@ use Rattle.job_words.specs.declared.lines.Keyword.{Keyword}
 use Rattle.job_words.specs.Lines.{known_in, line_behind, mentions_behind}
 use Rattle.job_words.proofs.SaidLemmas.{made-ok, and-true}
 use Rattle.job_words.proofs.GrowLemmas.{below-grows}
-use Rattle.job_trees.specs.Trees.{BodyTree, JobTree, array_names, body_names}
+use Rattle.job_words.specs.Trees.{BodyTree, JobTree, array_names, body_names}
 use Rattle.job_reader.specs.Above.{Inside, nothing, can_else, sits, ended, statements_behind}
-use Rattle.job_trees.specs.Legal.{flat_body}
+use Rattle.job_words.specs.Legal.{flat_body}
 use Rattle.job_reader.specs.Kept.{KeptBody, AreKept, KeptJob, KeptFirst, Counted, KeptOpen, KeptAt, IsWhole, EndsWhole, HasKeptInside, HasEnding}
 use Rattle.job_reader.specs.Relates.{IsInside, IsOpened}
 use Rattle.job_reader.specs.declared.inside.OpenBody.{OpenBody}

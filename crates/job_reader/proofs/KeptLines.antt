@@ -20,7 +20,7 @@ use Rattle.job_words.proofs.SaidLemmas.{made-ok, both-ok, and-true}
 use Rattle.job_words.proofs.GrowLemmas.{and-left, and-right}
 use Rattle.job_reader.specs.declared.outer.Outer.{Outer}
 use Rattle.job_reader.specs.declared.outer.Outer.TheVariants as outer
-use Rattle.job_trees.specs.Trees.{JobTree, array_names, body_names}
+use Rattle.job_words.specs.Trees.{JobTree, array_names, body_names}
 use Rattle.job_reader.specs.Above.{Inside, Above, nothing, begun}
 use Rattle.job_reader.specs.Kept.{KeptJob, KeptOpen, KeptAt}
 use Rattle.job_reader.specs.Reading.{

@@ -12,7 +12,7 @@ use Rattle.job_words.specs.declared.lines.Keyword.{Keyword}
 use Rattle.job_words.specs.declared.lines.Keyword.TheVariants.{Let, Put, Print, Spawn, Sync, Stop, If, Else, While, End}
 use Rattle.job_words.specs.Lines.{is_of_first, known_in, alone, line_behind}
 use Rattle.job_words.proofs.SaidLemmas.{made-ok}
-use Rattle.job_trees.specs.Trees.{JobTree, array_names}
+use Rattle.job_words.specs.Trees.{JobTree, array_names}
 use Rattle.job_reader.specs.Above.{Inside}
 use Rattle.job_reader.specs.Grammar.{is_in_format}
 use Rattle.job_reader.specs.Reading.{said, with_line, mentioning, inner_line}

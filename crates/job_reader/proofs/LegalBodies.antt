@@ -20,7 +20,7 @@ use Rattle.job_words.specs.Exprs.{Names}
 use Rattle.job_words.specs.Lines.{line_names, line_fits}
 use Rattle.job_words.proofs.SaidLemmas.{and-true, below-true}
 use Rattle.job_words.proofs.GrowLemmas.{and-left, and-right}
-use Rattle.job_trees.specs.Trees.{BodyTree, array_names}
+use Rattle.job_words.specs.Trees.{BodyTree, array_names}
 use Rattle.job_reader.specs.Grammar.{Item, AnArray, ABody, AStart, names_above, IsSoundBody, AreSound, job_of}
 
 -- with more arrays

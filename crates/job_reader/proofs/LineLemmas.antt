@@ -12,7 +12,7 @@ use Rattle.job_words.specs.Faults.{made}
 use Rattle.job_words.specs.declared.lines.Keyword.{Keyword}
 use Rattle.job_reader.specs.declared.inside.OpenBody.{OpenBody}
 use Rattle.job_reader.specs.declared.so_far.SoFar.{SoFar}
-use Rattle.job_trees.specs.Trees.{JobTree, array_names}
+use Rattle.job_words.specs.Trees.{JobTree, array_names}
 use Rattle.job_reader.specs.Above.{Inside, can_else, belongs, sits, ended, statements_behind}
 use Rattle.job_reader.specs.Reading.{◌>>=◌, is_over, within_limits, said, behind, with_line, mentioning, inner_line, body_line, outer_line}
 use Rattle.job_reader.specs.declared.outer.Outer.{Outer}

@@ -15,7 +15,7 @@ use Rattle.job_words.specs.declared.lines.Keyword.{Keyword}
 use Rattle.job_words.specs.declared.lines.Keyword.TheVariants.{Let, Put, Print, Spawn, Sync, Stop, If, Else, While, End}
 use Rattle.job_words.specs.Lines.{line_behind, alone}
 use Rattle.job_reader.specs.declared.inside.OpenBody.{OpenBody}
-use Rattle.job_trees.specs.Legal.{flat_body}
+use Rattle.job_words.specs.Legal.{flat_body}
 use Rattle.job_reader.specs.Above.{Inside, can_else, belongs, sits, ended}
 use Rattle.job_reader.specs.Relates.{IsInside}
 

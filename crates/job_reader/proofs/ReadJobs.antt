@@ -12,8 +12,8 @@ use Rattle.task_code.proofs.Reading.{tree-flat}
 use Rattle.task_code.specs.Tree.{Block}
 use Rattle.job_words.specs.Words.{Word}
 use Rattle.job_words.proofs.SaidLemmas.{and-true}
-use Rattle.job_trees.specs.Trees.{BodyTree, JobTree, body_tree, job_tree, array_names, body_names}
-use Rattle.job_trees.specs.Legal.{flat_body, flat_job, IsJobTree}
+use Rattle.job_words.specs.Trees.{BodyTree, JobTree, body_tree, job_tree, array_names, body_names}
+use Rattle.job_words.specs.Legal.{flat_body, flat_job, IsJobTree}
 use Rattle.job_reader.specs.Grammar.{job_of}
 use Rattle.job_reader.proofs.ToldWhole.{text-told}
 use Rattle.job_reader.specs.Kept.{AreKept, KeptJob, SaysJobs}

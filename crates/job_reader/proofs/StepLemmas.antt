@@ -5,7 +5,7 @@ use Rattle.text_lines.specs.declared.refusal.Refusal.{Refusal}
 use Rattle.text_lines.specs.Text.{words_of}
 use Rattle.job_words.specs.Words.{Word}
 use Rattle.job_reader.specs.declared.state.State.{State}
-use Rattle.job_trees.specs.Trees.{JobTree}
+use Rattle.job_words.specs.Trees.{JobTree}
 use Rattle.job_reader.specs.Above.{Above}
 use Rattle.job_reader.specs.Reading.{◌>>=◌, at, kept_step, read_lines}
 use Rattle.job_reader.specs.Relates.{IsAt}

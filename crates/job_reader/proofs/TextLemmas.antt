@@ -9,7 +9,7 @@ use Rattle.job_words.specs.Exprs.{Names}
 use Rattle.job_words.specs.Lines.{end_words}
 use Rattle.task_code.specs.JobValue.{JobValue}
 use Rattle.task_code.specs.declared.job.Start.{Start}
-use Rattle.job_trees.specs.Trees.{BodyTree, body_tree, job_tree, array_names, body_names}
+use Rattle.job_words.specs.Trees.{BodyTree, body_tree, job_tree, array_names, body_names}
 use Rattle.job_reader.specs.Grammar.{
   block_lines,
   body_words,

@@ -19,7 +19,7 @@ use Rattle.job_words.proofs.LineSaid.{LineSaid, is_present_if, keyword-said, lin
 use Rattle.job_words.proofs.GrowLemmas.{wider, line-grows, fits-grows, and-left, and-right}
 use Rattle.job_reader.proofs.LocalsBehind.{locals-grow, listed-same, behind-none, by-one}
 use Rattle.job_reader.proofs.Known.{known-line, said-known}
-use Rattle.job_trees.specs.Trees.{BodyTree, JobTree, array_names}
+use Rattle.job_words.specs.Trees.{BodyTree, JobTree, array_names}
 use Rattle.job_reader.specs.Above.{Inside, can_else, sits, grown, ended, statements_behind}
 use Rattle.job_reader.specs.Grammar.{ABody, body_words, block_lines, body_lines, items_lines, listed_in, locals_behind, locals_by, is_in_format}
 use Rattle.job_reader.specs.Reading.{mentioning, said, behind, with_line, inner_line, is_missing}

@@ -22,7 +22,7 @@ use Rattle.job_words.proofs.SaidLemmas.{made-ok}
 use Rattle.job_words.proofs.LineSaid.{keyword_text, keyword-said}
 use Rattle.job_reader.specs.declared.outer.Outer.{Outer}
 use Rattle.job_reader.specs.declared.outer.Outer.TheVariants as outer
-use Rattle.job_trees.specs.Trees.{BodyTree, JobTree, array_names, body_names}
+use Rattle.job_words.specs.Trees.{BodyTree, JobTree, array_names, body_names}
 use Rattle.job_reader.specs.Above.{Inside, Above, begun, ended, statements_behind}
 use Rattle.job_reader.specs.Reading.{
   outer_of,

@@ -17,7 +17,7 @@ use Rattle.job_words.proofs.LineSaid.{body-said}
 use Rattle.job_words.proofs.GrowLemmas.{and-right}
 use Rattle.job_reader.specs.declared.outer.Outer.{Outer}
 use Rattle.job_reader.specs.declared.outer.Outer.TheVariants as outer
-use Rattle.job_trees.specs.Trees.{JobTree, array_names, body_names}
+use Rattle.job_words.specs.Trees.{JobTree, array_names, body_names}
 use Rattle.job_reader.specs.Above.{Inside, begun}
 use Rattle.job_reader.specs.Grammar.{AnArray, AStart, array_words, start_words, IsFilled, listed_in}
 use Rattle.job_reader.specs.Reading.{

@@ -6,7 +6,7 @@ use Rattle.task_code.specs.Open.{Frame, InIf}
 use Rattle.task_code.specs.Limits.{is_statement}
 use Rattle.task_code.specs.declared.code.Line.{Line}
 use Rattle.task_code.specs.declared.code.Line.TheVariants as line
-use Rattle.job_trees.specs.Trees.{BodyTree, JobTree}
+use Rattle.job_words.specs.Trees.{BodyTree, JobTree}
 
 -- a body that is open: its locals so far, its open lines, the innermost first, the statements after that, and how many
 -- statements it has

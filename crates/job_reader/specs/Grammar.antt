@@ -11,7 +11,7 @@ use Rattle.job_words.specs.Words.{Word, Words, name_at}
 pub use Rattle.job_words.specs.Words.{locals_behind}
 use Rattle.job_words.specs.Exprs.{Names, expr_words}
 use Rattle.job_words.specs.Lines.{action_words, end_words, line_fits, mentions_of}
-use Rattle.job_trees.specs.Trees.{BodyTree, JobTree, array_names, body_names}
+use Rattle.job_words.specs.Trees.{BodyTree, JobTree, array_names, body_names}
 
 -- the lines of statements
 abbrev pub block_lines : Names → Block → List Words

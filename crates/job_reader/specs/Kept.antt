@@ -11,9 +11,9 @@ use Rattle.task_code.specs.Tree.{Block}
 use Rattle.task_code.specs.Open.{Frame, open_code}
 use Rattle.task_code.specs.declared.code.Line.{Line}
 use Rattle.job_words.specs.Words.{Word}
-use Rattle.job_trees.specs.Trees.{BodyTree, JobTree, array_names, body_names}
+use Rattle.job_words.specs.Trees.{BodyTree, JobTree, array_names, body_names}
 use Rattle.job_reader.specs.Above.{Inside, Above, belongs, ended}
-use Rattle.job_trees.specs.Legal.{flat_body, IsJobTree}
+use Rattle.job_words.specs.Legal.{flat_body, IsJobTree}
 use Rattle.job_reader.specs.Limits.{most_starts}
 use Rattle.job_reader.specs.Relates.{IsSoFar, IsInside, IsOpened, IsAt}
 use Rattle.job_reader.specs.Reading.{finished}

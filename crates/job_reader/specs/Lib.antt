@@ -1,6 +1,6 @@
-pub use Rattle.job_trees.specs.Legal
-pub use Rattle.job_trees.specs.Trees
-pub use Rattle.job_trees.specs.Upgrade
+pub use Rattle.job_words.specs.Legal
+pub use Rattle.job_words.specs.Trees
+pub use Rattle.job_words.specs.Upgrade
 pub mod Limits
 pub mod Above
 pub mod Gives

@@ -20,7 +20,7 @@ use Rattle.task_code.specs.declared.code.Line.{Line}
 use Rattle.task_code.specs.declared.job.Start.{Start}
 use Rattle.job_reader.specs.declared.outer.Outer.{Outer}
 use Rattle.job_reader.specs.declared.outer.Outer.TheVariants as outer
-use Rattle.job_trees.specs.Trees.{JobTree, array_names, body_names}
+use Rattle.job_words.specs.Trees.{JobTree, array_names, body_names}
 use Rattle.job_reader.specs.Grammar.{locals_behind}
 use Rattle.job_reader.specs.Limits.{most_cells, most_starts}
 use Rattle.job_reader.specs.Above.{Inside, Above, nothing, can_else, begun, statements_behind, grown, ended}

@@ -6,8 +6,8 @@ use Rattle.task_code.specs.Open.{Frame, IsOpen}
 use Rattle.job_reader.specs.declared.inside.OpenBody.{OpenBody}
 use Rattle.job_reader.specs.declared.so_far.SoFar.{SoFar}
 use Rattle.job_reader.specs.declared.state.State.{State}
-use Rattle.job_trees.specs.Trees.{JobTree, array_names, body_names}
-use Rattle.job_trees.specs.Legal.{flat_body}
+use Rattle.job_words.specs.Trees.{JobTree, array_names, body_names}
+use Rattle.job_words.specs.Legal.{flat_body}
 use Rattle.job_reader.specs.Above.{Inside, Above, grown}
 
 -- an open body

@@ -20,7 +20,7 @@ mod state;
 mod write;
 
 pub use fault::ReadJobFault;
-pub use job_trees::upgrade;
+pub use job_words::upgrade;
 pub use laws::{each_text_is_read_or_refused, read_texts_are_jobs};
 pub use read::read_job;
 pub use text_lines::{Code, Refusal};

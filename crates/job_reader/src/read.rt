@@ -5,7 +5,7 @@ ghost use Rattle.text_lines.specs.Text.{lines_of, words_of};
 ghost use Rattle.task_code.specs.Rules.{is_format};
 ghost use Rattle.job_words.specs.Words.{Word};
 ghost use Rattle.job_words.specs.Views.{lent};
-ghost use Rattle.job_trees.specs.Trees.{job_tree};
+ghost use Rattle.job_words.specs.Trees.{job_tree};
 ghost use Rattle.job_reader.specs.Above.{Above, nothing};
 ghost use Rattle.job_reader.specs.Begins.{has_header, BeginsWell};
 ghost use Rattle.job_reader.specs.Kept.{HasKept, HasEnd, SaysJobs};

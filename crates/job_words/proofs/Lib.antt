@@ -7,3 +7,5 @@ pub mod WrittenLemmas
 pub mod WrittenExprs
 pub mod WrittenLines
 pub mod LineRefused
+pub mod JobLemmas
+pub mod Upgraded

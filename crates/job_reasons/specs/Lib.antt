@@ -1,4 +1,0 @@
-pub mod Laws
-pub mod Meanings
-pub mod Reasons
-pub mod Worked

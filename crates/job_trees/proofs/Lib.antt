@@ -1,2 +1,0 @@
-pub mod JobLemmas
-pub mod Upgraded
