@@ -4,10 +4,12 @@ use Rattle.std.specs.Prelude.{if◌then◌else◌}
 use Rattle.std.proofs.lemmas.Bool.{ltb-true, ltb-false}
 use Rattle.std.specs.Option.{option_map}
 use Rattle.superstep_memory.specs.Landing.{first_over}
-use Rattle.task_actions.specs.FaultCode.{code_of}
-use Rattle.task_actions.specs.Meaning.{Task, After, Synced, Stopped, Faulted, Segment, segment_of}
+use Rattle.task_lang.proofs.AllSegments.{faults-have-codes}
+use Rattle.task_actions.specs.Meaning.{Task, After, Segment, segment_of}
+use Rattle.programs.specs.Meaning.{Synced, Stopped, Faulted}
 use Rattle.step_core.specs.Program.{Program}
-use Rattle.step_core.specs.Superstep.{State, segments, first_fault, too_many, overflow, fault_eight, or_next, or_later, closed, next_live, log_of}
+use Rattle.step_core.specs.Superstep.{State, segments, too_many, closed, next_live}
+use Rattle.programs.specs.Superstep.{first_fault, overflow, fault_eight, or_next, or_later, log_of}
 use Rattle.job_laws.specs.Reports.{HasNoFault, NoneFaults, IsFirstFault, IsTooMany, IsOverflow, FaultsTellTheFirst}
 
 none_here : (p : Program) (st : State) (t : Task) (ts : List Task) → (first_fault (segments p st.arrays st.step ts) ≡ None → NoneFaults p st ts)
@@ -17,7 +19,7 @@ none_here p st t ts more h (Synced u) e =
 none_here p st t ts more h Stopped e =
     (subst HasNoFault (sym e) tt, more (sym (ap (or_later (first_fault (segments p st.arrays st.step ts)) t.path) e) ∙ h))
 none_here p st t ts more h (Faulted f) e =
-    let bad : Some (code_of f, t.path) ≡ None = sym (ap (or_later (first_fault (segments p st.arrays st.step ts)) t.path) e) ∙ h in absurd cc
+    let bad : Some (f, t.path) ≡ None = sym (ap (or_later (first_fault (segments p st.arrays st.step ts)) t.path) e) ∙ h in absurd cc
 
 -- none of the tasks faults if no fault is found
 pub none_faults : (p : Program) (st : State) (ts : List Task) → first_fault (segments p st.arrays st.step ts) ≡ None → NoneFaults p st ts
@@ -47,17 +49,18 @@ first_here p st t ts told more h (Synced u) e =
 first_here p st t ts told more h Stopped e =
     behind p st t ts told (subst HasNoFault (sym e) tt) (more (sym (ap (or_later (first_fault (segments p st.arrays st.step ts)) t.path) e) ∙ h))
 first_here p st t ts told more h (Faulted f) e =
-    let same : Some (code_of f, t.path) ≡ Some told = sym (ap (or_later (first_fault (segments p st.arrays st.step ts)) t.path) e) ∙ h in
-    let pair : (code_of f, t.path) ≡ told = cc in
+    let same : Some (f, t.path) ≡ Some told = sym (ap (or_later (first_fault (segments p st.arrays st.step ts)) t.path) e) ∙ h in
+    let pair : (f, t.path) ≡ told = cc in
+    let of = faults-have-codes p.plans t st.arrays st.step f e in
     record {
       front = [];
       here = t;
       back = ts;
-      fault = f;
+      fault = of.0;
       whole = refl;
       before = tt;
-      faults = e;
-      code = ap (λ (x : ℕ × List ℕ). x.0) (sym pair);
+      faults = e ∙ ap (λ (code : ℕ). Faulted code) of.1;
+      code = ap (λ (x : ℕ × List ℕ). x.0) (sym pair) ∙ of.1;
       path = ap (λ (x : ℕ × List ℕ). x.1) (sym pair);
     }
 

@@ -12,21 +12,24 @@ use Rattle.phase_records.specs.ReportText.{steps_text, array_line, status_line}
 use Rattle.phase_records.specs.Status.{Status}
 use Rattle.phase_records.specs.ReportLaws.{AreFrom, AreWithin, of_step, each_step}
 use Rattle.phase_records.proofs.ReportLawProofs.{each-step-has-its-prints}
-use Rattle.task_actions.specs.Meaning.{Task, After, Synced, Stopped, Faulted, Segment}
+use Rattle.task_actions.specs.Meaning.{Task, After, Segment}
+use Rattle.programs.specs.Meaning.{Synced, Stopped, Faulted}
 use Rattle.step_core.specs.Program.{Program}
-use Rattle.step_core.specs.Superstep.{State, superstep, segments, fault_in, closed, ended_by, gone_on, next_live, prints_of, print_of, record_of, spawned, stopped, left}
-use Rattle.step_core.specs.JobMeaning.{initial, so_far, status, told}
+use Rattle.step_core.specs.Superstep.{State, superstep, segments, fault_in, closed, next_live, job_says}
+use Rattle.programs.specs.Superstep.{ended_by, gone_on, prints_of, print_of, record_of, spawned, stopped, left}
+use Rattle.step_core.specs.JobMeaning.{initial, so_far, starts}
+use Rattle.programs.specs.Supersteps.{status, told}
 use Rattle.step_core.specs.Laws.{deed}
-use Rattle.step_parts.proofs.Runs.{goes, stays, going_on}
+use Rattle.programs.proofs.Runs.{goes, stays, going_on}
 use Rattle.job_laws.specs.Reports.{IsBySuperstep, ReportsAreBySuperstep, TextsHaveEveryPrint, PrintsAreOfTheirSuperstep, has_stopped, Tells, TellFrom, RecordsTellSupersteps}
 
 one_along : (p : Program) (limit : ℕ) (P : State → Type 0) (n : ℕ) → P (so_far p limit n)
     → (status limit (so_far p limit n) ≡ None → P (so_far p limit n) → P (superstep p (so_far p limit n)))
     → (o : Option Status) → status limit (so_far p limit n) ≡ o → P (so_far p limit (suc n))
 one_along p limit P n before next None e =
-    subst P (sym (goes (status limit (so_far p limit n)) (so_far p limit n) (superstep p (so_far p limit n)) e)) (next e before)
+    subst P (sym (goes (job_says p.plans) p.arrays (starts p) (status limit (so_far p limit n)) (so_far p limit n) (superstep p (so_far p limit n)) e)) (next e before)
 one_along p limit P n before next (Some s) e =
-    subst P (sym (stays (status limit (so_far p limit n)) s (so_far p limit n) (superstep p (so_far p limit n)) e)) before
+    subst P (sym (stays (job_says p.plans) p.arrays (starts p) (status limit (so_far p limit n)) s (so_far p limit n) (superstep p (so_far p limit n)) e)) before
 
 -- what holds of each state of a job, if a superstep of one that goes on keeps it
 along : (p : Program) (limit : ℕ) (P : State → Type 0) → P (initial p)
@@ -174,7 +177,7 @@ prints_more p limit n going h =
     ss = segments p st.arrays st.step st.live
 
     at_n : st.step ≡ n
-    at_n = (going_on p limit n going).step
+    at_n = (going_on (job_says p.plans) p.arrays (starts p) limit n going).step
 
     own : (k : ℕ) → k ≡ st.step → of_step k (prints_of st.step ss) ≡ prints_of k (segments p (so_far p limit k).arrays k (so_far p limit k).live)
     own k e =
@@ -249,7 +252,7 @@ records_more p limit n going h =
     ss = segments p st.arrays st.step st.live
 
     at_n : 0 + length st.records ≡ n
-    at_n = let taken = (by_superstep p limit n).taken in let step = (going_on p limit n going).step in omega arith
+    at_n = let taken = (by_superstep p limit n).taken in let step = (going_on (job_says p.plans) p.arrays (starts p) limit n going).step in omega arith
 
     own : Tells p (so_far p limit (0 + length st.records)) (record_of st.step ss)
     own = subst (λ (x : ℕ). Tells p (so_far p limit x) (record_of st.step ss)) (sym at_n) (tells p st)

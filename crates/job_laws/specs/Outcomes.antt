@@ -10,7 +10,8 @@ use Rattle.task_code.specs.Tree.{Done, Do}
 use Rattle.task_actions.specs.Meaning.{Task, Segment, segment_of, started}
 use Rattle.task_lang.specs.Laws.{children}
 use Rattle.step_core.specs.Program.{Program, program_of}
-use Rattle.step_core.specs.Superstep.{segments, first_fault, next_live, log_of}
+use Rattle.step_core.specs.Superstep.{segments, next_live}
+use Rattle.programs.specs.Superstep.{first_fault, log_of}
 use Rattle.step_core.specs.JobMeaning.{initial, state_at}
 use Rattle.step_core.specs.OrderValue.{DeliveryValue, IsDelivery, delivered_segment, spawned_paths}
 use Rattle.step_core.specs.Taking.{outcome_of}

@@ -8,9 +8,11 @@ use Rattle.phase_records.specs.ReportText.{report_text, array_line, status_line}
 use Rattle.phase_records.specs.ReportLaws.{AreFrom, AreWithin, of_step, each_step}
 use Rattle.task_actions.specs.FaultCode.{code_of}
 use Rattle.task_actions.specs.declared.fault.Fault.{Fault}
-use Rattle.task_actions.specs.Meaning.{Task, After, Synced, Stopped, Faulted}
+use Rattle.task_actions.specs.Meaning.{Task, After}
+use Rattle.programs.specs.Meaning.{Synced, Stopped, Faulted}
 use Rattle.step_core.specs.Program.{Program}
-use Rattle.step_core.specs.Superstep.{State, superstep, segments, prints_of, next_live, log_of}
+use Rattle.step_core.specs.Superstep.{State, superstep, segments, next_live}
+use Rattle.programs.specs.Superstep.{prints_of, log_of}
 use Rattle.step_core.specs.JobMeaning.{so_far, report_of}
 use Rattle.step_core.specs.Laws.{deed}
 
@@ -74,7 +76,7 @@ pub record IsFirstFault (p : Program) (st : State) (tasks : List Task) (told : �
   pub fault : Fault
   pub whole : tasks ≡ front ++ here ∷ back
   pub before : NoneFaults p st front
-  pub faults : (deed p st here).after ≡ Faulted fault
+  pub faults : (deed p st here).after ≡ Faulted (code_of fault)
   pub code : told.0 ≡ code_of fault
   pub path : told.1 ≡ here.path
 

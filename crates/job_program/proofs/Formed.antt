@@ -14,9 +14,10 @@ use Rattle.step_parts.specs.SlotParts.{path_in}
 use Rattle.programs.specs.declared.work.Work.{Work}
 use Rattle.programs.specs.declared.work.Ending.{Ending}
 use Rattle.programs.specs.declared.work.Ending.TheVariants as ending
-use Rattle.programs.specs.Meaning.{Synced, children, IsFormed}
+use Rattle.programs.specs.Meaning.{children, IsFormed, NumbersItsSpawns, StaysTheSameTask}
+use Rattle.step_parts.specs.Superstep.{job_frame, job_says}
 use Rattle.programs.specs.Lent.{IsLeft, HasLeft}
-use Rattle.job_program.specs.JobTasks.{as_after, as_segment, job_frame, job_does, JobMay}
+use Rattle.job_program.specs.JobTasks.{JobMay}
 
 children_cons : (path : List ℕ) (b n : ℕ) → task.children path b (suc n) ≡ (path ++ b ∷ []) ∷ task.children path (suc b) n
 children_cons path b zero = let e : b + zero ≡ b = omega arith in ap (λ k. (path ++ k ∷ []) ∷ []) e
@@ -29,18 +30,19 @@ children_same : (path : List ℕ) (b n : ℕ) → task.children path b n ≡ chi
 children_same path b zero = refl
 children_same path b (suc n) = children_cons path b n ∙ ap (λ (ps : List (List ℕ)). (path ++ b ∷ []) ∷ ps) (children_same path (suc b) n)
 
-pub job_formed : (plans : List job.Plan) (t : job.Task) (arrays : List (List ℕ × List ℤ)) (step : ℕ) → IsFormed job_frame t (job_does plans t arrays step)
+pub job_formed : (plans : List job.Plan) (t : job.Task) (arrays : List (List ℕ × List ℤ)) (step : ℕ) → IsFormed job_frame t (job.segment_of plans t arrays step)
 job_formed plans t arrays step =
     let h = numbers-its-spawns plans t arrays step in
     record {
       numbered = h.1 ∙ children_same t.path t.begun (length (job.segment_of plans t arrays step).spawns);
-      same = λ u e. let k = stays-the-same-task plans t u arrays step (by u (job.segment_of plans t arrays step).after e) in (k.0, k.2);
+      same = λ u e. let k = stays-the-same-task plans t u arrays step e in (k.0, k.2);
     }
-  where
-    by : (u : job.Task) (a : job.After) → as_after a ≡ Synced u → a ≡ job.Synced u
-    by u (job.Synced v) k = let same : v ≡ u = cc in ap job.Synced same
-    by u job.Stopped k = cc
-    by u (job.Faulted f) k = cc
+
+pub numbers : (plans : List job.Plan) → NumbersItsSpawns (job_says plans)
+numbers plans t arrays step = (job_formed plans t arrays step).numbered
+
+pub stays : (plans : List job.Plan) → StaysTheSameTask (job_says plans)
+stays plans t u arrays step e = (job_formed plans t arrays step).same u e
 
 abbrev pub as_ending : code.Ending → Ending
 as_ending (ends.Synced place) = ending.Stays
@@ -48,17 +50,17 @@ as_ending ends.Stopped = ending.Stops
 as_ending (ends.Fault f) = ending.Fails (code_of f)
 
 left_as : (ps : List job.Plan) (e : code.Ending) (t u : TaskValue) (a b : Work TaskValue) (g : job.Segment)
-    → lent.IsLeft ps e t u a b g → IsLeft (task_of ps) path_in (as_ending e) t u a b (as_segment g)
-left_as ps (ends.Fault f) t u a b g h = (ap (λ (x : job.Segment). as_after x.after) h.0, ap path_in h.1)
-left_as ps ends.Stopped t u a b g h = (record { puts = h.0.puts; prints = h.0.prints; spawns = h.0.spawns }, ap as_after h.1, ap path_in h.2)
-left_as ps (ends.Synced place) t u a b g h = (record { puts = h.0.puts; prints = h.0.prints; spawns = h.0.spawns }, ap as_after h.1, ap path_in h.2)
+    → lent.IsLeft ps e t u a b g → IsLeft (task_of ps) path_in (as_ending e) t u a b g
+left_as ps (ends.Fault f) t u a b g h = (ap (λ (x : job.Segment). x.after) h.0, ap path_in h.1)
+left_as ps ends.Stopped t u a b g h = (record { puts = h.0.puts; prints = h.0.prints; spawns = h.0.spawns }, h.1, ap path_in h.2)
+left_as ps (ends.Synced place) t u a b g h = (record { puts = h.0.puts; prints = h.0.prints; spawns = h.0.spawns }, h.1, ap path_in h.2)
 
 -- a segment that ended so left what a task of the program may leave
 pub job_left : (ps : List job.Plan) (arrays : List (List ℕ × List ℤ)) (step : ℕ) (d e : code.Ending) (t u : TaskValue) (a b : Work TaskValue)
     → d ≡ e → lent.IsLeft ps d t u a b (job.segment_of ps (task_of ps t) arrays step)
     → HasLeft job_frame (JobMay ps) (task_of ps) path_in arrays step (as_ending e) t u a b
 job_left ps arrays step d e t u a b is h = record {
-  left = job_does ps (task_of ps t) arrays step;
+  left = job.segment_of ps (task_of ps t) arrays step;
   allowed = refl;
   formed = job_formed ps (task_of ps t) arrays step;
   is =

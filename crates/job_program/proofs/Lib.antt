@@ -1,2 +1,3 @@
 pub mod Formed
-pub mod Same
+pub mod Starts
+pub mod Stepped

@@ -1,1 +1,2 @@
 pub mod JobTasks
+pub mod JobRun

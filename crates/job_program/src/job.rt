@@ -5,7 +5,8 @@ ghost use Rattle.step_parts.specs.SlotParts.{path_in};
 ghost use Rattle.task_actions.specs.Meaning as job;
 ghost use Rattle.task_actions.specs.Views.{plans, task_of};
 ghost use Rattle.step_parts.specs.JobMeaning.{start_tasks};
-ghost use Rattle.job_program.specs.JobTasks.{job_frame, JobMay};
+ghost use Rattle.step_parts.specs.Superstep.{job_frame};
+ghost use Rattle.job_program.specs.JobTasks.{JobMay};
 
 use phase_records::Print;
 use programs::blame::Blame;

@@ -1,3 +1,3 @@
 pub mod Drawing
+pub mod Laws
 pub mod Rows
-pub mod Steps

@@ -3,11 +3,12 @@
 //!
 //! # Where things are
 //!
-//! * `rows.rt`: the cells of an array at some supersteps; `drawing.rt`: the picture.
+//! * `rows.rt`: the cells of an array at some supersteps; `drawing.rt`: the picture; `laws.rt`: a law of rows.
 //! * `specs/` has a file for each.
 #![tactic(auto)]
 
 mod drawing;
+pub mod laws;
 mod rows;
 
 pub use drawing::draw_job;

@@ -12,7 +12,7 @@ use Rattle.tier_core.specs.declared.call.Call.TheVariants as call
 use Rattle.tier_core.specs.Run.{after, answer_to}
 use Rattle.tier_core.proofs.Turns.{not_both}
 use Rattle.step_core.specs.Superstep.{superstep}
-use Rattle.step_core.specs.JobMeaning.{status, unless_ended, told, report_in}
+use Rattle.programs.specs.Supersteps.{status, unless_ended, told, report_in}
 use Rattle.job_participants.specs.declared.stage.Mode.{Mode}
 use Rattle.job_participants.specs.declared.stage.Mode.TheVariants as mode
 use Rattle.job_participants.specs.declared.stage.Move.{Move}

@@ -11,7 +11,7 @@ use Rattle.task_actions.specs.Meaning.{Task, Segment, segment_of}
 use Rattle.phase_records.specs.Status.{Status}
 use Rattle.step_core.specs.Program.{Program, program_of}
 use Rattle.step_core.specs.Superstep.{State, segments}
-use Rattle.step_core.specs.JobMeaning.{unless_ended}
+use Rattle.programs.specs.Supersteps.{unless_ended}
 use Rattle.step_core.specs.RoundValue.{RoundValue, IsRound, state_of, status_in}
 use Rattle.step_core.specs.OrderValue.{DeliveryValue, IsDelivery, delivered_segment, deed_of, deed_at}
 use Rattle.step_core.proofs.Rounds.{running, tasks_stay}

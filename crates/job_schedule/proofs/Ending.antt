@@ -19,7 +19,8 @@ use Rattle.tier_core.proofs.Turns.{not_both}
 use Rattle.task_actions.specs.Meaning.{Task}
 use Rattle.step_core.specs.Program.{Program}
 use Rattle.step_core.specs.Superstep.{State, superstep, live_paths}
-use Rattle.step_core.specs.JobMeaning.{initial, status, status_of, unless_ended, told, report_in}
+use Rattle.step_core.specs.JobMeaning.{initial}
+use Rattle.programs.specs.Supersteps.{status, status_of, unless_ended, told, report_in}
 use Rattle.step_core.specs.OrderValue.{has_synced, spawned_paths}
 use Rattle.job_participants.specs.declared.stage.Mode.{Mode}
 use Rattle.job_participants.specs.declared.stage.Mode.TheVariants as mode

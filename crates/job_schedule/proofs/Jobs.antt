@@ -12,9 +12,10 @@ use Rattle.tier_core.specs.declared.call.Call.TheVariants as call
 use Rattle.tier_core.specs.Run.{after, answer_to}
 use Rattle.step_core.specs.Program.{Program}
 use Rattle.step_core.specs.OrderValue.{has_synced, spawned_paths}
-use Rattle.step_core.specs.Superstep.{State, superstep, live_paths}
-use Rattle.step_core.specs.JobMeaning.{initial, so_far, status, unless_ended, told, report_in, report_of}
-use Rattle.step_parts.proofs.Runs.{ended_is_last}
+use Rattle.step_core.specs.Superstep.{State, superstep, live_paths, job_says}
+use Rattle.step_core.specs.JobMeaning.{initial, so_far, report_of, starts}
+use Rattle.programs.specs.Supersteps.{status, unless_ended, told, report_in}
+use Rattle.programs.proofs.Runs.{ended_is_last}
 use Rattle.job_participants.specs.declared.stage.Move.{Move}
 use Rattle.job_participants.specs.declared.stage.Move.TheVariants.{Takes, Delivers, Calls, Advances, Closes, Ends}
 use Rattle.job_schedule.specs.declared.step.JobStep.{JobStep}
@@ -178,7 +179,7 @@ reports p limit n report h = by (status limit (so_far p limit n)) refl
   where
     by : (o : Option Status) → status limit (so_far p limit n) ≡ o → report_of p limit ≡ Some report
     by None e = let bad : told (so_far p limit n) None ≡ Some report = ap (told (so_far p limit n)) (sym e) ∙ h in cc
-    by (Some s) e = ap (report_in limit) (sym (ended_is_last p limit n s e)) ∙ h
+    by (Some s) e = ap (report_in limit) (sym (ended_is_last (job_says p.plans) p.arrays (starts p) limit n s e)) ∙ h
 
 finishes : (p : Program) (limit : ℕ) (w : World) (x : JobStep) (report : ReportValue) → IsOf p limit w → answer_of w x ≡ Finished report
     → report_of p limit ≡ Some report

@@ -21,7 +21,8 @@ use Rattle.tier_core.specs.declared.call.Answer.TheVariants as answer
 use Rattle.tier_core.specs.Machine.{State as Tree}
 use Rattle.step_core.specs.Program.{program_of}
 use Rattle.step_core.specs.Superstep.{State, live_paths}
-use Rattle.step_core.specs.JobMeaning.{initial, status, status_of, told, report_in}
+use Rattle.step_core.specs.JobMeaning.{initial}
+use Rattle.programs.specs.Supersteps.{status, status_of, told, report_in}
 use Rattle.step_core.specs.SlotValue.{SlotValue}
 use Rattle.step_core.specs.Slots.{slots_of, with_segment, first_missing, or_missing}
 use Rattle.step_core.specs.RoundValue.{RoundValue, AllFresh, IsRound, Opens, state_of, slots_in, status_in}

@@ -1,7 +1,7 @@
 -- Each move that a worker may take is of a participant that is there, and of a call that may be begun.
 use Rattle.std.proofs.Common.{◌≡◌, ℕ, zero, suc, ◌<◌, ◌≤◌, Bool, true, false, List, [], ◌∷◌, length, refl, sym, ap, ◌∙◌, subst, arith, Some, None, Option}
 use Rattle.std.specs.Prelude.{nat_lt, if◌then◌else◌, ◌==◌, ◌&&◌, slice_index_or, is_some}
-use Rattle.step_core.specs.JobMeaning.{status}
+use Rattle.programs.specs.Supersteps.{status}
 use Rattle.std.proofs.lemmas.Bool.{ltb-true, ltb-false}
 use Rattle.job_participants.specs.declared.stage.Mode.{Mode}
 use Rattle.job_participants.specs.declared.stage.Mode.TheVariants as mode

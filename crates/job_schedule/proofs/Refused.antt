@@ -20,7 +20,8 @@ use Rattle.tier_steps.specs.Image.{image}
 use Rattle.phase_records.specs.ReportValue.{ReportValue}
 use Rattle.step_core.specs.Program.{Program}
 use Rattle.step_core.specs.Superstep.{live_paths}
-use Rattle.step_core.specs.JobMeaning.{initial, report_in}
+use Rattle.step_core.specs.JobMeaning.{initial}
+use Rattle.programs.specs.Supersteps.{report_in}
 use Rattle.step_core.specs.OrderValue.{has_synced, spawned_paths}
 use Rattle.job_participants.specs.declared.stage.Move.{Move}
 use Rattle.job_participants.specs.declared.stage.Move.TheVariants.{Takes, Delivers, Calls, Advances, Closes, Ends}

@@ -16,7 +16,8 @@ use Rattle.tier_core.specs.Run.{after, answer_to}
 use Rattle.task_actions.specs.Meaning.{Segment}
 use Rattle.step_core.specs.Program.{Program}
 use Rattle.step_core.specs.Superstep.{State, segments, superstep, live_paths}
-use Rattle.step_core.specs.JobMeaning.{initial, status, told, report_in}
+use Rattle.step_core.specs.JobMeaning.{initial}
+use Rattle.programs.specs.Supersteps.{status, told, report_in}
 use Rattle.step_core.specs.OrderValue.{has_synced, spawned_paths}
 use Rattle.step_core.proofs.Apart.{live-paths-rise}
 use Rattle.step_core.proofs.LawProofs.{next-live-synced-or-spawned}

@@ -10,7 +10,8 @@ use Rattle.tier_core.specs.Machine.{State as Tree}
 use Rattle.step_core.specs.Program.{Program}
 use Rattle.step_core.specs.Superstep.{superstep, live_paths}
 use Rattle.step_core.specs.OrderValue.{has_synced, spawned_paths}
-use Rattle.step_core.specs.JobMeaning.{status, report_of}
+use Rattle.step_core.specs.JobMeaning.{report_of}
+use Rattle.programs.specs.Supersteps.{status}
 use Rattle.job_participants.specs.declared.stage.Mode.TheVariants as mode
 use Rattle.job_schedule.specs.declared.step.JobStep.{JobStep}
 use Rattle.job_schedule.specs.declared.step.JobStep.TheVariants.{Take, Deliver, Tree as TreeStep, Advance, Close}

@@ -4,7 +4,7 @@ use Rattle.tier_core.specs.Run.{IsCall}
 use Rattle.smallvec.specs.SmallVec.{SmallVec}
 use Rattle.step_core.specs.Program.{Program, program_of}
 use Rattle.step_core.specs.Superstep.{superstep}
-use Rattle.step_core.specs.JobMeaning.{status, unless_ended}
+use Rattle.programs.specs.Supersteps.{status, unless_ended}
 use Rattle.step_core.specs.RoundValue.{RoundValue, AllFresh, state_of, status_in}
 use Rattle.step_core.specs.OrderValue.{DeliveryValue}
 use Rattle.step_core.specs.Taking.{Takes as IsTakenBy, IsFor, is_done, is_live, with_delivery}

@@ -11,10 +11,12 @@ use Rattle.tier_core.specs.declared.call.Answer.TheVariants as answer
 use Rattle.tier_core.specs.declared.call.Step.TheVariants.{Begin, Go, Finish}
 use Rattle.tier_core.specs.Machine.{State as Tree, opened, with_token}
 use Rattle.tier_core.specs.Run.{after, answer_to, may_finish}
-use Rattle.task_actions.specs.Meaning.{Segment, Stopped}
+use Rattle.task_actions.specs.Meaning.{Segment}
+use Rattle.programs.specs.Meaning.{Stopped}
 use Rattle.step_core.specs.Program.{Program}
 use Rattle.step_core.specs.Superstep.{State, segments, superstep, live_paths}
-use Rattle.step_core.specs.JobMeaning.{initial, status, unless_ended, report_in}
+use Rattle.step_core.specs.JobMeaning.{initial}
+use Rattle.programs.specs.Supersteps.{status, unless_ended, report_in}
 use Rattle.step_core.specs.OrderValue.{has_synced, spawned_paths}
 use Rattle.job_participants.specs.declared.stage.Mode.{Mode}
 use Rattle.job_participants.specs.declared.stage.Mode.TheVariants as mode

@@ -1,3 +1,4 @@
 pub mod Texts
 pub mod Pieces
 pub mod Streams
+pub mod Stepped

@@ -9,16 +9,16 @@ use Rattle.task_actions.specs.TaskValue.{TaskValue}
 use Rattle.task_actions.specs.Views.{plans, task_of}
 use Rattle.task_actions.specs.Meaning as job
 use Rattle.step_parts.specs.Program.{Program, program_of}
-use Rattle.step_parts.specs.JobMeaning as jm
-use Rattle.programs.specs.Superstep as gn
 use Rattle.programs.specs.Supersteps as gm
 use Rattle.programs.specs.History.{Entry, says_by, IsEntered, HasRun, living_after}
 use Rattle.programs.proofs.Exactly.{so_far_same}
 use Rattle.programs.proofs.Histories.{so_far_shorter}
 use Rattle.programs.proofs.Runs.{ends_in_time}
 use Rattle.job_program.specs.declared.job.JobProgram.{JobProgram}
-use Rattle.job_program.specs.JobTasks.{job_frame, job_does, job_says, JobMay}
-use Rattle.job_program.proofs.Same.{as_state, so_far_as, starts, starts_begin, job_report}
+use Rattle.job_program.specs.JobTasks.{JobMay}
+use Rattle.step_parts.specs.Superstep.{State, job_frame, job_says}
+use Rattle.step_parts.specs.JobMeaning.{so_far, starts}
+use Rattle.job_program.proofs.Starts.{starts_begin, job_report}
 use Rattle.program_stretches.specs.Opening.{OpeningValue, live_of}
 use Rattle.program_stretches.specs.LinesValue.{LinesValue}
 use Rattle.program_stretches.specs.Reached.{IsReached, HasRunOn}
@@ -35,42 +35,41 @@ module _ (p : Program) (limit : ℕ) (history : List (List (Entry job.Task))) (l
   abbrev n : ℕ
   n = length history
 
-  abbrev by_history : ℕ → ℕ → gn.State job.Task
+  abbrev by_history : ℕ → ℕ → State
   by_history l m = gm.so_far (says_by job_frame 4096 history) p.arrays (starts p) l m
 
   shorter : (m : ℕ) → m ≤ n → by_history n m ≡ by_history limit m
   shorter m lm = so_far_shorter job_frame 4096 (says_by job_frame 4096 history) p.arrays (starts p) limit n m le lm
 
-  same_within : (s : Status) → gm.status n (by_history n n) ≡ Some s → (m : ℕ) → m ≤ n → by_history limit m ≡ as_state (jm.so_far p limit m)
+  same_within : (s : Status) → gm.status n (by_history n n) ≡ Some s → (m : ℕ) → m ≤ n → by_history limit m ≡ so_far p limit m
   same_within s e m lm =
       let st = by_history n n in
       let run : HasRun job_frame (JobMay p.plans) 4096 p.arrays (starts p) n (record { prints = st.prints; records = st.records; arrays = st.arrays; status = s }) (living_after s st.live) = record {
         history = history;
-        entered = λ k lt. subst (λ (x : gn.State job.Task). IsEntered job_frame (JobMay p.plans) x (get_or history k [])) (sym (shorter k (omega (arith, lt)))) (entered k lt);
+        entered = λ k lt. subst (λ (x : State). IsEntered job_frame (JobMay p.plans) x (get_or history k [])) (sym (shorter k (omega (arith, lt)))) (entered k lt);
         ended = e;
         report = ap (gm.told st) e;
         at_end = refl;
       } in
       sym (shorter m lm)
-      ∙ so_far_same job_frame (JobMay p.plans) 4096 (job_does p.plans) (λ t arrays step g q. q) p.arrays (starts p) n (starts_begin p)
+      ∙ so_far_same job_frame (JobMay p.plans) 4096 (job.segment_of p.plans) (λ t arrays step g q. q) p.arrays (starts p) n (starts_begin p)
       (record { prints = st.prints; records = st.records; arrays = st.arrays; status = s }) (living_after s st.live) run m lm
       ∙ so_far_shorter job_frame 4096 (job_says p.plans) p.arrays (starts p) limit n m le lm
-      ∙ sym (so_far_as p limit m)
 
-  pub same_states : (m : ℕ) → m ≤ n → by_history limit m ≡ as_state (jm.so_far p limit m)
+  pub same_states : (m : ℕ) → m ≤ n → by_history limit m ≡ so_far p limit m
   same_states m lm = by (gm.status n (by_history n n)) refl
     where
-      by : (o : Option Status) → gm.status n (by_history n n) ≡ o → by_history limit m ≡ as_state (jm.so_far p limit m)
+      by : (o : Option Status) → gm.status n (by_history n n) ≡ o → by_history limit m ≡ so_far p limit m
       by None e = absurd (ends_in_time (says_by job_frame 4096 history) p.arrays (starts p) n e)
       by (Some s) e = same_within s e m lm
 
 -- ---- what is given away
 
-abbrev Reached : JobValue → ℕ → List (List ℕ × List ℤ) → List job.Task → ℕ → ℕ → gn.State job.Task → Type 0
+abbrev Reached : JobValue → ℕ → List (List ℕ × List ℤ) → List job.Task → ℕ → ℕ → State → Type 0
 Reached j most arrays tasks limit given st = IsReached job_frame (JobMay (plans j.bodies)) most arrays tasks limit given st
 
 -- a state that was reached, and what was printed and recorded since the last was given away
-piece_at : (j : JobValue) (limit given : ℕ) (st : gn.State job.Task) (l : LinesValue) → Reached j 4096 j.arrays (starts (program_of j)) limit given st → st.fault ≡ None
+piece_at : (j : JobValue) (limit given : ℕ) (st : State) (l : LinesValue) → Reached j 4096 j.arrays (starts (program_of j)) limit given st → st.fault ≡ None
     → l.first ≡ given → l.next ≡ st.step → l.prints ≡ st.prints → l.records ≡ st.records → l.next ≤ limit → IsPiece (program_of j) limit l
 piece_at j limit given st l h calm first next prints records le =
     let p = program_of j in
@@ -79,15 +78,15 @@ piece_at j limit given st l h calm first next prints records le =
     let now = same (length h.history) (omega arith) in
     let early = same given h.within in
     let within = h.within in
-    let at : jm.so_far p limit l.next ≡ jm.so_far p limit (length h.history) = ap (jm.so_far p limit) (sym k) in
+    let at : so_far p limit l.next ≡ so_far p limit (length h.history) = ap (so_far p limit) (sym k) in
     record {
       order = omega (arith, k, within, first);
       prints =
-          ap (λ x. x.prints) at ∙ sym (ap (λ (x : gn.State job.Task). x.prints) now) ∙ sym (ap (λ (x : gn.State job.Task). x.prints) h.state)
-          ∙ (λ i. (early i).prints ++ sym prints i) ∙ ap (λ (m : ℕ). (jm.so_far p limit m).prints ++ l.prints) (sym first);
+          ap (λ x. x.prints) at ∙ sym (ap (λ (x : State). x.prints) now) ∙ sym (ap (λ (x : State). x.prints) h.state)
+          ∙ (λ i. (early i).prints ++ sym prints i) ∙ ap (λ (m : ℕ). (so_far p limit m).prints ++ l.prints) (sym first);
       records =
-          ap (λ x. x.records) at ∙ sym (ap (λ (x : gn.State job.Task). x.records) now) ∙ sym (ap (λ (x : gn.State job.Task). x.records) h.state)
-          ∙ (λ i. (early i).records ++ sym records i) ∙ ap (λ (m : ℕ). (jm.so_far p limit m).records ++ l.records) (sym first);
+          ap (λ x. x.records) at ∙ sym (ap (λ (x : State). x.records) now) ∙ sym (ap (λ (x : State). x.records) h.state)
+          ∙ (λ i. (early i).records ++ sym records i) ∙ ap (λ (m : ℕ). (so_far p limit m).records ++ l.records) (sym first);
     }
 
 -- the first opening of a log that went on
@@ -127,8 +126,7 @@ rest_of_run : (j : JobValue) (limit given : ℕ) (outcome : ReportValue) (living
     → IsRest (program_of j) limit given outcome
 rest_of_run j limit given outcome living h =
     let p = program_of j in
-    let early = so_far_same job_frame (JobMay p.plans) 4096 (job_does p.plans) (λ t arrays step g q. q) p.arrays (starts p) limit (starts_begin p) h.whole living h.run given h.within
-    ∙ sym (so_far_as p limit given) in
+    let early = so_far_same job_frame (JobMay p.plans) 4096 (job.segment_of p.plans) (λ t arrays step g q. q) p.arrays (starts p) limit (starts_begin p) h.whole living h.run given h.within in
     record {
       whole = h.whole;
       report = job_report p limit h.whole living h.run;

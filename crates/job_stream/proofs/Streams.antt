@@ -26,16 +26,6 @@ use Rattle.job_stream.proofs.Pieces.{given_piece}
 
 -- ---- one superstep
 
-pub given_after : {Q S T : Type 0} (m : Q → Reading S T) (log : List (OpeningValue Q S)) (v : StretchesValue Q S) (o : Option LinesValue) → WasBefore log v.log
-    → IfSome o (λ l. IsGiven m v l) → IfSome o (λ l. v.fault ≡ None) → IfSome o (λ l. IsGivenAfter m log l)
-given_after m log v None w h k = h
-given_after m log v (Some l) w h k = record { run = v; since = w; calm = k; given = h }
-
-pub pieces_taken : (j : JobValue) (limit : ℕ) (log : List (OpeningValue JobProgram TaskValue)) (o : Option LinesValue) → IsRunOf j limit log → IfSome o (λ l. IsGivenAfter job_reading log l)
-    → IfSome o (λ l. l.next ≤ limit → IsPiece (program_of j) limit l)
-pieces_taken j limit log None r h = h
-pieces_taken j limit log (Some l) r h = λ le. given_piece j limit log l r h le
-
 -- a log that went on is of the same run
 pub run_on : (j : JobValue) (limit : ℕ) (earlier log : List (OpeningValue JobProgram TaskValue)) → IsRunOf j limit earlier → WasBefore earlier log → IsRunOf j limit log
 run_on j limit earlier log r w = record {
@@ -65,9 +55,6 @@ pub fails_continue : (p : Program) (limit n next : ℕ) (text : List ℕ) (old n
 fails_continue p limit n next text old new Write e h = (next, (text, e, h))
 fails_continue p limit n next text old new Memory e h = h
 fails_continue p limit n next text old new Internal e h = h
-
-pub none_continues : (p : Program) (limit n : ℕ) (old : Option (List ℕ)) → Continues p limit n old old (Ok n)
-none_continues p limit n old = ([], sym (append-nil (lines_of p limit n)), Appends-none old)
 
 pub ends_after : (p : Program) (limit n : ℕ) (rest : ReportValue) (h : IsRest p limit n rest) (old new : Option (List ℕ)) (r : Result JobStatus StreamFault) → Closes rest old new r → Ends p limit n old new r
 ends_after p limit n rest h old new (Ok status) k = (h.whole, h.report, (report_text rest, rest_text p limit n rest h, k.0), k.1 ∙ sym h.status)

@@ -12,9 +12,11 @@ use Rattle.phase_records.specs.ReportText.{print_line, record_line, array_line, 
 use Rattle.phase_records.specs.ReportLaws.{AreFrom, AreWithin}
 use Rattle.task_actions.specs.Meaning.{Segment}
 use Rattle.step_parts.specs.Program.{Program}
-use Rattle.step_parts.specs.Superstep.{State, superstep, segments, fault_in, closed, prints_of, print_of, record_of}
-use Rattle.step_parts.specs.JobMeaning.{so_far, status, unless_ended, told, report_of}
-use Rattle.step_parts.proofs.Runs.{ended_stays, ends_in_time}
+use Rattle.step_parts.specs.Superstep.{State, superstep, segments, fault_in, closed, job_says}
+use Rattle.programs.specs.Superstep.{prints_of, print_of, record_of}
+use Rattle.step_parts.specs.JobMeaning.{so_far, report_of, starts}
+use Rattle.programs.specs.Supersteps.{status, unless_ended, told}
+use Rattle.programs.proofs.Runs.{ended_stays, ends_in_time}
 use Rattle.job_stream.specs.Streamed.{lines_of, IsRest}
 
 -- ---- the lines of supersteps after those of others
@@ -212,11 +214,11 @@ capped p limit n = by (nat_le n limit) refl (status limit (so_far p limit limit)
   where
     by : (b : Bool) → nat_le n limit ≡ b → (o : Option Status) → status limit (so_far p limit limit) ≡ o → (m : ℕ) × ((m ≤ limit) × (so_far p limit n ≡ so_far p limit m))
     by true e o q = let le : n ≤ limit = grind (arith, nat_tests) in (n, (le, refl))
-    by false e None q = absurd (ends_in_time p limit q)
+    by false e None q = absurd (ends_in_time (job_says p.plans) p.arrays (starts p) limit q)
     by false e (Some s) q =
         let lt : limit < n = grind (arith, nat_tests) in
         let back : (n - limit) + limit ≡ n = omega (arith, lt) in
-        (limit, (omega arith, ap (so_far p limit) (sym back) ∙ ended_stays p limit limit (n - limit) s q))
+        (limit, (omega arith, ap (so_far p limit) (sym back) ∙ ended_stays (job_says p.plans) p.arrays (starts p) limit limit (n - limit) s q))
 
 -- what comes after the lines of some supersteps in the text of what the job leaves
 pub record Rest (p : Program) (limit n : ℕ) : Type 0 where
@@ -232,7 +234,7 @@ some_rest p limit n = by (status limit (so_far p limit limit)) refl
     last = so_far p limit limit
 
     by : (o : Option Status) → status limit last ≡ o → Rest p limit n
-    by None e = absurd (ends_in_time p limit e)
+    by None e = absurd (ends_in_time (job_says p.plans) p.arrays (starts p) limit e)
     by (Some s) e =
         let c = capped p limit n in
         let h = later p limit c.0 limit c.1.0 in

@@ -8,7 +8,11 @@ use Rattle.step_parts.specs.JobMeaning.{start_tasks}
 use Rattle.step_parts.specs.SlotParts.{path_in}
 use Rattle.task_actions.specs.Meaning.{Task}
 use Rattle.job_program.specs.declared.job.JobProgram.{JobProgram}
-use Rattle.job_program.specs.JobTasks.{job_frame, JobMay}
+use Rattle.step_parts.specs.Superstep.{job_frame}
+use Rattle.job_program.specs.JobTasks.{JobMay}
+use Rattle.job_program.specs.JobRun.{JobRunValue, IsAfter}
+use Rattle.phase_records.specs.PrintValue.{PrintValue}
+use Rattle.phase_records.specs.declared.record.PhaseRecord.{PhaseRecord}
 use Rattle.program_stretches.specs.Opening.{OpeningValue, live_of}
 use Rattle.stretch_parts.specs.Parts.{Reading, reading_of}
 use Rattle.program_stretches.specs.LinesValue.{LinesValue}
@@ -37,3 +41,12 @@ module _ {Q S T : Type 0} where
 -- how the tasks of a job are read
 abbrev pub job_reading : JobProgram → Reading TaskValue Task
 job_reading = reading_of (λ q. job_frame) (λ q. JobMay (plans q.job.now.bodies)) (λ q. task_of (plans q.job.now.bodies)) path_in
+
+-- A run of this job within this limit, after `n` supersteps, or as it ended before. All that it printed and recorded was taken away.
+pub record IsWritten (j : JobValue) (limit n : ℕ) (r : JobRunValue) : Type 0 where
+  pub job : r.job ≡ j
+  pub limit_is : r.run.limit ≡ limit
+  pub prints : List PrintValue
+  pub records : List PhaseRecord
+  pub after : IsAfter n prints records r
+  pub none : (r.run.prints ≡ []) × (r.run.records ≡ [])

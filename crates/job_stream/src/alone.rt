@@ -1,18 +1,19 @@
 //! A run of a job on one thread.
-ghost use Rattle.std.specs.Prelude.{◌≡◌, ◌≤◌, IfOk, IfErr, OnOk};
+ghost use Rattle.std.specs.Prelude.{◌≡◌, ◌≤◌, ◌<◌, ◌+◌, true, is_some, IfOk, IfErr};
 ghost use Rattle.job_stream.specs.Streamed.{Streams, Continues, Ends, Closes, IsRest, IsNoWrite, StreamCause};
-ghost use Rattle.job_stream.specs.Running.{IsRunOf, job_reading};
+ghost use Rattle.job_stream.specs.Running.{IsRunOf, IsWritten, job_reading};
+ghost use Rattle.programs.specs.Supersteps.{status as status_in};
+ghost use Rattle.step_parts.specs.JobMeaning.{so_far};
 ghost use Rattle.phase_records.specs.StatusSeen.{status_seen};
 ghost use Rattle.program_stretches.specs.Closing.{HasLeft};
 ghost use Rattle.step_parts.specs.Program.{program_of};
 
 use crate::fault::StreamFault;
-use crate::step::take_step;
-use crate::text::{pass_taken, write_rest};
+use crate::text::{write_lines, write_rest};
 use devices::CountedWrite;
-use job_program::{Beginning, JobProgram, MOST_TASKS, begin};
+use job_program::{JobProgram, JobSteps};
 use phase_records::{JobStatus, Report};
-use program_stretches::{Left, Opened, Stretches};
+use program_stretches::{Left, Lines, Opened};
 use programs::alone::Ran;
 use snapshot_log::log::{Log, Snapshot};
 use std::alloc::{AllocError, Global};
@@ -31,63 +32,81 @@ pub fn stream_alone<W: CountedWrite>(
     ensures streams { Streams (program_of job.now) limit (W.contents writer.old) (W.contents writer.new) result }
     ensures failures { StreamCause (W.failures writer.old) (W.failures writer.new) result }
 {
-    let Beginning { arrays, tasks } = begin(alloc, job)?;
-    let program = JobProgram { job };
-    let Ok((log, start)) = Log::new(alloc) else {
-        return Err(StreamFault::Memory);
-    };
-    let stretches = Stretches::new(
-        alloc, &log, start, &program, arrays, tasks, MOST_TASKS, limit, 1,
-    )?;
-    stream_on(alloc, &log, stretches, job, limit, writer)
+    let run = JobSteps::new(alloc, job, limit)?;
+    stream_on(alloc, run, job, limit, writer)
 }
 
 // Takes the supersteps of a run that has begun, and writes what it leaves.
-fn stream_on<'t, 'p, 'j, W: CountedWrite>(
+fn stream_on<W: CountedWrite>(
     alloc: Global,
-    log: &'t Log<Opened<'p, JobProgram<'j>, Task>>,
-    mut stretches: Stretches<'t, 'p, JobProgram<'j>>,
+    mut run: JobSteps<'_>,
     job: &Job,
     limit: u32,
     writer: &mut W,
 ) -> Result<JobStatus, StreamFault>
-    requires log { stretches.name ≡ log.now }
-    requires run { IsRunOf job.now limit stretches.log }
+    requires run { IsWritten job.now limit 0 run }
     ensures streams { Streams (program_of job.now) limit (W.contents writer.old) (W.contents writer.new) result }
     ensures failures { StreamCause (W.failures writer.old) (W.failures writer.new) result }
 {
-    let first = stretches.snapshot();
-    let mut written = 0;
-    for _ in 0..limit {
-        if stretches.has_ended() {
-            break;
+    for written in 0..limit {
+        if run.status().is_some() {
+            return finish(alloc, run, job, limit, written, writer);
         }
-        match advance(alloc, &mut stretches, job, limit, written, writer) {
-            Ok(next) => written = next,
+        match advance(alloc, &mut run, job, limit, written, writer) {
+            Ok(_) => {}
             Err(fault) => return Err(fault),
         }
     }
-    finish(alloc, log, stretches, first, job, limit, written, writer)
+    finish(alloc, run, job, limit, limit, writer)
 }
 
 // Takes a superstep, and writes its lines after those of `written` others. Returns how many are written now.
 fn advance<W: CountedWrite>(
     alloc: Global,
-    stretches: &mut Stretches<'_, '_, JobProgram<'_>>,
+    run: &mut JobSteps<'_>,
     job: &Job,
     limit: u32,
     written: u32,
     writer: &mut W,
 ) -> Result<u32, StreamFault>
-    requires run { IsRunOf job.now limit stretches.old.log }
-    ensures run { OnOk result (IsRunOf job.now limit stretches.new.log) }
-    ensures name { OnOk result (stretches.new.name ≡ stretches.old.name) }
+    requires run { IsWritten job.now limit written run.old }
+    requires below { written < limit }
+    ensures run { IfOk result (λ next. (next ≡ written + 1) × IsWritten job.now limit next run.new) }
     ensures text { Continues (program_of job.now) limit written (W.contents writer.old) (W.contents writer.new) result }
     ensures failures { StreamCause (W.failures writer.old) (W.failures writer.new) result }
 {
-    match take_step(alloc, stretches) {
-        Ok(taken) => pass_taken(alloc, job, limit, taken, written, writer),
+    if run.step(alloc).is_err() {
+        return Err(StreamFault::Memory);
+    }
+    let lines = Lines {
+        first: written,
+        next: written + 1,
+        prints: run.take_prints(),
+        records: run.take_records(),
+    };
+    match write_lines(alloc, lines, writer) {
+        Ok(()) => Ok(written + 1),
         Err(fault) => Err(fault),
+    }
+}
+
+// Writes what a run leaves that has ended, after the lines of `written` supersteps. Returns how it ended.
+fn finish<W: CountedWrite>(
+    alloc: Global,
+    run: JobSteps<'_>,
+    job: &Job,
+    limit: u32,
+    written: u32,
+    writer: &mut W,
+) -> Result<JobStatus, StreamFault>
+    requires run { IsWritten job.now limit written run }
+    requires ended { is_some (status_in limit (so_far (program_of job.now) limit written)) ≡ true }
+    ensures text { Ends (program_of job.now) limit written (W.contents writer.old) (W.contents writer.new) result }
+    ensures failures { StreamCause (W.failures writer.old) (W.failures writer.new) result }
+{
+    match run.into_report() {
+        Some(Ran { report, tasks: _ }) => close_report(alloc, report, writer),
+        None => unreachable!(),
     }
 }
 
@@ -166,45 +185,6 @@ pub fn write_left<'t, 'p, 'j, W: CountedWrite>(
 {
     match rest_of(log, left, first, job, limit, written) {
         Ok(report) => close_report(alloc, report, writer),
-        Err(fault) => Err(fault),
-    }
-}
-
-// What a run that has ended leaves.
-fn left_of<'t, 'p, 'j>(
-    alloc: Global,
-    stretches: Stretches<'t, 'p, JobProgram<'j>>,
-) -> Result<Left<'p, JobProgram<'j>>, StreamFault>
-    ensures name { IfOk result (λ left. left.writer.name ≡ stretches.entry.name) }
-    ensures left { IfOk result (λ left. HasLeft job_reading left.writer.log left.given left.ran.report left.ran.tasks.items) }
-    ensures whole { IfErr result IsNoWrite }
-{
-    match stretches.into_left(alloc) {
-        Ok(Some(left)) => Ok(left),
-        Ok(None) => Err(StreamFault::Internal),
-        Err(AllocError) => Err(StreamFault::Memory),
-    }
-}
-
-// Writes what a run leaves, after the lines of `written` supersteps. Returns how it ended.
-fn finish<'t, 'p, 'j, W: CountedWrite>(
-    alloc: Global,
-    log: &'t Log<Opened<'p, JobProgram<'j>, Task>>,
-    stretches: Stretches<'t, 'p, JobProgram<'j>>,
-    first: Snapshot<Opened<'p, JobProgram<'j>, Task>>,
-    job: &Job,
-    limit: u32,
-    written: u32,
-    writer: &mut W,
-) -> Result<JobStatus, StreamFault>
-    requires log { stretches.name ≡ log.now }
-    requires name { first.name ≡ log.now }
-    requires run { IsRunOf job.now limit first.log }
-    ensures text { Ends (program_of job.now) limit written (W.contents writer.old) (W.contents writer.new) result }
-    ensures failures { StreamCause (W.failures writer.old) (W.failures writer.new) result }
-{
-    match left_of(alloc, stretches) {
-        Ok(left) => write_left(alloc, log, left, first, job, limit, written, writer),
         Err(fault) => Err(fault),
     }
 }

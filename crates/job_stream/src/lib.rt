@@ -5,14 +5,13 @@
 //!
 //! # Where things are
 //!
-//! * `alone.rt`: a run on one thread; `step.rt`: one superstep; `text.rt`: what is written; `fault.rt`: why a run doesn't end.
+//! * `alone.rt`: a run on one thread; `text.rt`: what is written; `fault.rt`: why a run doesn't end.
 //! * `specs/Streamed.antt`: what is written; `Running.antt`: the run of a job.
 //! * `proofs/Texts.antt`: texts superstep by superstep; `Pieces.antt`: what supersteps of a run leave.
 #![tactic(auto)]
 
 mod alone;
 mod fault;
-mod step;
 mod text;
 
 pub use alone::{stream_alone, write_left};

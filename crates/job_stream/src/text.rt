@@ -1,5 +1,5 @@
 //! The lines of supersteps, and the rest of a report.
-ghost use Rattle.std.specs.Prelude.{◌≡◌, ◌≤◌, ◌++◌, codes, IfOk, IfSome};
+ghost use Rattle.std.specs.Prelude.{◌≡◌, ◌≤◌, ◌++◌, codes, IfOk};
 ghost use Rattle.phase_records.specs.ReportText.{steps_text, report_text};
 ghost use Rattle.job_stream.specs.Streamed.{IsPiece, Continues, WritesWhole, StreamCause};
 ghost use Rattle.step_parts.specs.Program.{program_of};
@@ -47,8 +47,8 @@ fn text_of_lines(alloc: Global, lines: Lines) -> Result<Vec<u8>, AllocError>
     Ok(text)
 }
 
-// Writes the lines of supersteps.
-fn write_lines<W: CountedWrite>(
+/// Writes the lines of supersteps.
+pub(crate) fn write_lines<W: CountedWrite>(
     alloc: Global,
     lines: Lines,
     writer: &mut W,
@@ -87,25 +87,6 @@ pub fn pass_on<W: CountedWrite>(
     match write_lines(alloc, lines, writer) {
         Ok(()) => Ok(next),
         Err(fault) => Err(fault),
-    }
-}
-
-/// Does the same with the lines that a superstep gave away. There are none if a fault has ended the run in it.
-pub(crate) fn pass_taken<W: CountedWrite>(
-    alloc: Global,
-    job: &Job,
-    limit: u32,
-    taken: Option<Lines>,
-    written: u32,
-    writer: &mut W,
-) -> Result<u32, StreamFault>
-    requires piece { IfSome taken (λ lines. lines.next ≤ limit → IsPiece (program_of job.now) limit lines) }
-    ensures text { Continues (program_of job.now) limit written (W.contents writer.old) (W.contents writer.new) result }
-    ensures failures { StreamCause (W.failures writer.old) (W.failures writer.new) result }
-{
-    match taken {
-        Some(lines) => pass_on(alloc, job, limit, lines, written, writer),
-        None => Ok(written),
     }
 }
 

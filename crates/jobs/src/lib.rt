@@ -8,7 +8,8 @@
 //! * [`run_within`] runs it on 1 to 64 worker threads, which meet at a tree of phasers after each superstep. The
 //!   [`Report`] is the same whatever the number of workers and the shape of the tree. [`run_job`] is the call below it,
 //!   and takes your advance rule.
-//! * [`Round`] runs a job superstep by superstep, by deliveries in any order.
+//! * [`JobSteps`] runs it on the caller's thread superstep by superstep, and gives away what each superstep printed.
+//! * [`Round`] takes supersteps by deliveries in any order, for callers who run the tasks themselves.
 //!
 //! Four workers run four tasks, which shift the cells of an array three times round:
 //!
@@ -57,7 +58,7 @@
 //! * Hooks: [`Watch`] and [`NoWatch`] of a run on one thread; [`Gate`] and [`OpenGate`], called before and after each task's
 //!   part of a superstep; [`Starter`] and [`AllStart`], asked before each worker is started.
 //! * Reports: [`Report`], with its [`Print`]s, [`PhaseRecord`]s, arrays and [`JobStatus`]; [`write_report`], [`text_of`].
-//! * Supersteps: [`Round`], [`Order`], [`Delivery`], [`AcceptFault`], [`CloseFault`], [`Outcome`].
+//! * Supersteps: [`JobSteps`]; [`Round`], [`Order`], [`Delivery`], [`AcceptFault`], [`CloseFault`], [`Outcome`].
 //! * What the calls take: [`Job`], [`Shape`], [`EndPlan`], [`StoredAdvance`].
 #![tactic(auto)]
 
@@ -65,7 +66,7 @@ pub use advance_rule::{EndPlan, StoredAdvance};
 pub use job_reader::{Code, ReadJobFault, Refusal, canonical, read_job, upgrade, write_job};
 pub use phase_records::{JobStatus, PhaseRecord, Print, Report, WriteFault, text_of, write_report};
 pub use step_core::{
-    AcceptFault, CloseFault, Delivery, NoWatch, Order, Outcome, Round, Watch, run_alone,
+    AcceptFault, CloseFault, Delivery, JobSteps, NoWatch, Order, Outcome, Round, Watch, run_alone,
     run_watched,
 };
 pub use task_code::job::Job;

@@ -17,4 +17,4 @@ pub use devices::{
 };
 pub use laws::each_step_has_its_prints;
 pub use record::{JobStatus, PhaseRecord, Print, Report};
-pub use report::{WriteFault, text_of, write_report};
+pub use report::{WriteFault, text_of, text_of_parts, write_report};

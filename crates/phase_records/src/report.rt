@@ -184,6 +184,21 @@ fn push_status<S: Sink>(out: &mut S, status: &JobStatus)
     out.put(b"\n")
 }
 
+// Appends the text of a report of these parts.
+fn push_parts<S: Sink>(
+    out: &mut S,
+    prints: &[Print],
+    records: &[PhaseRecord],
+    arrays: &Arrays,
+    status: &JobStatus,
+)
+    ensures { Took (S.seen out.old) (S.seen out.new) (report_text record { prints = prints.now; records = records.now; arrays = arrays.now; status = status_seen status.now }) }
+{
+    push_steps(out, prints, records);
+    push_arrays(out, arrays);
+    push_status(out, status)
+}
+
 // Appends the text of a report.
 fn push_report<S: Sink>(out: &mut S, report: &Report)
     ensures { Took (S.seen out.old) (S.seen out.new) (report_text report.now) }
@@ -191,6 +206,27 @@ fn push_report<S: Sink>(out: &mut S, report: &Report)
     push_steps(out, &report.prints, &report.records);
     push_arrays(out, &report.arrays);
     push_status(out, &report.status)
+}
+
+/// The text of a report of these parts, as [`text_of`] gives it.
+pub fn text_of_parts(
+    alloc: Global,
+    prints: &[Print],
+    records: &[PhaseRecord],
+    arrays: &Arrays,
+    status: &JobStatus,
+) -> Result<Vec<u8>, AllocError>
+    ensures { IfOk result (λ text. text.items ≡ report_text record { prints = prints.now; records = records.now; arrays = arrays.now; status = status_seen status.now }) }
+{
+    let mut out = Whole {
+        text: Vec::new(alloc),
+        failed: false,
+    };
+    push_parts(&mut out, prints, records, arrays, status);
+    if out.failed {
+        return Err(AllocError);
+    }
+    Ok(out.text)
 }
 
 /// The text of a report: for each superstep its prints and its record, then the arrays in declared order, then how the

@@ -34,12 +34,12 @@ use Rattle.program_stretches.specs.declared.fault.Outcome.TheVariants.{Landed, F
 use Rattle.program_stretches.specs.Did.{DidAll, IsStep, IsStepTo, outcome_by, outcome_of}
 
 -- what was printed and recorded before changes nothing of a superstep
-closed_later : {T : Type 0} (s : Says T) (early st : State T) (ss : List (List ℕ × Segment T)) (o : Option (ℕ × List ℕ)) → closed s (with_earlier early st) ss o ≡ with_earlier early (closed s st ss o)
+closed_later : {T : Type 0} (s : Says T) (early st : State T) (ss : List (List ℕ × Segment T)) (o : Option (ℕ × List ℕ)) → closed s.path (with_earlier early st) ss o ≡ with_earlier early (closed s.path st ss o)
 closed_later s early st ss (Some f) = refl
 closed_later s early st ss None = λ i. record {
   step = st.step + 1;
   arrays = landed (joined (map log_of ss)) st.arrays;
-  live = next_live s ss;
+  live = next_live s.path ss;
   prints = append_assoc early.prints st.prints (prints_of st.step ss) i;
   records = append_assoc early.records st.records (record_of st.step ss ∷ []) i;
   fault = None;
@@ -47,16 +47,16 @@ closed_later s early st ss None = λ i. record {
 
 pub superstep_later : {T : Type 0} (s : Says T) (early st : State T) → superstep s (with_earlier early st) ≡ with_earlier early (superstep s st)
 superstep_later s early st =
-    closed_later s early st (segments s st.arrays st.step st.live) (fault_in s st.arrays (segments s st.arrays st.step st.live))
+    closed_later s early st (segments s st.arrays st.step st.live) (fault_in s.path s.most st.arrays (segments s st.arrays st.step st.live))
 
 -- a superstep without a fault goes on to the next step
 pub moved : {T : Type 0} (s : Says T) (st next : State T) → superstep s st ≡ next → next.fault ≡ None → next.step ≡ st.step + 1
-moved {T} s st next e none = ap (λ (x : State T). x.step) (sym e) ∙ by (fault_in s st.arrays ss) (ap (λ (x : State T). x.fault) e ∙ none)
+moved {T} s st next e none = ap (λ (x : State T). x.step) (sym e) ∙ by (fault_in s.path s.most st.arrays ss) (ap (λ (x : State T). x.fault) e ∙ none)
   where
     ss : List (List ℕ × Segment T)
     ss = segments s st.arrays st.step st.live
 
-    by : (o : Option (ℕ × List ℕ)) → (closed s st ss o).fault ≡ None → (closed s st ss o).step ≡ st.step + 1
+    by : (o : Option (ℕ × List ℕ)) → (closed s.path st ss o).fault ≡ None → (closed s.path st ss o).step ≡ st.step + 1
     by (Some f) h = cc
     by None h = refl
 
@@ -176,7 +176,7 @@ module _ {S T : Type 0} (r : Reading S T) (law : (t : S) → r.frame.path (r.mea
       ss = segments (says_in r.frame most d.entries) st.arrays st.step st.live
 
       abbrev many_there : Option (ℕ × List ℕ)
-      many_there = too_many most (next_live (says_in r.frame most d.entries) ss)
+      many_there = too_many most (next_live r.frame.path ss)
 
       next : (new : State T) → superstep (says_in r.frame most d.entries) st ≡ new → (out : Outcome) → out ≡ outcome_of (says_in r.frame most d.entries) st → Next new out
       next new e out ends = record { step = record { entries = d.entries; entered = entered; is = e }; ends = ends }

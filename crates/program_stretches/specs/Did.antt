@@ -43,7 +43,7 @@ outcome_by None None None = Landed
 abbrev pub outcome_of : {T : Type 0} → Says T → State T → Outcome
 outcome_of s st =
     let ss = segments s st.arrays st.step st.live in
-    outcome_by (first_fault ss) (too_many s.most (next_live s ss)) (overflow st.arrays ss)
+    outcome_by (first_fault ss) (too_many s.most (next_live s.path ss)) (overflow st.arrays ss)
 
 -- the same, and the superstep ends so
 pub record IsStepTo {T : Type 0} (f : Frame T) (may : T → List (List ℕ × List ℤ) → ℕ → Segment T → Type 0) (most : ℕ) (st next : State T) (outcome : Outcome) : Type 0 where

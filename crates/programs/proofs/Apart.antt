@@ -11,6 +11,7 @@ use Rattle.superstep_memory.specs.PathOrder.{put_in, in_path_order}
 use Rattle.programs.specs.Meaning.{After, Synced, Stopped, Faulted, Segment, Says, children, NumbersItsSpawns, StaysTheSameTask}
 use Rattle.programs.specs.Superstep.{State, superstep, closed, segments, fault_in, next_live, living_on, synced, live_paths}
 use Rattle.programs.specs.Supersteps.{so_far, status, unless_ended}
+use Rattle.programs.specs.Order as order
 
 -- ---- lists that end alike
 
@@ -65,25 +66,23 @@ length_append (x ∷ xs) ys = let m = length_append xs ys in omega (arith, m)
 never_longer : (p : List ℕ) (k : ℕ) (r : List ℕ) → p ≡ p ++ k ∷ r → ⊥
 never_longer p k r h = let l : length p ≡ length (p ++ k ∷ r) = ap length h in let m = length_append p (k ∷ r) in absurd (omega (arith, l, m))
 
-module _ {T : Type 0} (w : Says T) (few : NumbersItsSpawns w) (same : StaysTheSameTask w) where
+module _ {T : Type 0} (w : Says T) where
   -- ---- tasks apart
 
-  -- paths that differ, now and with all that may be spawned
-  record Apart (t u : T) : Type 0 where
-    pub paths : (w.path t) ≡ (w.path u) → ⊥
-    pub right : (k : ℕ) (r : List ℕ) → (w.begun t) ≤ k → (w.path u) ≡ (w.path t) ++ k ∷ r → ⊥
-    pub left : (k : ℕ) (r : List ℕ) → (w.begun u) ≤ k → (w.path t) ≡ (w.path u) ++ k ∷ r → ⊥
+  abbrev Apart : T → T → Type 0
+  Apart t u = order.Apart w.path w.begun t u
 
   flip : (t u : T) → Apart t u → Apart u t
   flip t u h = record { paths = λ e. h.paths (sym e); right = h.left; left = h.right }
 
   abbrev AllApart : T → List T → Type 0
-  AllApart t [] = Unit {0}
-  AllApart t (u ∷ us) = Apart t u × AllApart t us
+  AllApart t us = order.AllApart w.path w.begun t us
 
   abbrev PairsApart : List T → Type 0
-  PairsApart [] = Unit {0}
-  PairsApart (t ∷ ts) = AllApart t ts × PairsApart ts
+  PairsApart ts = order.PairsApart w.path w.begun ts
+
+  abbrev InOrder : List T → Type 0
+  InOrder ts = order.InOrder w.path w.begun ts
 
   abbrev path_in : T → List ℕ
   path_in t = w.path t
@@ -254,81 +253,7 @@ module _ {T : Type 0} (w : Says T) (few : NumbersItsSpawns w) (same : StaysTheSa
     pub pairs : PairsApart xs
     pub all : AllDescend t xs
 
-  family : (t : T) (a : List (List ℕ × List ℤ)) (n : ℕ) → Family t (synced (w.segment t a n).after ++ (w.segment t a n).spawns)
-  family t a n = by (w.segment t a n).after (λ u e. same t u a n e)
-    where
-      g : Segment T
-      g = w.segment t a n
-
-      run : IsRun (w.path t) (w.begun t) (w.segment t a n).spawns
-      run = is_run (w.path t) (w.begun t) (w.segment t a n).spawns (few t a n)
-
-      alone : Family t (w.segment t a n).spawns
-      alone = record { pairs = run_apart (w.path t) (w.begun t) (w.segment t a n).spawns run; all = run_descends t (w.begun t) (w.segment t a n).spawns (omega arith) run }
-
-      by : (after : After T) → ((u : T) → after ≡ Synced u → ((w.path u) ≡ (w.path t)) × ((w.begun u) ≡ (w.begun t) + length (w.segment t a n).spawns))
-          → Family t (synced after ++ (w.segment t a n).spawns)
-      by Stopped s = alone
-      by (Faulted f) s = alone
-      by (Synced u) s =
-          let k = s u refl in
-          let begun = k.1 in
-          record {
-            pairs = (run_behind (w.path t) u (w.begun t) (w.segment t a n).spawns k.0 (omega (arith, begun)) run, alone.pairs);
-            all = (Same k.0 (omega (arith, begun)), alone.all);
-          }
-
-  -- ---- what all tasks leave
-
-  all_append : (x : T) (ys zs : List T) → AllApart x ys → AllApart x zs → AllApart x (ys ++ zs)
-  all_append x [] zs a b = b
-  all_append x (y ∷ ys) zs a b = (a.0, all_append x ys zs a.1 b)
-
-  abbrev AllCross : List T → List T → Type 0
-  AllCross [] zs = Unit {0}
-  AllCross (x ∷ xs) zs = AllApart x zs × AllCross xs zs
-
-  pairs_append : (xs zs : List T) → PairsApart xs → PairsApart zs → AllCross xs zs → PairsApart (xs ++ zs)
-  pairs_append [] zs a b c = b
-  pairs_append (x ∷ xs) zs a b c = (all_append x xs zs a.0 c.0, pairs_append xs zs a.1 b c.1)
-
-  -- one task is apart from what another leaves
-  far_one : (t u x : T) (ys : List T) → Apart t u → Descends t x → AllDescend u ys → AllApart x ys
-  far_one t u x [] h d a = tt
-  far_one t u x (y ∷ ys) h d a = (cross t u x y h d a.0, far_one t u x ys h d a.1)
-
-  far : (a : List (List ℕ × List ℤ)) (n : ℕ) (t x : T) (ts : List T) → Descends t x → AllApart t ts → AllApart x (living_on (segments w a n ts))
-  far a n t x [] d h = tt
-  far a n t x (u ∷ us) d h =
-      all_append x (synced (w.segment u a n).after ++ (w.segment u a n).spawns) (living_on (segments w a n us))
-      (far_one t u x (synced (w.segment u a n).after ++ (w.segment u a n).spawns) h.0 d (family u a n).all)
-      (far a n t x us d h.1)
-
-  far_all : (a : List (List ℕ × List ℤ)) (n : ℕ) (t : T) (xs ts : List T) → AllDescend t xs → AllApart t ts → AllCross xs (living_on (segments w a n ts))
-  far_all a n t [] ts d h = tt
-  far_all a n t (x ∷ xs) ts d h = (far a n t x ts d.0 h, far_all a n t xs ts d.1 h)
-
-  living_apart : (a : List (List ℕ × List ℤ)) (n : ℕ) (ts : List T) → PairsApart ts → PairsApart (living_on (segments w a n ts))
-  living_apart a n [] h = tt
-  living_apart a n (t ∷ ts) h =
-      pairs_append (synced (w.segment t a n).after ++ (w.segment t a n).spawns) (living_on (segments w a n ts))
-      (family t a n).pairs (living_apart a n ts h.1)
-      (far_all a n t (synced (w.segment t a n).after ++ (w.segment t a n).spawns) ts (family t a n).all h.0)
-
-  -- ---- all states
-
-  record InOrder (ts : List T) : Type 0 where
-    pub pairs : PairsApart ts
-    pub rising : is_rising (map path_in ts) ≡ true
-
-  next_in_order : (a : List (List ℕ × List ℤ)) (n : ℕ) (ts : List T) → PairsApart ts → InOrder (next_live w (segments w a n ts))
-  next_in_order a n ts h =
-      let l = living_apart a n ts h in
-      record { pairs = pairs_ordered (living_on (segments w a n ts)) l; rising = rising_ordered (living_on (segments w a n ts)) l }
-
-  closed_in_order : (st : State T) (ss : List (List ℕ × Segment T)) (f : Option (ℕ × List ℕ)) → InOrder st.live → InOrder (next_live w ss) → InOrder (closed w st ss f).live
-  closed_in_order st ss (Some f) h next = h
-  closed_in_order st ss None h next = next
+  -- ---- a run begins
 
   one_lt : (m n : ℕ) → m < n → path_lt (m ∷ []) (n ∷ []) ≡ true
   one_lt m n h = let b : nat_lt m n ≡ true = grind arith in less (nat_lt m n) b
@@ -347,17 +272,94 @@ module _ {T : Type 0} (w : Says T) (few : NumbersItsSpawns w) (same : StaysTheSa
       ap (λ (p : List ℕ). is_rising (p ∷ map path_in ts)) r.0
       ∙ rising_more (n ∷ []) (map path_in ts) (start_later n (suc n) ts (omega arith) r.1) (start_rising (suc n) ts r.1)
 
-  in_order : (arrays : List (List ℕ × List ℤ)) (tasks : List T) (limit k : ℕ) → IsRun [] 0 tasks → InOrder (so_far w arrays tasks limit k).live
-  in_order arrays tasks limit zero r = record { pairs = run_apart [] 0 tasks r; rising = start_rising 0 tasks r }
-  in_order arrays tasks limit (suc k) r = by (status limit (so_far w arrays tasks limit k)) (in_order arrays tasks limit k r)
-    where
-      by : (o : Option Status) → InOrder (so_far w arrays tasks limit k).live → InOrder (unless_ended o (so_far w arrays tasks limit k) (superstep w (so_far w arrays tasks limit k))).live
-      by (Some s) h = h
-      by None h =
-          closed_in_order (so_far w arrays tasks limit k) (segments w (so_far w arrays tasks limit k).arrays (so_far w arrays tasks limit k).step (so_far w arrays tasks limit k).live)
-          (fault_in w (so_far w arrays tasks limit k).arrays (segments w (so_far w arrays tasks limit k).arrays (so_far w arrays tasks limit k).step (so_far w arrays tasks limit k).live)) h
-          (next_in_order (so_far w arrays tasks limit k).arrays (so_far w arrays tasks limit k).step (so_far w arrays tasks limit k).live h.pairs)
+  -- the tasks that a run begins with
+  pub starts_in_order : (tasks : List T) → map w.path tasks ≡ children [] 0 (length tasks) → InOrder tasks
+  starts_in_order tasks r = let a = is_run [] 0 tasks r in record { pairs = run_apart [] 0 tasks a; rising = start_rising 0 tasks a }
 
-  pub live-paths-rise : (arrays : List (List ℕ × List ℤ)) (tasks : List T) (limit k : ℕ) → map w.path tasks ≡ children [] 0 (length tasks)
-      → is_rising (live_paths w (so_far w arrays tasks limit k)) ≡ true
-  live-paths-rise arrays tasks limit k r = (in_order arrays tasks limit k (is_run [] 0 tasks r)).rising
+  module _ (few : NumbersItsSpawns w) (same : StaysTheSameTask w) where
+    family : (t : T) (a : List (List ℕ × List ℤ)) (n : ℕ) → Family t (synced (w.segment t a n).after ++ (w.segment t a n).spawns)
+    family t a n = by (w.segment t a n).after (λ u e. same t u a n e)
+      where
+        g : Segment T
+        g = w.segment t a n
+
+        run : IsRun (w.path t) (w.begun t) (w.segment t a n).spawns
+        run = is_run (w.path t) (w.begun t) (w.segment t a n).spawns (few t a n)
+
+        alone : Family t (w.segment t a n).spawns
+        alone = record { pairs = run_apart (w.path t) (w.begun t) (w.segment t a n).spawns run; all = run_descends t (w.begun t) (w.segment t a n).spawns (omega arith) run }
+
+        by : (after : After T) → ((u : T) → after ≡ Synced u → ((w.path u) ≡ (w.path t)) × ((w.begun u) ≡ (w.begun t) + length (w.segment t a n).spawns))
+            → Family t (synced after ++ (w.segment t a n).spawns)
+        by Stopped s = alone
+        by (Faulted f) s = alone
+        by (Synced u) s =
+            let k = s u refl in
+            let begun = k.1 in
+            record {
+              pairs = (run_behind (w.path t) u (w.begun t) (w.segment t a n).spawns k.0 (omega (arith, begun)) run, alone.pairs);
+              all = (Same k.0 (omega (arith, begun)), alone.all);
+            }
+
+    -- ---- what all tasks leave
+
+    all_append : (x : T) (ys zs : List T) → AllApart x ys → AllApart x zs → AllApart x (ys ++ zs)
+    all_append x [] zs a b = b
+    all_append x (y ∷ ys) zs a b = (a.0, all_append x ys zs a.1 b)
+
+    abbrev AllCross : List T → List T → Type 0
+    AllCross [] zs = Unit {0}
+    AllCross (x ∷ xs) zs = AllApart x zs × AllCross xs zs
+
+    pairs_append : (xs zs : List T) → PairsApart xs → PairsApart zs → AllCross xs zs → PairsApart (xs ++ zs)
+    pairs_append [] zs a b c = b
+    pairs_append (x ∷ xs) zs a b c = (all_append x xs zs a.0 c.0, pairs_append xs zs a.1 b c.1)
+
+    -- one task is apart from what another leaves
+    far_one : (t u x : T) (ys : List T) → Apart t u → Descends t x → AllDescend u ys → AllApart x ys
+    far_one t u x [] h d a = tt
+    far_one t u x (y ∷ ys) h d a = (cross t u x y h d a.0, far_one t u x ys h d a.1)
+
+    far : (a : List (List ℕ × List ℤ)) (n : ℕ) (t x : T) (ts : List T) → Descends t x → AllApart t ts → AllApart x (living_on (segments w a n ts))
+    far a n t x [] d h = tt
+    far a n t x (u ∷ us) d h =
+        all_append x (synced (w.segment u a n).after ++ (w.segment u a n).spawns) (living_on (segments w a n us))
+        (far_one t u x (synced (w.segment u a n).after ++ (w.segment u a n).spawns) h.0 d (family u a n).all)
+        (far a n t x us d h.1)
+
+    far_all : (a : List (List ℕ × List ℤ)) (n : ℕ) (t : T) (xs ts : List T) → AllDescend t xs → AllApart t ts → AllCross xs (living_on (segments w a n ts))
+    far_all a n t [] ts d h = tt
+    far_all a n t (x ∷ xs) ts d h = (far a n t x ts d.0 h, far_all a n t xs ts d.1 h)
+
+    living_apart : (a : List (List ℕ × List ℤ)) (n : ℕ) (ts : List T) → PairsApart ts → PairsApart (living_on (segments w a n ts))
+    living_apart a n [] h = tt
+    living_apart a n (t ∷ ts) h =
+        pairs_append (synced (w.segment t a n).after ++ (w.segment t a n).spawns) (living_on (segments w a n ts))
+        (family t a n).pairs (living_apart a n ts h.1)
+        (far_all a n t (synced (w.segment t a n).after ++ (w.segment t a n).spawns) ts (family t a n).all h.0)
+
+    next_in_order : (a : List (List ℕ × List ℤ)) (n : ℕ) (ts : List T) → PairsApart ts → InOrder (next_live w.path (segments w a n ts))
+    next_in_order a n ts h =
+        let l = living_apart a n ts h in
+        record { pairs = pairs_ordered (living_on (segments w a n ts)) l; rising = rising_ordered (living_on (segments w a n ts)) l }
+
+    closed_in_order : (st : State T) (ss : List (List ℕ × Segment T)) (f : Option (ℕ × List ℕ)) → InOrder st.live → InOrder (next_live w.path ss) → InOrder (closed w.path st ss f).live
+    closed_in_order st ss (Some f) h next = h
+    closed_in_order st ss None h next = next
+
+    -- tasks in order are followed by tasks in order
+    pub stays_in_order : (st : State T) → InOrder st.live → InOrder (superstep w st).live
+    stays_in_order st h =
+        closed_in_order st (segments w st.arrays st.step st.live) (fault_in w.path w.most st.arrays (segments w st.arrays st.step st.live)) h (next_in_order st.arrays st.step st.live h.pairs)
+
+    in_order : (arrays : List (List ℕ × List ℤ)) (tasks : List T) (limit k : ℕ) → IsRun [] 0 tasks → InOrder (so_far w arrays tasks limit k).live
+    in_order arrays tasks limit zero r = record { pairs = run_apart [] 0 tasks r; rising = start_rising 0 tasks r }
+    in_order arrays tasks limit (suc k) r = by (status limit (so_far w arrays tasks limit k)) (in_order arrays tasks limit k r)
+      where
+        by : (o : Option Status) → InOrder (so_far w arrays tasks limit k).live → InOrder (unless_ended o (so_far w arrays tasks limit k) (superstep w (so_far w arrays tasks limit k))).live
+        by (Some s) h = h
+        by None h = stays_in_order (so_far w arrays tasks limit k) h
+
+    pub live-paths-rise : (arrays : List (List ℕ × List ℤ)) (tasks : List T) (limit k : ℕ) → map w.path tasks ≡ children [] 0 (length tasks)
+        → is_rising (live_paths w (so_far w arrays tasks limit k)) ≡ true
+    live-paths-rise arrays tasks limit k r = (in_order arrays tasks limit k (is_run [] 0 tasks r)).rising

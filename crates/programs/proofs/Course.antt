@@ -15,20 +15,16 @@ use Rattle.std.proofs.Common.{◌≡◌, ◌==◌, ℕ, suc, ◌+◌, ◌≤◌,
 use Rattle.std.specs.Prelude.{ℤ, IsSome, if◌then◌else◌}
 use Rattle.superstep_memory.specs.Landing.{landed, over_in}
 use Rattle.phase_records.specs.PrintValue.{PrintValue}
-use Rattle.phase_records.specs.Status.{Status, Fault, Ended, Limit}
 use Rattle.programs.specs.Meaning.{Segment, children, NumbersItsSpawns, StaysTheSameTask}
 use Rattle.programs.specs.Reads.{Reads}
 use Rattle.programs.specs.DeedValue.{DeedValue}
 use Rattle.programs.specs.Superstep.{State, superstep, closed, ended_by, segments, first_fault, too_many, overflow, fault_eight, or_next, next_live, log_of, prints_of, record_of, live_paths}
-use Rattle.programs.specs.Supersteps.{initial, so_far, status, status_of, told, report_of}
 use Rattle.programs.specs.InPlace.{AllDone, deeds_of, IsAllDone, Told, maker, told_at, living_with, left_in, spawned_in, told_in}
 use Rattle.programs.specs.Regroup.{AreNumbered}
-use Rattle.programs.specs.Course.{course_state, HasFaulted, HasGone, HasTakenOne, left_by}
-use Rattle.programs.specs.declared.alone.Course.{Course}
+use Rattle.programs.specs.Course.{course_state, HasFaulted, HasGone, HasTakenOne}
+use Rattle.programs.specs.declared.steps.Course.{Course}
 use Rattle.superstep_memory.proofs.InOrder.{put_all_mapped, count_in_order}
 use Rattle.programs.proofs.InPlace.{no_fault, maker_told, living_told, counted}
-use Rattle.programs.proofs.Runs.{goes, ended_is_last}
-use Rattle.programs.proofs.Apart.{live-paths-rise}
 
 take_front : (xs ys : List PrintValue) → take (length xs) (xs ++ ys) ≡ xs
 take_front [] ys = refl
@@ -58,13 +54,13 @@ module _ {S T : Type 0} (p : Reads S T) (law : (t : S) → p.says.path (p.meant 
 
   -- the next live tasks as they are in memory
   pub next_told : (us : List S) (ds : List (DeedValue S)) (ss : List (List ℕ × Segment T)) → AllDone p us ds ss
-      → map p.meant (in_path_order p.path (living_with us ds)) ≡ next_live p.says ss
+      → map p.meant (in_path_order p.path (living_with us ds)) ≡ next_live p.says.path ss
   next_told us ds ss h =
       put_all_mapped p.path p.says.path p.meant law (living_with us ds) []
       ∙ ap (in_path_order p.says.path) (living_told p us ds ss h)
 
   pub next_count : (us : List S) (ds : List (DeedValue S)) (ss : List (List ℕ × Segment T)) → AllDone p us ds ss
-      → length (next_live p.says ss) ≡ length (living_with us ds)
+      → length (next_live p.says.path ss) ≡ length (living_with us ds)
   next_count us ds ss h =
       ap length (sym (next_told us ds ss h))
       ∙ length-map (in_path_order p.path (living_with us ds)) p.meant
@@ -73,7 +69,7 @@ module _ {S T : Type 0} (p : Reads S T) (law : (t : S) → p.says.path (p.meant 
   -- a fault ends the job
   pub by_fault_in : (st : State T) (f : ℕ × List ℕ) → first_fault (deeds_at st) ≡ Some f → superstep p.says st ≡ ended_by st f
   by_fault_in st f h =
-      ap (λ o. closed p.says st (deeds_at st) (or_next o (or_next (too_many p.says.most (next_live p.says (deeds_at st))) (overflow st.arrays (deeds_at st))))) h
+      ap (λ o. closed p.says.path st (deeds_at st) (or_next o (or_next (too_many p.says.most (next_live p.says.path (deeds_at st))) (overflow st.arrays (deeds_at st))))) h
 
   pub not_many : (ts : List T) → nat_lt p.says.most (length ts) ≡ false → too_many p.says.most ts ≡ None
   not_many ts b = ap (λ (t : Bool). if t then Some (7, []) else None) b
@@ -83,24 +79,24 @@ module _ {S T : Type 0} (p : Reads S T) (law : (t : S) → p.says.path (p.meant 
 
   -- the faults that a superstep is looked through for
   pub many_told : (st : State T) (us : List S) (ds : List (DeedValue S)) → AllDone p us ds (deeds_at st) → p.says.most < length (living_with us ds)
-      → too_many p.says.most (next_live p.says (deeds_at st)) ≡ Some (7, [])
+      → too_many p.says.most (next_live p.says.path (deeds_at st)) ≡ Some (7, [])
   many_told st us ds h lt =
       let l = next_count us ds (deeds_at st) h in
-      let b : nat_lt p.says.most (length (next_live p.says (deeds_at st))) ≡ true = grind arith in
-      are_many (next_live p.says (deeds_at st)) b
+      let b : nat_lt p.says.most (length (next_live p.says.path (deeds_at st))) ≡ true = grind arith in
+      are_many (next_live p.says.path (deeds_at st)) b
 
   pub few_told : (st : State T) (us : List S) (ds : List (DeedValue S)) → AllDone p us ds (deeds_at st) → length (living_with us ds) ≤ p.says.most
-      → too_many p.says.most (next_live p.says (deeds_at st)) ≡ None
+      → too_many p.says.most (next_live p.says.path (deeds_at st)) ≡ None
   few_told st us ds h le =
       let l = next_count us ds (deeds_at st) h in
-      let b : nat_lt p.says.most (length (next_live p.says (deeds_at st))) ≡ false = grind arith in
-      not_many (next_live p.says (deeds_at st)) b
+      let b : nat_lt p.says.most (length (next_live p.says.path (deeds_at st))) ≡ false = grind arith in
+      not_many (next_live p.says.path (deeds_at st)) b
 
   -- too many tasks end it
   pub by_many_in : (st : State T) (us : List S) (ds : List (DeedValue S)) → AllDone p us ds (deeds_at st) → p.says.most < length (living_with us ds)
       → superstep p.says st ≡ ended_by st (7, [])
   by_many_in st us ds h lt =
-      λ i. closed p.says st (deeds_at st)
+      λ i. closed p.says.path st (deeds_at st)
       (or_next (none_faults us ds (deeds_at st) h i) (or_next (many_told st us ds h lt i) (overflow st.arrays (deeds_at st))))
 
   -- what the log says is what the segments say
@@ -145,7 +141,7 @@ module _ {S T : Type 0} (p : Reads S T) (law : (t : S) → p.says.path (p.meant 
         blame = f;
         is = refl;
         over = sym (e ∙ t);
-        ends = λ i. closed p.says st ss (or_next (none_faults us ds ss h i) (or_next (few_told st us ds h le i) (sym (e ∙ t) i)));
+        ends = λ i. closed p.says.path st ss (or_next (none_faults us ds ss h i) (or_next (few_told st us ds h le i) (sym (e ∙ t) i)));
       }
 
   -- the record that was made is that of the segments
@@ -174,7 +170,7 @@ module _ {S T : Type 0} (p : Reads S T) (law : (t : S) → p.says.path (p.meant 
       }
   by_landing_in st puts us ds told h log le et over =
       let ss = deeds_at st in
-      (λ i. closed p.says st ss (or_next (none_faults us ds ss h i) (or_next (few_told st us ds h le i) (none_over st puts log over i))))
+      (λ i. closed p.says.path st ss (or_next (none_faults us ds ss h i) (or_next (few_told st us ds h le i) (none_over st puts log over i))))
       ∙ (λ i. record {
         step = st.step + 1;
         arrays = landed (sym log i) st.arrays;
@@ -324,79 +320,3 @@ module _ {S T : Type 0} (p : Reads S T) (law : (t : S) → p.says.path (p.meant 
   pub tallied : (old : Course S) (us : List S) (ds : List (DeedValue S)) (told : PhaseRecord) → Fits us ds → told ≡ told_in old.step ds
       → length (living_with us ds) + told.left ≡ told.parties
   tallied old us ds told f e = tallied_in old.step us ds told f e
-
-  -- ---- supersteps one after another
-
-  -- the job ends in the state in which this is reported
-  ended_at : (arrays : List (List ℕ × List ℤ)) (tasks : List T) (limit n : ℕ) (st : State T) (s : Status) → st ≡ so_far p.says arrays tasks limit n → status limit st ≡ Some s → report_of p.says arrays tasks limit ≡ told st (Some s)
-  ended_at arrays tasks limit n st s e h =
-      let last : so_far p.says arrays tasks limit n ≡ so_far p.says arrays tasks limit limit = ended_is_last p.says arrays tasks limit n s (ap (status limit) (sym e) ∙ h) in
-      ap (λ (x : State T). told x (status limit x)) (sym (e ∙ last)) ∙ ap (told st) h
-
-  pub at_end : (arrays : List (List ℕ × List ℤ)) (tasks : List T) (limit n : ℕ) (c : Course S) (s : Status) → course_state p c ≡ so_far p.says arrays tasks limit n → status limit (course_state p c) ≡ Some s
-      → report_of p.says arrays tasks limit ≡ Some (left_by c s)
-  at_end arrays tasks limit n c s e h = ended_at arrays tasks limit n (course_state p c) s e h
-
-  pub is_running : (arrays : List (List ℕ × List ℤ)) (tasks : List T) (limit : ℕ) (c : Course S) → 0 < length c.tasks.items → c.step < limit → status limit (course_state p c) ≡ None
-  is_running arrays tasks limit c some lt = by c.tasks.items some
-    where
-      late : (b : Bool) → b ≡ false → (if b then Some (Limit c.step) else None) ≡ None
-      late true h = cc
-      late false h = refl
-
-      by : (ts : List S) → 0 < length ts → status_of limit c.step None (map p.meant ts) ≡ None
-      by [] h = absurd (omega arith)
-      by (t ∷ ts) h = let b : nat_le limit c.step ≡ false = grind arith in late (nat_le limit c.step) b
-
-  pub is_over : (arrays : List (List ℕ × List ℤ)) (tasks : List T) (limit : ℕ) (c : Course S) → length c.tasks.items ≡ 0 → status limit (course_state p c) ≡ Some (Ended c.step)
-  is_over arrays tasks limit c none = by c.tasks.items none
-    where
-      by : (ts : List S) → length ts ≡ 0 → status_of limit c.step None (map p.meant ts) ≡ Some (Ended c.step)
-      by [] h = refl
-      by (t ∷ ts) h = absurd (omega arith)
-
-  pub is_late : (arrays : List (List ℕ × List ℤ)) (tasks : List T) (limit : ℕ) (c : Course S) → 0 < length c.tasks.items → limit ≤ c.step → status limit (course_state p c) ≡ Some (Limit c.step)
-  is_late arrays tasks limit c some le = by c.tasks.items some
-    where
-      late : (b : Bool) → b ≡ true → (if b then Some (Limit c.step) else None) ≡ Some (Limit c.step)
-      late true h = refl
-      late false h = cc
-
-      by : (ts : List S) → 0 < length ts → status_of limit c.step None (map p.meant ts) ≡ Some (Limit c.step)
-      by [] h = absurd (omega arith)
-      by (t ∷ ts) h = let b : nat_le limit c.step ≡ true = grind arith in late (nat_le limit c.step) b
-
-  abbrev pub Reached : List (List ℕ × List ℤ) → List T → ℕ → State T → Type 0
-  Reached arrays tasks limit st = (n : ℕ) × (st ≡ so_far p.says arrays tasks limit n)
-
-  -- one superstep more
-  pub reached_more : (arrays : List (List ℕ × List ℤ)) (tasks : List T) (limit : ℕ) (st next : State T) → Reached arrays tasks limit st → status limit st ≡ None → next ≡ superstep p.says st → Reached arrays tasks limit next
-  reached_more arrays tasks limit st next r run e = (
-    suc r.0,
-    e ∙ ap (superstep p.says) r.1
-        ∙ sym (goes p.says arrays tasks (status limit (so_far p.says arrays tasks limit r.0)) (so_far p.says arrays tasks limit r.0) (superstep p.says (so_far p.says arrays tasks limit r.0)) (ap (status limit) (sym r.1) ∙ run)),
-  )
-
-  -- a fault ends the job, and what came before it is left
-  pub at_fault : (arrays : List (List ℕ × List ℤ)) (tasks : List T) (limit : ℕ) (old new : Course S) (f : ℕ × List ℕ) → Reached arrays tasks limit (course_state p old) → status limit (course_state p old) ≡ None
-      → HasFaulted p f old new → report_of p.says arrays tasks limit ≡ Some (left_by new (Fault f.0 new.step f.1))
-  at_fault arrays tasks limit old new f r run h =
-      let st = course_state p old in
-      let more = reached_more arrays tasks limit st (ended_by st f) r run (sym h.fault) in
-      ended_at arrays tasks limit more.0 (ended_by st f) (Fault f.0 st.step f.1) more.1 refl
-      ∙ sym (λ i. Some (record { prints = h.prints i; records = h.records i; arrays = h.arrays i; status = Fault f.0 (h.step i) f.1 }))
-
-  -- live paths rise
-  pub rises : (arrays : List (List ℕ × List ℤ)) (tasks : List T) (limit : ℕ) (c : Course S) → map p.says.path tasks ≡ children [] 0 (length tasks)
-      → Reached arrays tasks limit (course_state p c) → is_rising (map p.path c.tasks.items) ≡ true
-  rises arrays tasks limit c begin r =
-      ap is_rising (paths_read c.tasks.items)
-      ∙ ap (λ (x : State T). is_rising (live_paths p.says x)) r.1 ∙ live-paths-rise p.says numbers stays arrays tasks limit r.0 begin
-
-  -- the paths of the tasks that a run begins with
-  pub starts_told : (ts : List S) → map p.path ts ≡ children [] 0 (length ts) → map p.says.path (map p.meant ts) ≡ children [] 0 (length (map p.meant ts))
-  starts_told ts h = sym (paths_read ts) ∙ h ∙ ap (children [] 0) (sym (length-map ts p.meant))
-
-  -- as it begins
-  pub begins : (c : Course S) → c.step ≡ 0 → c.prints.items ≡ [] → c.records.items ≡ [] → course_state p c ≡ initial c.arrays (map p.meant c.tasks.items)
-  begins c es ep er = λ i. record { step = es i; arrays = c.arrays; live = map p.meant c.tasks.items; prints = ep i; records = er i; fault = None }

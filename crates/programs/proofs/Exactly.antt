@@ -35,16 +35,12 @@ module _ {T : Type 0} (f : Frame T) (may : T → List (List ℕ × List ℤ) →
   does_agrees arrays step [] h = tt
   does_agrees arrays step (e ∷ es) h = (sym (only e.task arrays step e.left h.0), does_agrees arrays step es h.2)
 
-  closed_same : (es : List (Entry T)) (st : State T) (ss : List (List ℕ × Segment T)) (o : Option (ℕ × List ℕ)) → closed (says_in f most es) st ss o ≡ closed (says_of f most does) st ss o
-  closed_same es st ss None = refl
-  closed_same es st ss (Some x) = refl
-
   -- a fault among the first segments ends both
-  fault_ends : (s : Says T) (st : State T) (ss : List (List ℕ × Segment T)) (x : ℕ × List ℕ) → first_fault ss ≡ Some x → closed s st ss (fault_in s st.arrays ss) ≡ ended_by st x
-  fault_ends s st ss x h = ap (λ o. closed s st ss (or_next o (or_next (too_many s.most (next_live s ss)) (overflow st.arrays ss)))) h
+  fault_ends : (s : Says T) (st : State T) (ss : List (List ℕ × Segment T)) (x : ℕ × List ℕ) → first_fault ss ≡ Some x → closed s.path st ss (fault_in s.path s.most st.arrays ss) ≡ ended_by st x
+  fault_ends s st ss x h = ap (λ o. closed s.path st ss (or_next o (or_next (too_many s.most (next_live s.path ss)) (overflow st.arrays ss)))) h
 
   -- one superstep
-  step_same : (st : State T) (es : List (Entry T)) → is_rising (live_paths (says_in f most es) st) ≡ true → IsEntered f may st es
+  pub step_same : (st : State T) (es : List (Entry T)) → is_rising (live_paths (says_in f most es) st) ≡ true → IsEntered f may st es
       → superstep (says_in f most es) st ≡ superstep (says_of f most does) st
   step_same st es r h = by (first_fault (segments_in f es)) refl
     where
@@ -66,8 +62,7 @@ module _ {T : Type 0} (f : Frame T) (may : T → List (List ℕ × List ℤ) →
           let none = h.tasks.whole e in
           let all_in = in_first ∙ ap (λ (ts : List T). segments_in f es ++ segments (says_in f most es) st.arrays st.step ts) none ∙ append-nil (segments_in f es) in
           let all_of = of_first ∙ ap (λ (ts : List T). segments_in f es ++ segments (says_of f most does) st.arrays st.step ts) none ∙ append-nil (segments_in f es) in
-          ap (λ (ss : List (List ℕ × Segment T)). closed (says_in f most es) st ss (fault_in (says_in f most es) st.arrays ss)) (all_in ∙ sym all_of)
-          ∙ closed_same es st (segments (says_of f most does) st.arrays st.step st.live) (fault_in (says_in f most es) st.arrays (segments (says_of f most does) st.arrays st.step st.live))
+          ap (λ (ss : List (List ℕ × Segment T)). closed f.path st ss (fault_in f.path most st.arrays ss)) (all_in ∙ sym all_of)
       by (Some x) e =
           fault_ends (says_in f most es) st (segments (says_in f most es) st.arrays st.step st.live) x
           (ap first_fault in_first ∙ first_some (segments_in f es) (segments (says_in f most es) st.arrays st.step h.tasks.back) x e)

@@ -19,20 +19,13 @@ module _ {T : Type 0} (f : Frame T) (most : ℕ) where
   segments_by h arrays step [] = refl
   segments_by h arrays step (t ∷ ts) = ap (λ (ss : List (List ℕ × Segment T)). (f.path t, left_of f (get_or h step []) t) ∷ ss) (segments_by h arrays step ts)
 
-  closed_by_in : (h : History) (es : List (Entry T)) (st : State T) (ss : List (List ℕ × Segment T)) (o : Option (ℕ × List ℕ))
-      → closed (says_by f most h) st ss o ≡ closed (says_in f most es) st ss o
-  closed_by_in h es st ss None = refl
-  closed_by_in h es st ss (Some x) = refl
-
   -- a superstep of a history is one of its entries
   pub superstep_by : (h : History) (st : State T) → superstep (says_by f most h) st ≡ superstep (says_in f most (get_or h st.step [])) st
   superstep_by h st =
-      ap (λ (ss : List (List ℕ × Segment T)). closed (says_by f most h) st ss (fault_in (says_by f most h) st.arrays ss)) (segments_by h st.arrays st.step st.live)
-      ∙ closed_by_in h (get_or h st.step []) st (segments (says_in f most (get_or h st.step [])) st.arrays st.step st.live)
-      (fault_in (says_by f most h) st.arrays (segments (says_in f most (get_or h st.step [])) st.arrays st.step st.live))
+      ap (λ (ss : List (List ℕ × Segment T)). closed f.path st ss (fault_in f.path most st.arrays ss)) (segments_by h st.arrays st.step st.live)
 
   -- one superstep takes at most one step
-  step_bound : (s : Says T) (st : State T) (ss : List (List ℕ × Segment T)) (o : Option (ℕ × List ℕ)) → (closed s st ss o).step ≤ st.step + 1
+  step_bound : (s : Says T) (st : State T) (ss : List (List ℕ × Segment T)) (o : Option (ℕ × List ℕ)) → (closed s.path st ss o).step ≤ st.step + 1
   step_bound s st ss None = omega arith
   step_bound s st ss (Some x) = omega arith
 
@@ -44,7 +37,7 @@ module _ {T : Type 0} (f : Frame T) (most : ℕ) where
       by (Some x) le = omega (arith, le)
       by None le =
           let st = so_far s arrays tasks limit m in
-          let b = step_bound s st (segments s st.arrays st.step st.live) (fault_in s st.arrays (segments s st.arrays st.step st.live)) in
+          let b = step_bound s st (segments s st.arrays st.step st.live) (fault_in s.path s.most st.arrays (segments s st.arrays st.step st.live)) in
           omega (arith, b, le)
 
   -- a longer history says the same of earlier supersteps

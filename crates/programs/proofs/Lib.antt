@@ -11,3 +11,4 @@ pub mod Histories
 pub mod Known
 pub mod Reached
 pub mod Exactly
+pub mod Stepped

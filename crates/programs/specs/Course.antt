@@ -1,8 +1,7 @@
--- A run between two supersteps, as one thread keeps it.
-use Rattle.std.specs.Prelude.{◌≡◌, ℕ, ◌+◌, ◌≤◌, ℤ, List, map, length, Option, Some, None}
-use Rattle.phase_records.specs.ReportValue.{ReportValue}
-use Rattle.phase_records.specs.Status.{Status}
-use Rattle.programs.specs.declared.alone.Course.{Course}
+-- A run between two supersteps, as one thread keeps it, and one superstep of it.
+use Rattle.std.specs.Prelude.{◌≡◌, ◌⊎◌, ℕ, ◌+◌, ◌≤◌, ℤ, List, map, length, Option, Some, None}
+use Rattle.phase_records.specs.declared.record.PhaseRecord.{PhaseRecord}
+use Rattle.programs.specs.declared.steps.Course.{Course}
 use Rattle.programs.specs.Meaning.{Segment, Frame}
 use Rattle.programs.specs.Reads.{Reads, reads}
 use Rattle.programs.specs.History.{Entry, IsEntered, says_in}
@@ -43,7 +42,6 @@ module _ {S T : Type 0} where
     pub entered : IsEntered f may (course_state (reads (says_in f most entries) meant path) old) entries
     pub taken : HasTakenOne (reads (says_in f most entries) meant path) fault old new
 
-module _ {S : Type 0} where
-  -- what a run leaves that ended so
-  abbrev pub left_by : Course S → Status → ReportValue
-  left_by c s = record { prints = c.prints.items; records = c.records.items; arrays = c.arrays; status = s }
+-- there is room for the next live tasks, if tasks came or left
+abbrev pub HasRoom : PhaseRecord → ℕ → ℕ → Type 0
+HasRoom told living waiting = ((told.left ≡ 0) × (told.spawned ≡ 0)) ⊎ ((told.parties ≤ living + told.left) × (told.spawned ≤ waiting))

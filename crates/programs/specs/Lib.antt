@@ -11,3 +11,5 @@ pub mod Course
 pub mod History
 pub mod Done
 pub mod Changes
+pub mod Order
+pub mod Steps

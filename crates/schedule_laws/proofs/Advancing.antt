@@ -22,7 +22,7 @@ use Rattle.tier_laws.specs.Frame.{flat_of}
 use Rattle.tier_laws.specs.Plan.{flat_ends}
 use Rattle.tier_laws.proofs.Planning.{known_due}
 use Rattle.step_core.specs.Superstep.{State}
-use Rattle.step_core.specs.JobMeaning.{status, status_of}
+use Rattle.programs.specs.Supersteps.{status, status_of}
 use Rattle.schedule_laws.specs.Roles.{Role, Out, Late, Polls, Here, Looks, Passes, Owes, Leads, Past}
 use Rattle.schedule_laws.specs.Cast.{role_at, IsCast, IsTurned, members_in, is_awaited, is_leading, is_settled, turned}
 use Rattle.schedule_laws.proofs.Playing.{nobody_leads, leaders_are_alone, leads_is_due, members_are_in_roles}

@@ -9,7 +9,7 @@ use Rattle.tier_core.specs.declared.call.Answer.{Answer as TreeAnswer}
 use Rattle.tier_core.specs.declared.call.Answer.TheVariants as answer
 use Rattle.tier_core.specs.declared.call.Step.TheVariants.{Begin, Go, Finish}
 use Rattle.tier_core.specs.Run.{after, answer_to, may_finish, finish_at, plan_ends}
-use Rattle.step_core.specs.JobMeaning.{status, report_in}
+use Rattle.programs.specs.Supersteps.{status, report_in}
 use Rattle.schedule_laws.specs.Roles.{Role}
 use Rattle.job_participants.specs.declared.stage.Stage.{Stage}
 use Rattle.job_participants.specs.declared.stage.Stage.TheVariants.{Waits, Taken, Polling, Joining, Arriving, Leaving, Over}

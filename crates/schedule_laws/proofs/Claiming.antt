@@ -16,10 +16,12 @@ use Rattle.tier_core.specs.Machine.{State as Tree}
 use Rattle.tier_core.specs.Run.{after, answer_to, may_finish}
 use Rattle.tier_core.proofs.Turns.{not_both}
 use Rattle.tier_laws.specs.Frame.{flat_of}
-use Rattle.task_actions.specs.Meaning.{Task, Segment, After, Synced, Stopped, Faulted}
+use Rattle.task_actions.specs.Meaning.{Task, Segment, After}
+use Rattle.programs.specs.Meaning.{Synced, Stopped, Faulted}
 use Rattle.step_core.specs.Program.{Program}
-use Rattle.step_core.specs.Superstep.{State, first_fault, or_later, left, spawned, stopped, live_paths}
-use Rattle.step_core.specs.JobMeaning.{status, report_in}
+use Rattle.step_core.specs.Superstep.{State, live_paths}
+use Rattle.programs.specs.Superstep.{first_fault, or_later, left, spawned, stopped}
+use Rattle.programs.specs.Supersteps.{status, report_in}
 use Rattle.step_core.specs.OrderValue.{is_synced, spawned_paths}
 use Rattle.step_core.specs.Laws.{paths_on, synced_path}
 use Rattle.step_core.proofs.Apart.{live-paths-rise}

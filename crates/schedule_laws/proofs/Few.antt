@@ -8,8 +8,10 @@ use Rattle.phase_records.specs.Status.{Status}
 use Rattle.task_actions.specs.Meaning.{Task, Segment, segment_of}
 use Rattle.task_lang.proofs.AllSegments.{numbers-its-spawns}
 use Rattle.step_core.specs.Program.{Program}
-use Rattle.step_core.specs.Superstep.{State, segments, first_fault, too_many, overflow, or_next, fault_in, superstep, closed, next_live, live_paths}
-use Rattle.step_core.specs.JobMeaning.{status, unless_ended, so_far}
+use Rattle.step_core.specs.Superstep.{State, segments, too_many, fault_in, superstep, closed, next_live, live_paths}
+use Rattle.programs.specs.Superstep.{first_fault, overflow, or_next}
+use Rattle.step_core.specs.JobMeaning.{so_far}
+use Rattle.programs.specs.Supersteps.{status, unless_ended}
 use Rattle.step_core.specs.OrderValue.{spawned_paths}
 use Rattle.job_participants.specs.ParticipantValue.{ParticipantValue, participant_at, participant_path, child_path}
 use Rattle.job_schedule.specs.World.{World, deed_in, deed_of}

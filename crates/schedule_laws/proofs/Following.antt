@@ -9,7 +9,7 @@ use Rattle.tier_core.specs.declared.call.Call.TheVariants as call
 use Rattle.tier_core.specs.declared.call.Step.TheVariants.{Begin, Go, Finish}
 use Rattle.tier_core.specs.Machine.{State as Tree}
 use Rattle.tier_core.specs.Run.{after, answer_to}
-use Rattle.step_core.specs.JobMeaning.{report_in}
+use Rattle.programs.specs.Supersteps.{report_in}
 use Rattle.job_participants.specs.declared.stage.Mode.TheVariants as mode
 use Rattle.job_participants.specs.declared.stage.Move.{Move}
 use Rattle.job_participants.specs.declared.stage.Move.TheVariants.{Takes, Delivers, Calls, Advances, Closes, Ends}

@@ -27,7 +27,8 @@ use Rattle.tier_laws.proofs.Stepping.{fitting}
 use Rattle.phase_records.specs.Status.{Limit as IsAtLimit}
 use Rattle.step_core.specs.Program.{Program}
 use Rattle.step_core.specs.Superstep.{live_paths}
-use Rattle.step_core.specs.JobMeaning.{initial, start_tasks, status, status_of}
+use Rattle.step_core.specs.JobMeaning.{initial, start_tasks}
+use Rattle.programs.specs.Supersteps.{status, status_of}
 use Rattle.task_actions.specs.Meaning.{Plan, Task}
 use Rattle.task_code.specs.declared.job.Start.{Start}
 use Rattle.schedule_laws.specs.Roles.{Role, Out, Late, Plays}

@@ -14,7 +14,7 @@ use Rattle.tier_core.specs.Machine.{State as Tree}
 use Rattle.tier_core.specs.Run.{after, answer_to, may_finish}
 use Rattle.tier_core.proofs.Turns.{not_both}
 use Rattle.step_core.specs.Superstep.{State, superstep, live_paths}
-use Rattle.step_core.specs.JobMeaning.{status, told, report_in, unless_ended}
+use Rattle.programs.specs.Supersteps.{status, told, report_in, unless_ended}
 use Rattle.step_core.specs.OrderValue.{has_synced, spawned_paths}
 use Rattle.schedule_laws.specs.Roles.{Role}
 use Rattle.schedule_laws.specs.Cast.{turned}

@@ -13,7 +13,7 @@ use Rattle.tier_laws.specs.Frame.{flat_of}
 use Rattle.task_actions.specs.Meaning.{Task, Segment}
 use Rattle.step_core.specs.Program.{Program}
 use Rattle.step_core.specs.Superstep.{State, segments, fault_in, superstep, closed, next_live, live_paths}
-use Rattle.step_core.specs.JobMeaning.{status, status_of, told, report_in}
+use Rattle.programs.specs.Supersteps.{status, status_of, told, report_in}
 use Rattle.schedule_laws.specs.Roles.{Role, Out, Late, Past}
 use Rattle.schedule_laws.specs.Cast.{role_at, turned}
 use Rattle.job_participants.specs.declared.stage.Stage.{Stage}

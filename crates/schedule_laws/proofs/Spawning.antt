@@ -11,7 +11,7 @@ use Rattle.tier_core.specs.declared.call.Answer.TheVariants as answer
 use Rattle.tier_core.specs.declared.call.Step.TheVariants.{Begin, Go}
 use Rattle.tier_core.specs.Machine.{State as Tree}
 use Rattle.tier_core.specs.Run.{after, answer_to}
-use Rattle.step_core.specs.JobMeaning.{status}
+use Rattle.programs.specs.Supersteps.{status}
 use Rattle.schedule_laws.specs.Roles.{Role}
 use Rattle.job_participants.specs.declared.stage.Stage.{Stage}
 use Rattle.job_participants.specs.declared.stage.Stage.TheVariants.{Waits, Taken, Polling, Joining, Arriving, Leaving, Over}

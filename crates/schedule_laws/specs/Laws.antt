@@ -7,7 +7,8 @@ use Rattle.tier_core.specs.declared.call.Played.{Played}
 use Rattle.tier_laws.specs.Frame.{flat_of}
 use Rattle.task_actions.specs.Meaning.{Segment}
 use Rattle.step_core.specs.Program.{Program}
-use Rattle.step_core.specs.Superstep.{segments, first_fault, record_of}
+use Rattle.step_core.specs.Superstep.{segments}
+use Rattle.programs.specs.Superstep.{first_fault, record_of}
 use Rattle.job_participants.specs.declared.stage.Mode.TheVariants as mode
 use Rattle.job_schedule.specs.declared.step.JobStep.{JobStep}
 use Rattle.job_schedule.specs.declared.step.JobStep.TheVariants.{Close}

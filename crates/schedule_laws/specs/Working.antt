@@ -4,7 +4,7 @@ use Rattle.std.specs.List.{AllByRecursion}
 use Rattle.tier_steps.specs.declared.view.Passage.{Passage}
 use Rattle.tier_steps.specs.declared.view.Passage.TheVariants.{Arrival, Departure}
 use Rattle.tier_laws.specs.Frame.{flat_of}
-use Rattle.step_core.specs.JobMeaning.{status}
+use Rattle.programs.specs.Supersteps.{status}
 use Rattle.schedule_laws.specs.Roles.{Role, Out, Joins, Seeks, Settles, GivesBack, Late, Polls, Ready, Here, Looks, Passes, Owes, Leads, Past}
 use Rattle.schedule_laws.specs.Cast.{role_at, IsCast, turned}
 use Rattle.job_participants.specs.declared.stage.Mode.{Mode}

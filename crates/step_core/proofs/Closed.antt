@@ -12,20 +12,22 @@ use Rattle.task_actions.specs.Views.{plans, task_of, meant}
 use Rattle.task_lang.proofs.AllSegments.{numbers-its-spawns}
 use Rattle.step_parts.specs.Program.{Program, program_of}
 use Rattle.superstep_memory.specs.PathOrder.{in_path_order}
-use Rattle.step_parts.specs.Superstep.{State, superstep, closed, closed_by, ended_by, gone_on, segments, first_fault, too_many, overflow, or_next, fault_in, next_live, log_of, prints_of, record_of}
+use Rattle.step_parts.specs.Superstep.{State, superstep, closed, closed_by, segments, too_many, fault_in, next_live, job_says}
+use Rattle.programs.specs.Superstep.{ended_by, gone_on, first_fault, overflow, or_next, log_of, prints_of, record_of}
 use Rattle.smallvec.specs.SmallVec.{SmallVec}
 use Rattle.task_code.specs.JobValue.{JobValue}
 use Rattle.task_code.specs.declared.job.Start.{Start}
 use Rattle.task_code.specs.BodyValue.{BodyValue}
 use Rattle.step_parts.specs.declared.fault.Outcome.TheVariants.{TooMany, Landed, Overflowed}
 use Rattle.step_parts.specs.Taking.{outcome_of, outcome_by}
-use Rattle.step_parts.specs.JobMeaning.{so_far, status, initial, start_tasks}
+use Rattle.step_parts.specs.JobMeaning.{so_far, initial, start_tasks, starts}
+use Rattle.programs.specs.Supersteps.{status}
 use Rattle.step_parts.specs.SlotValue.{SlotValue}
 use Rattle.step_parts.specs.FinishedValue.{FinishedValue}
 use Rattle.step_parts.specs.Slots.{Slot, slot_of, slots_of, told_by, task_in, delivered, with_done, first_missing, or_missing, fresh, all_prints, all_told}
 use Rattle.step_parts.specs.SlotParts.{path_in, path_of, living_in, fresh_slot, IsSmall, AllSmall}
 use Rattle.step_parts.specs.RoundValue.{RoundValue, IsRound, Fits, AllFit, AllFresh, Opens, state_of, status_in, slots_in, whole, with_fault}
-use Rattle.step_parts.proofs.Runs.{goes, no_fault}
+use Rattle.programs.proofs.Runs.{goes, no_fault}
 use Rattle.superstep_memory.proofs.InOrder.{put_all_mapped, count_in_order}
 use Rattle.std.proofs.lemmas.List.{length-map}
 use Rattle.step_parts.proofs.Deeds.{living_mapped}
@@ -107,7 +109,7 @@ one_more r c st e =
     let q = c.round.reached.1 in
     let p = program_of r.job in (
       suc n,
-      e ∙ ap (superstep p) q ∙ sym (goes (status r.limit (so_far p r.limit n)) (so_far p r.limit n) (superstep p (so_far p r.limit n)) (ap (status r.limit) (sym q) ∙ c.run)),
+      e ∙ ap (superstep p) q ∙ sym (goes (job_says p.plans) p.arrays (starts p) (status r.limit (so_far p r.limit n)) (so_far p r.limit n) (superstep p (so_far p r.limit n)) (ap (status r.limit) (sym q) ∙ c.run)),
     )
 
 -- a superstep by what was delivered
@@ -167,7 +169,7 @@ gone_further r c none fits xs ex le a ea prints ep records er =
     let slots : slots_of ps xs ≡ map fresh (map (task_of ps) ts) = ap (slots_of ps) ex ∙ fresh_mapped ps ts in
     let live : map task_in (slots_of ps xs) ≡ next_live (deeds r) = ap (map task_in) slots ∙ fresh_tasks (map (task_of ps) ts) ∙ next_mapped ps r.slots in
     let s : state_of (record r { step = r.step + 1; arrays = a; slots = xs; prints = prints; records = records }) ≡ next_state r =
-    (λ i. record { step = r.step + 1; arrays = ea i; live = live i; prints = ep i; records = er i; fault = no_fault r.limit (state_of r) c.run i }) ∙ sym k in (
+    (λ i. record { step = r.step + 1; arrays = ea i; live = live i; prints = ep i; records = er i; fault = no_fault (job_says (program_of r.job).plans) (program_of r.job).arrays (starts (program_of r.job)) r.limit (state_of r) c.run i }) ∙ sym k in (
       record {
         reached = one_more r c _ s;
         fits = subst (AllFit ps a (r.step + 1)) (sym slots) (fresh_fit ps a (r.step + 1) (map (task_of ps) ts));

@@ -14,7 +14,8 @@ use Rattle.task_actions.specs.Meaning.{Task, Segment}
 use Rattle.task_lang.specs.Laws.{is_to_cell}
 use Rattle.task_lang.proofs.AllSegments.{puts-into-cells}
 use Rattle.step_parts.specs.Program.{Program}
-use Rattle.step_parts.specs.Superstep.{State, closed, segments, fault_in, log_of}
+use Rattle.step_parts.specs.Superstep.{State, closed, segments, fault_in}
+use Rattle.programs.specs.Superstep.{log_of}
 use Rattle.step_parts.specs.JobMeaning.{so_far}
 use Rattle.step_core.specs.Laws.{deed, LaterPathWins, OthersKeepTheirValues}
 use Rattle.step_core.proofs.Apart.{live-paths-rise}

@@ -4,31 +4,15 @@ use Rattle.std.specs.Prelude.{if◌then◌else◌}
 use Rattle.std.proofs.lemmas.List.{append-nil}
 use Rattle.superstep_memory.specs.Paths.{path_lt}
 use Rattle.phase_records.specs.Status.{Status, Limit}
-use Rattle.task_actions.specs.Meaning.{Task, After, Synced, Stopped, Faulted, Segment, segment_of}
+use Rattle.task_actions.specs.Meaning.{Task, After, Segment, segment_of}
+use Rattle.programs.specs.Meaning.{Synced, Stopped, Faulted}
 use Rattle.task_actions.specs.Views.{plans}
 use Rattle.step_parts.specs.Program.{Program, program_of}
 use Rattle.superstep_memory.specs.PathOrder.{put_in, in_path_order}
-use Rattle.step_parts.specs.Superstep.{
-  State,
-  superstep,
-  closed,
-  gone_on,
-  segments,
-  first_fault,
-  too_many,
-  overflow,
-  or_next,
-  fault_in,
-  or_later,
-  next_live,
-  living_on,
-  synced,
-  stopped,
-  spawned,
-  left,
-  record_of,
-}
-use Rattle.step_parts.specs.JobMeaning.{so_far, status, status_of, unless_ended, report_of}
+use Rattle.step_parts.specs.Superstep.{State, superstep, closed, segments, too_many, fault_in, next_live, job_says}
+use Rattle.programs.specs.Superstep.{gone_on, first_fault, overflow, or_next, or_later, living_on, synced, stopped, spawned, left, record_of}
+use Rattle.step_parts.specs.JobMeaning.{so_far, report_of, starts}
+use Rattle.programs.specs.Supersteps.{status, status_of, unless_ended}
 use Rattle.step_parts.specs.SlotValue.{SlotValue}
 use Rattle.step_parts.specs.Slots.{delivered, first_missing}
 use Rattle.step_parts.specs.OrderValue.{DeliveryValue, IsDelivery}
@@ -48,7 +32,7 @@ use Rattle.step_core.specs.Laws.{
 }
 use Rattle.step_core.proofs.Rounds.{taken, set_is_with, here, tasks_stay}
 use Rattle.step_core.proofs.Closed.{all_delivered}
-use Rattle.step_parts.proofs.Runs.{always_told}
+use Rattle.programs.proofs.Runs.{always_told}
 use Rattle.superstep_memory.proofs.InOrder.{put_all_mapped}
 use Rattle.std.proofs.lemmas.List.{map-append}
 use Rattle.task_lang.proofs.AllSegments.{stays-the-same-task}
@@ -192,7 +176,7 @@ longer-limits-only-add p m n le =
     (same, a.prints, a.records)
 
 pub jobs-end : JobsEnd
-jobs-end p limit = by (report_of p limit) (always_told p limit)
+jobs-end p limit = by (report_of p limit) (always_told (job_says p.plans) p.arrays (starts p) limit)
   where
     by : {A : Type 0} (o : Option A) → (o ≡ None → ⊥) → is_some o ≡ true
     by None h = absurd (h refl)

@@ -10,21 +10,22 @@ use Rattle.task_actions.specs.SegmentValue.{SegmentValue}
 use Rattle.task_actions.specs.Meaning.{Plan, Task, Segment, segment_of}
 use Rattle.task_actions.specs.Views.{plans, task_of, meant}
 use Rattle.step_parts.specs.Program.{program_of}
-use Rattle.step_parts.specs.Superstep.{State}
-use Rattle.step_parts.specs.JobMeaning.{state_at, status}
+use Rattle.step_parts.specs.Superstep.{State, job_says}
+use Rattle.step_parts.specs.JobMeaning.{state_at, starts}
+use Rattle.programs.specs.Supersteps.{status}
 use Rattle.step_parts.specs.SlotValue.{SlotValue}
 use Rattle.step_parts.specs.Slots.{slots_of, task_in, with_segment, missing_in, one_missing, first_missing, or_missing}
 use Rattle.step_parts.specs.OrderValue.{order_value, IsOrder, deed_of, deed_at, DeliveryValue, IsDelivery}
 use Rattle.step_parts.specs.Taking.{IsFor, IsOrdered, is_done, Takes, task_at}
 use Rattle.step_core.specs.Laws.{MissingTells, OrdersAreOwn}
 use Rattle.step_parts.specs.RoundValue.{RoundValue, IsRound, AllFit, state_of, status_in, with_slots}
-use Rattle.step_parts.proofs.Runs.{going_on}
+use Rattle.programs.proofs.Runs.{going_on}
 
 pub running : (r : RoundValue) → IsRound r → status_in r ≡ None → state_of r ≡ state_at (program_of r.job) r.step
 running r h run =
     let n = h.reached.0 in
     let e = h.reached.1 in
-    let g = going_on (program_of r.job) r.limit n (ap (status r.limit) (sym e) ∙ run) in
+    let g = (let p = program_of r.job in going_on (job_says p.plans) p.arrays (starts p) r.limit n (ap (status r.limit) (sym e) ∙ run)) in
     let k : r.step ≡ n = ap (λ (x : State). x.step) e ∙ g.step in
     e ∙ g.same ∙ ap (state_at (program_of r.job)) (sym k)
 

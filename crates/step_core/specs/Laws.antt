@@ -9,7 +9,8 @@ use Rattle.superstep_memory.specs.Laws.{has_put}
 use Rattle.task_actions.specs.Meaning.{Task, Segment, segment_of}
 use Rattle.task_code.specs.JobValue.{JobValue}
 use Rattle.step_parts.specs.Program.{Program, program_of}
-use Rattle.step_parts.specs.Superstep.{State, superstep, segments, record_of, live_paths}
+use Rattle.step_parts.specs.Superstep.{State, superstep, segments, live_paths}
+use Rattle.programs.specs.Superstep.{record_of}
 use Rattle.step_parts.specs.JobMeaning.{so_far, report_of}
 use Rattle.step_parts.specs.Slots.{delivered, first_missing, missing_in}
 use Rattle.step_parts.specs.OrderValue.{OrderValue, IsOrder, ordered_task, DeliveryValue, IsDelivery, has_synced, spawned_paths}

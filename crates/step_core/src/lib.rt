@@ -13,7 +13,7 @@ mod round;
 mod watch;
 
 pub use alone::{run_alone, run_watched};
-pub use job_program::start_all;
+pub use job_program::{JobSteps, start_all};
 pub use round::Round;
 pub use step_parts::fault::{AcceptFault, CloseFault, Outcome};
 pub use step_parts::order::{Delivery, Order};

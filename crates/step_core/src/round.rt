@@ -16,7 +16,7 @@ use step_parts::fault::{AcceptFault, CloseFault, Outcome};
 use step_parts::live::Live;
 use step_parts::next::count_living;
 use step_parts::order::{Delivery, Order, paths_of};
-use step_parts::reading::{find_near, join_report, prints_of, records_of};
+use step_parts::reading::{find_near, prints_of, records_of};
 use step_parts::slot::{Finished, Slots};
 use superstep_memory::arrays::Arrays;
 use superstep_memory::path::Path;
@@ -82,8 +82,10 @@ impl<'j> Round<'j> {
     ghost use Rattle.phase_records.specs.Status.{IsShort};
     ghost use Rattle.phase_records.specs.StatusSeen.{status_seen};
     ghost use Rattle.step_parts.specs.Program.{program_of};
-    ghost use Rattle.step_parts.specs.JobMeaning.{initial, report_in};
-    ghost use Rattle.step_parts.specs.Superstep.{superstep, live_paths, first_fault};
+    ghost use Rattle.step_parts.specs.JobMeaning.{initial};
+    ghost use Rattle.programs.specs.Supersteps.{report_in};
+    ghost use Rattle.step_parts.specs.Superstep.{superstep, live_paths};
+    ghost use Rattle.programs.specs.Superstep.{first_fault};
     ghost use Rattle.step_parts.specs.Slots.{delivered, first_missing, missing_in};
     ghost use Rattle.step_parts.specs.SlotParts.{path_of, living_in, IsPlaceOf};
     ghost use Rattle.step_parts.specs.RoundValue.{IsRound, Opens, state_of, status_in, slots_in, with_fault};
@@ -172,21 +174,6 @@ impl<'j> Round<'j> {
             arrays,
             status,
         }))
-    }
-
-    /// What the job leaves, once it has ended. The round is used up.
-    pub fn into_report(self, alloc: Global) -> Result<Option<Report>, AllocError>
-        ensures { IfOk result (λ report. report ≡ report_in self.entry.limit (state_of self.entry)) }
-    {
-        let Some(status) = self.status() else {
-            return Ok(None);
-        };
-        let Round {
-            start_arrays,
-            finished,
-            ..
-        } = self;
-        join_report(alloc, start_arrays, finished, status)
     }
 
     /// The arrays as the next superstep begins, or as the job left them. It takes no memory.

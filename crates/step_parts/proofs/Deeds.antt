@@ -14,7 +14,7 @@ use Rattle.task_actions.specs.Meaning.{Plan, Task}
 use Rattle.task_actions.specs.Views.{task_of, after_of}
 use Rattle.task_actions.specs.declared.task.After as code
 use Rattle.task_actions.specs.declared.task.After.TheVariants as after
-use Rattle.step_parts.specs.Superstep.{log_of, overflow, fault_eight, synced, living_on}
+use Rattle.programs.specs.Superstep.{log_of, overflow, fault_eight, synced, living_on}
 use Rattle.step_parts.specs.SlotValue.{SlotValue}
 use Rattle.step_parts.specs.Slots.{slots_of, delivered}
 use Rattle.step_parts.specs.SlotParts.{puts_in, puts_of, log_in, path_at, told_at, living_of, living_in, living_by, synced_in, path_in}

@@ -1,4 +1,3 @@
 pub mod Deeds
 pub mod Beside
-pub mod Runs
 pub mod Places

@@ -4,7 +4,8 @@ use Rattle.std.specs.Borrow.{Bor}
 use Rattle.task_code.specs.JobValue.{JobValue}
 use Rattle.task_actions.specs.TaskValue.{TaskValue}
 use Rattle.task_actions.specs.SegmentValue.{SegmentValue}
-use Rattle.task_actions.specs.Meaning.{Task, After, Synced, Stopped, Faulted, Segment, segment_of}
+use Rattle.task_actions.specs.Meaning.{Task, After, Segment, segment_of}
+use Rattle.programs.specs.Meaning.{Synced, Stopped, Faulted}
 use Rattle.task_actions.specs.Views.{plans, task_of, meant}
 use Rattle.step_parts.specs.Program.{Program, program_of}
 use Rattle.step_parts.specs.Superstep.{State}

@@ -8,7 +8,8 @@ use Rattle.task_actions.specs.Meaning.{Plan, Task, Segment, segment_of}
 use Rattle.task_actions.specs.Views.{plans}
 use Rattle.step_parts.specs.Program.{program_of}
 use Rattle.step_parts.specs.Superstep.{State}
-use Rattle.step_parts.specs.JobMeaning.{so_far, status}
+use Rattle.step_parts.specs.JobMeaning.{so_far}
+use Rattle.programs.specs.Supersteps.{status}
 use Rattle.step_parts.specs.SlotValue.{SlotValue}
 use Rattle.step_parts.specs.FinishedValue.{FinishedValue}
 use Rattle.step_parts.specs.Slots.{Slot, slots_of, task_in, all_prints, all_told}

@@ -8,7 +8,7 @@ use Rattle.task_actions.specs.Views.{task_of, meant}
 use Rattle.task_actions.specs.SegmentValue.{SegmentValue}
 use Rattle.step_parts.specs.SlotValue.{SlotValue}
 use Rattle.step_parts.specs.FinishedValue.{FinishedValue}
-use Rattle.step_parts.specs.Superstep.{prints_of, record_of}
+use Rattle.programs.specs.Superstep.{prints_of, record_of}
 
 -- a live task, and its segment once it was delivered
 pub record Slot : Type 0 where

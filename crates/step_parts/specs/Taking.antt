@@ -13,7 +13,8 @@ use Rattle.step_parts.specs.declared.fault.Outcome.TheVariants.{Landed, Faulted,
 use Rattle.step_parts.specs.SlotValue.{SlotValue}
 use Rattle.step_parts.specs.SlotParts.{IsPath}
 use Rattle.step_parts.specs.Slots.{with_segment, first_missing}
-use Rattle.step_parts.specs.Superstep.{first_fault, too_many, overflow, next_live}
+use Rattle.step_parts.specs.Superstep.{too_many, next_live}
+use Rattle.programs.specs.Superstep.{first_fault, overflow}
 use Rattle.step_parts.specs.RoundValue.{RoundValue, slots_in}
 use Rattle.step_parts.specs.OrderValue.{OrderValue, DeliveryValue}
 

@@ -1,7 +1,7 @@
 //! What a round does with what was delivered.
 ghost use Rattle.std.specs.Prelude.{◌≡◌, ◌≤◌, ◌++◌, List, IfOk, OnOk, map, length, option_map, []};
 ghost use Rattle.task_actions.specs.Meaning.{Plan};
-ghost use Rattle.step_parts.specs.Superstep.{first_fault, prints_of, print_of, record_of, spawned, left};
+ghost use Rattle.programs.specs.Superstep.{first_fault, prints_of, print_of, record_of, spawned, left};
 ghost use Rattle.step_parts.specs.Slots.{slots_of, delivered, first_missing};
 ghost use Rattle.step_parts.specs.SlotParts.{path_of, AllSmall};
 

@@ -5,7 +5,7 @@ ghost use Rattle.std.specs.Option.{option_map};
 ghost use Rattle.std.specs.Arc.{arc_value};
 ghost use Rattle.superstep_memory.specs.Landing.{landed, joined, is_set};
 ghost use Rattle.task_actions.specs.Meaning.{Plan};
-ghost use Rattle.step_parts.specs.Superstep.{overflow, fault_eight, log_of};
+ghost use Rattle.programs.specs.Superstep.{overflow, fault_eight, log_of};
 ghost use Rattle.step_parts.specs.Slots.{slots_of, delivered};
 ghost use Rattle.step_parts.specs.SlotParts.{log_in, path_at, told_at};
 

@@ -4,7 +4,7 @@ ghost use Rattle.std.specs.Arc.{arc_value};
 ghost use Rattle.std.specs.Vec.{vec_capacity};
 ghost use Rattle.superstep_memory.specs.Landing.{landed, joined};
 ghost use Rattle.task_actions.specs.Meaning.{Plan};
-ghost use Rattle.step_parts.specs.Superstep.{log_of, overflow};
+ghost use Rattle.programs.specs.Superstep.{log_of, overflow};
 ghost use Rattle.step_parts.specs.Slots.{slots_of, delivered, told_by};
 ghost use Rattle.superstep_memory.specs.PathOrder.{in_path_order};
 ghost use Rattle.step_parts.specs.SlotParts.{AllSmall, beside, living_by, no_segment, path_in};
@@ -150,7 +150,7 @@ impl Live {
     ghost use Rattle.superstep_memory.specs.Landing.{landed, joined};
     ghost use Rattle.superstep_memory.specs.PathOrder.{in_path_order};
     ghost use Rattle.task_actions.specs.Meaning.{Plan};
-    ghost use Rattle.step_parts.specs.Superstep.{log_of, overflow};
+    ghost use Rattle.programs.specs.Superstep.{log_of, overflow};
     ghost use Rattle.step_parts.specs.Slots.{slots_of, delivered, told_by, with_segment};
     ghost use Rattle.step_parts.specs.SlotParts.{AllSmall, path_in, fresh_slot, living_in};
     ghost use Rattle.step_parts.specs.Taking.{is_done, task_at};

@@ -1,18 +1,13 @@
 //! What is read of a round.
-ghost use Rattle.std.specs.Prelude.{◌≡◌, ◌≤◌, ◌++◌, Some, length, false, IfOk, OnOk, MatchOption, map};
-ghost use Rattle.std.specs.Arc.{arc_value};
-ghost use Rattle.phase_records.specs.Status.{IsShort};
-ghost use Rattle.phase_records.specs.StatusSeen.{status_seen};
+ghost use Rattle.std.specs.Prelude.{◌≡◌, ◌≤◌, ◌++◌, length, false, IfOk, OnOk, MatchOption, map};
 ghost use Rattle.step_parts.specs.Slots.{all_prints, all_told};
 ghost use Rattle.step_parts.specs.SlotParts.{IsPlaceOf};
 ghost use Rattle.step_parts.specs.Taking.{is_live};
 
 use crate::slot::{Finished, Slots};
-use phase_records::{JobStatus, PhaseRecord, Print, Report};
+use phase_records::{PhaseRecord, Print};
 use smallvec::SmallVec;
 use std::alloc::{AllocError, Global};
-use std::sync::Arc;
-use superstep_memory::arrays::Arrays;
 use superstep_memory::path::is_before;
 
 // The place of a task of this path, if paths rise.
@@ -115,54 +110,4 @@ pub fn records_of(alloc: Global, finished: &[Finished]) -> Result<Vec<PhaseRecor
         rest = after;
     }
     Ok(records)
-}
-
-/// What was printed, superstep by superstep, moved together.
-pub(crate) fn join_prints(alloc: Global, finished: Vec<Finished>) -> Result<Vec<Print>, AllocError>
-    ensures { IfOk result (λ prints. prints.items ≡ all_prints finished.items) }
-{
-    let mut rest = finished;
-    rest.reverse();
-    let mut prints = Vec::new(alloc);
-    while let Some(one) = rest.pop() {
-        let mut more = one.prints;
-        prints.append(&mut more)?;
-    }
-    Ok(prints)
-}
-
-// The arrays: themselves if nobody else has them, else a copy.
-fn own_arrays(alloc: Global, shared: Arc<Arrays>) -> Result<Arrays, AllocError>
-    ensures { IfOk result (λ arrays. arrays ≡ arc_value shared) }
-{
-    match Arc::try_unwrap(shared) {
-        Ok(arrays) => Ok(arrays),
-        Err(shared) => shared.copy(alloc),
-    }
-}
-
-/// The report of these arrays, of what these supersteps left, and of how the job ended.
-pub fn join_report(
-    alloc: Global,
-    start_arrays: Arc<Arrays>,
-    finished: Vec<Finished>,
-    status: JobStatus,
-) -> Result<Option<Report>, AllocError>
-    requires short { IsShort (status_seen status) }
-    ensures { IfOk result (λ report. report ≡ Some record {
-      prints = all_prints finished.items;
-      records = all_told finished.items;
-      arrays = arc_value start_arrays;
-      status = status_seen status;
-    }) }
-{
-    let records = records_of(alloc, &finished)?;
-    let prints = join_prints(alloc, finished)?;
-    let arrays = own_arrays(alloc, start_arrays)?;
-    Ok(Some(Report {
-        prints,
-        records,
-        arrays,
-        status,
-    }))
 }

@@ -16,6 +16,7 @@ pub mod laws;
 pub mod log;
 mod lots;
 mod lots_landing;
+mod lots_listed;
 pub mod path;
 pub mod puts;
 pub mod runs;

@@ -9,6 +9,7 @@ ghost use Rattle.superstep_memory.specs.Lots.{puts_of, rows_after};
 use crate::arrays::{Arrays, Put, PutKind};
 use crate::lots::{Lot, Row};
 use crate::lots_landing::{are_all_in, land_adds, write_lots};
+use crate::lots_listed::list_of;
 use std::alloc::{AllocError, Global};
 use std::marker::Model;
 use std::mem;
@@ -99,22 +100,27 @@ impl Puts {
         self.sets = true;
     }
 
-    /// Removes all puts, and releases the memory of their rows.
-    pub fn release(&mut self)
-        ensures { self.new ≡ [] }
-    {
-        self.lots.clear();
-        self.rows.clear();
-        self.more = 0;
-        self.sets = true;
-    }
-
     /// How many puts there are. A row counts as many as it has values.
     #[inline(always)]
     pub fn len(&self) -> usize
         ensures { result ≡ length self.now }
     {
         self.lots.len() + self.more
+    }
+
+    /// Whether there are none.
+    pub fn is_empty(&self) -> bool
+        ensures { result ≡ true ↔ self.now ≡ [] }
+    {
+        self.len() == 0
+    }
+
+    /// Returns the puts in order, each of a row by itself. Fails if memory runs out, or if a row goes on past cell 4294967295, which
+    /// no put can name.
+    pub fn to_vec(&self, alloc: Global) -> Result<Vec<Put>, AllocError>
+        ensures { IfOk result (λ puts. puts.items ≡ self.now) }
+    {
+        list_of(alloc, &self.lots, &self.rows)
     }
 
     /// Whether none of them adds, so that no sum can overflow. It takes no time.

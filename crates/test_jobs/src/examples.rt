@@ -1,10 +1,8 @@
 //! The examples of use in the docs of calls and types: each text there is that of a test here.
 use advance_rule::{EndPlan, StoredAdvance};
-use bsp_cli::{NoProgress, run_bytes};
-use devices::{Reader, Writer};
 use job_reader::read_job;
 use phase_records::JobStatus;
-use step_core::{Delivery, Round, run_alone};
+use step_core::{Delivery, JobSteps, Round, run_alone};
 use tier_shape::Shape;
 use worker_pool::{AllStart, OpenGate, run_job};
 
@@ -43,6 +41,20 @@ fn a_job_superstep_by_superstep(rt: HostRuntime) {
 }
 
 #[test]
+fn a_job_whose_prints_are_taken(rt: HostRuntime) {
+    let text = b"bsp 1\nbody b\nprint 7\nsync\nprint 8\nend\nstart b 0\n";
+    let job = read_job(rt.alloc(), text).expect(&rt, "a job");
+    let mut run = JobSteps::new(rt.alloc(), &job, 1000).expect(&rt, "memory");
+    for _ in 0..2 {
+        assert!(rt; run.step(rt.alloc()).is_ok());
+        // The run forgets the prints that are taken, so a long run needs no more memory than a short one.
+        assert!(rt; run.take_prints().len() == 1);
+        assert!(rt; run.take_records().len() == 1);
+    }
+    assert!(rt; matches!(run.status(), Some(JobStatus::Ended(2))));
+}
+
+#[test]
 fn a_job_on_workers(rt: HostRuntime) {
     let text = b"bsp 1\narray a 1\nbody b\nput a[0] = 7\nend\nstart b 0\n";
     let job = read_job(rt.alloc(), text).expect(&rt, "a job");
@@ -57,26 +69,4 @@ fn a_job_on_workers(rt: HostRuntime) {
         Ok(report) => assert!(rt; report.arrays.cell(0, 0) == Some(7)),
         Err(_) => panic!(rt; "a refused run"),
     }
-}
-
-#[test]
-fn a_job_from_bytes_to_bytes(rt: HostRuntime) {
-    let text = b"bsp 1\narray a 1\nbody b\nput a[0] = 7\nend\nstart b 0\n";
-    let mut printed = Vec::new(rt.alloc());
-    let shape = Shape::from_widths(rt.alloc(), "2").expect(&rt, "a shape");
-    // Four workers, at most 1000 supersteps, and no progress is reported.
-    let (mut reader, mut writer) = (Reader::new(text.as_slice()), Writer::new(&mut printed));
-    let status = run_bytes(
-        &rt,
-        rt.alloc(),
-        &mut reader,
-        &mut writer,
-        shape,
-        4,
-        1000,
-        None::<&NoProgress>,
-    );
-    assert!(rt; matches!(status, Ok(JobStatus::Ended(1))));
-    let want = b"phase 0 parties 1 left 1 spawned 0\narray a 7\nended 1\n";
-    assert!(rt; printed.as_slice() == want.as_slice());
 }

@@ -1,5 +1,5 @@
 use Rattle.std.proofs.Common.{arith, ap, length}
-use Rattle.job_program.proofs.Same.{starts_count, starts_paths}
+use Rattle.job_program.proofs.Starts.{starts_count, starts_paths}
 use Rattle.job_program.proofs.job.begin.Goals as goal
 
 pub returns-clause-few : goal.returns-clause-few

@@ -1,6 +1,6 @@
 use Rattle.std.proofs.Common.{◌≡◌, ◌++◌, map, length}
 use Rattle.text_lines.specs.Text.{words_of}
-use Rattle.step_core.specs.Program.{program_of}
+use Rattle.step_parts.specs.Program.{program_of}
 use Rattle.job_rows.specs.Drawing.{all_rows}
 use Rattle.job_rows.proofs.drawing.rows_by_name.Given as goal
 

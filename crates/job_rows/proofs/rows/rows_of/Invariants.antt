@@ -1,5 +1,5 @@
 use Rattle.std.proofs.Common.{◌≡◌, ◌-◌, ◌≤◌}
-use Rattle.step_core.specs.Program.{program_of}
+use Rattle.step_parts.specs.Program.{program_of}
 use Rattle.job_rows.specs.Rows.{rows}
 use Rattle.job_rows.proofs.Steps.{IsAt}
 use Rattle.job_rows.proofs.rows.rows_of.Given as goal
@@ -7,7 +7,7 @@ use Rattle.job_rows.proofs.rows.rows_of.Given as goal
 abbrev pub invariant-loop-done : goal.invariant-loop-done
 invariant-loop-done l = record {
   values : l.values.items ≡ rows (program_of l.job) l.limit l.name l.every l.done;
-  at : IsAt l.job l.limit l.every (l.done - 1) l.round;
+  at : IsAt l.job l.limit l.every (l.done - 1) l.run;
   some : 1 ≤ l.done;
   within : l.done ≤ l.count;
 }

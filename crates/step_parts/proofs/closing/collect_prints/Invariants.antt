@@ -1,6 +1,6 @@
 use Rattle.std.proofs.Common.{◌≡◌, ◌++◌, List, length}
 use Rattle.task_actions.specs.Meaning.{Plan}
-use Rattle.step_parts.specs.Superstep.{prints_of}
+use Rattle.programs.specs.Superstep.{prints_of}
 use Rattle.step_parts.specs.Slots.{slots_of, delivered}
 use Rattle.step_parts.proofs.closing.collect_prints.Given as goal
 

@@ -1,6 +1,6 @@
 use Rattle.std.proofs.Common.{◌≡◌, ◌≤◌, ◌+◌, ◌*◌, List, length}
 use Rattle.task_actions.specs.Meaning.{Plan}
-use Rattle.step_parts.specs.Superstep.{spawned, left}
+use Rattle.programs.specs.Superstep.{spawned, left}
 use Rattle.step_parts.specs.Slots.{slots_of, delivered}
 use Rattle.step_parts.specs.SlotParts.{AllSmall}
 use Rattle.step_parts.proofs.closing.record_of.Given as goal

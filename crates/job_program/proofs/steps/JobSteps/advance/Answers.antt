@@ -1,0 +1,10 @@
+use Rattle.std.proofs.Common.{◌+◌, ◌≤◌, arith}
+use Rattle.job_program.proofs.Stepped.{ended_on, more_on}
+use Rattle.job_program.proofs.steps.JobSteps.advance.Goals as goal
+
+pub returns-then-branch : goal.returns-then-branch
+returns-then-branch c =
+    let le : c.loop.counter + 1 ≤ c.args.count = omega (arith, c.loop-test.true) in
+    ended_on (c.loop.counter + 1) c.args.count c.args.self.now c.go_on.new.self
+    (more_on c.loop.counter c.args.self.now c.loop.self c.go_on.new.self c.loop.invariant c.in_ok-go_on.ensures.later)
+    (c.in_ok-go_on.ensures.over c.if-branch.true) le

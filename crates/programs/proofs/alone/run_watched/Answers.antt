@@ -1,0 +1,108 @@
+use Rattle.std.proofs.Common.{◌≡◌, ℕ, Bool, true, false, List, map, length, Option, Some, refl, sym, ap, ◌∙◌, subst}
+use Rattle.std.specs.Prelude.{ℤ, IfSome, not}
+use Rattle.std.specs.Option.{option_map, is_some}
+use Rattle.phase_records.specs.ReportValue.{ReportValue}
+use Rattle.phase_records.specs.Status.{Status}
+use Rattle.phase_records.specs.StatusSeen.{status_seen}
+use Rattle.phase_records.specs.declared.record.JobStatus.{JobStatus}
+use Rattle.programs.specs.History.{OfState, HasRunTo}
+use Rattle.programs.specs.Steps.{StepsValue, IsRunning, HasStepped, ended, left_by}
+use Rattle.programs.proofs.Reached.{IsWatched, reached_none, none_began, reached_more, began_more, seen_now, reached_end, stopped_by, to_limit, fewer_left, is_open, none_is, some_is, ok_is}
+use Rattle.programs.proofs.alone.run_watched.Goals as goal
+
+-- a run that hasn't ended goes on
+running : {S : Type 0} (v : StepsValue S) (r : Option JobStatus) (b : Bool) → v.failed ≡ false → option_map status_seen r ≡ ended v → is_some r ≡ not b → b ≡ true → IsRunning v
+running v r b sound e n t = record { sound = sound; going = sym e ∙ ap (option_map status_seen) (none_is r b n t) }
+
+-- what a watcher says of what it was shown it says of the run
+seen_as : {A S : Type 0} (W : ℕ → A → ℕ → Type 0) {m n : ℕ} {a b : A} {ts us : List S} → m ≡ n → a ≡ b → ts ≡ us → W m a (length ts) → W n b (length us)
+seen_as W {m} {n} {a} {b} {ts} {us} e f h w = subst (λ k. W k b (length us)) e (subst (λ x. W m x (length us)) f (subst (λ xs. W m a (length xs)) h w))
+
+pub loop-watch-init : goal.loop-watch-init
+loop-watch-init g c =
+    let q = c.args.program.now in
+    let f = g.P.Program.frame q in
+    let may = g.P.Program.may q in
+    let meant = g.P.Program.meant q in
+    let path = g.P.Task.OnPath.path_of in
+    let law = g.met.P.Program.keeps_paths q in
+    let tasks = map meant c.args.tasks.items in
+    subst (λ (v : StepsValue g.row.P-Task.Denot). IsWatched f may c.args.most meant path law c.args.arrays tasks c.args.limit (OfState g.W.Watch.goes) v) (sym c.new-steps.ensures.begun)
+    (record {
+      reached = reached_none f may c.args.most meant path law c.args.arrays tasks c.args.limit c.args.tasks.items refl;
+      went = none_began f may c.args.most meant path law c.args.arrays tasks c.args.limit (OfState g.W.Watch.goes);
+      ordered = c.new-steps.ensures.ordered q;
+    })
+
+pub returns-then-not-goes_on : goal.returns-then-not-goes_on
+returns-then-not-goes_on g c =
+    let q = c.args.program.now in
+    let f = g.P.Program.frame q in
+    let may = g.P.Program.may q in
+    let meant = g.P.Program.meant q in
+    let path = g.P.Task.OnPath.path_of in
+    let law = g.met.P.Program.keeps_paths q in
+    let tasks = map meant c.args.tasks.items in
+    let v = c.loop-watch.steps in
+    let h = c.loop-watch.invariant in
+    let run = running v c.status.result c.is_none.result h.reached.sound c.status.ensures.status c.is_none.ensures c.if-is_none.true in
+    let at = seen_as g.W.Watch.stops c.superstep.ensures c.arrays.ensures c.tasks.ensures (c.goes_on.ensures.stops c.if-not-goes_on.true) in
+    subst (λ (ts : List g.row.P-Task.Denot). HasRunTo g.W.Watch.stops g.W.Watch.goes f may c.args.most c.args.arrays tasks c.args.limit c.stop.result.report (map meant ts)) (sym c.stop.ensures.tasks)
+    (subst (λ (r : ReportValue). HasRunTo g.W.Watch.stops g.W.Watch.goes f may c.args.most c.args.arrays tasks c.args.limit r (map meant v.tasks)) (sym c.stop.ensures.report)
+    (stopped_by f may c.args.most meant path law c.args.arrays tasks c.args.limit g.W.Watch.stops g.W.Watch.goes v h.reached run h.went at))
+
+pub loop-watch-smaller : goal.loop-watch-smaller
+loop-watch-smaller g c =
+    let q = c.args.program.now in
+    let f = g.P.Program.frame q in
+    let may = g.P.Program.may q in
+    let meant = g.P.Program.meant q in
+    let path = g.P.Task.OnPath.path_of in
+    let law = g.met.P.Program.keeps_paths q in
+    let tasks = map meant c.args.tasks.items in
+    let v = c.loop-watch.steps in
+    let h = c.loop-watch.invariant in
+    let run = running v c.status.result c.is_none.result h.reached.sound c.status.ensures.status c.is_none.ensures c.if-is_none.true in
+    let t = ok_is c.step.result (HasStepped f may meant v c.step.new.self) (sym c.is_err.ensures.value ∙ c.if-is_err.false) (c.step.ensures.stepped run) in
+    fewer_left f may c.args.most meant path law c.args.arrays tasks c.args.limit v c.step.new.self run t
+
+pub loop-watch-preserved : goal.loop-watch-preserved
+loop-watch-preserved g c =
+    let q = c.args.program.now in
+    let f = g.P.Program.frame q in
+    let may = g.P.Program.may q in
+    let meant = g.P.Program.meant q in
+    let path = g.P.Task.OnPath.path_of in
+    let law = g.met.P.Program.keeps_paths q in
+    let tasks = map meant c.args.tasks.items in
+    let v = c.loop-watch.steps in
+    let h = c.loop-watch.invariant in
+    let run = running v c.status.result c.is_none.result h.reached.sound c.status.ensures.status c.is_none.ensures c.if-is_none.true in
+    let at = seen_as g.W.Watch.goes c.superstep.ensures c.arrays.ensures c.tasks.ensures (c.goes_on.ensures.goes c.if-not-goes_on.false) in
+    let t = ok_is c.step.result (HasStepped f may meant v c.step.new.self) (sym c.is_err.ensures.value ∙ c.if-is_err.false) (c.step.ensures.stepped run) in
+    let now = seen_now f may c.args.most meant path law c.args.arrays tasks c.args.limit g.W.Watch.goes v h.reached (is_open v run).fault at in
+    record {
+      reached = reached_more f may c.args.most meant path law c.args.arrays tasks c.args.limit v c.step.new.self h.reached run t;
+      went = began_more f may c.args.most meant path law c.args.arrays tasks c.args.limit (OfState g.W.Watch.goes) h.reached.history t.entries h.went now;
+      ordered = c.step.ensures.ordered;
+    }
+
+pub returns : goal.returns
+returns g c =
+    let q = c.args.program.now in
+    let f = g.P.Program.frame q in
+    let may = g.P.Program.may q in
+    let meant = g.P.Program.meant q in
+    let path = g.P.Task.OnPath.path_of in
+    let law = g.met.P.Program.keeps_paths q in
+    let tasks = map meant c.args.tasks.items in
+    let v = c.loop-watch.steps in
+    let h = c.loop-watch.invariant in
+    let some = some_is c.status.result c.is_none.result c.is_none.ensures c.if-is_none.false in
+    let s = status_seen some.0 in
+    let over : ended v ≡ Some s = sym c.status.ensures.status ∙ ap (option_map status_seen) some.1 in
+    let report : c.in-Some.ran.report ≡ left_by v s = subst (λ (o : Option Status). IfSome o (λ x. c.in-Some.ran.report ≡ left_by v x)) over c.in-Some.ensures.report in
+    subst (λ (ts : List g.row.P-Task.Denot). HasRunTo g.W.Watch.stops g.W.Watch.goes f may c.args.most c.args.arrays tasks c.args.limit c.in-Some.ran.report (map meant ts)) (sym c.in-Some.ensures.tasks)
+    (subst (λ (r : ReportValue). HasRunTo g.W.Watch.stops g.W.Watch.goes f may c.args.most c.args.arrays tasks c.args.limit r (map meant v.tasks)) (sym report)
+    (to_limit g.W.Watch.stops g.W.Watch.goes f may c.args.most c.args.arrays tasks c.args.limit (left_by v s) (map meant v.tasks)
+    (reached_end f may c.args.most meant path law c.args.arrays tasks c.args.limit v s h.reached over) h.went))

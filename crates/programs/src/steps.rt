@@ -1,0 +1,443 @@
+//! A run on one thread that is taken superstep by superstep: its live tasks are in one list, in path order, and are changed in place.
+ghost use Rattle.std.specs.Prelude.{◌≡◌, ◌≤◌, ◌+◌, ◌++◌, ◌∷◌, ◌^◌, ◌<◌, [], ◌↔◌, true, IsTrue, IfOk, OnOk, OnErr, map, length};
+ghost use Rattle.std.specs.Vec.{vec_len, vec_capacity};
+ghost use Rattle.superstep_memory.specs.Paths.{is_rising};
+ghost use Rattle.superstep_memory.specs.PathOrder.{in_path_order};
+ghost use Rattle.phase_records.specs.Status.{IsShort};
+ghost use Rattle.phase_records.specs.StatusSeen.{status_seen};
+ghost use Rattle.programs.specs.InPlace.{living_with, left_in, spawned_in};
+ghost use Rattle.programs.specs.Regroup.{AreNumbered};
+ghost use Rattle.programs.specs.Course.{HasTaken, HasRoom};
+
+use crate::alone::Ran;
+use crate::blame::{Blame, too_many};
+use crate::deeds::{Deeds, Regrouping};
+use crate::in_place::{StepScene, do_all};
+use crate::program::{OnPath, Program, TaskLoop};
+use crate::work::Work;
+use phase_records::{JobStatus, PhaseRecord, Print, Report};
+use std::alloc::{AllocError, Global};
+use std::marker::Model;
+use std::mem;
+use superstep_memory::arrays::Arrays;
+use superstep_memory::puts::Puts;
+
+// A run between two supersteps, its live tasks in path order.
+#[derive(Drop)]
+struct Course<T> {
+    step: u32,
+    arrays: Arrays,
+    tasks: Vec<T>,
+    prints: Vec<Print>,
+    records: Vec<PhaseRecord>,
+}
+
+// Working space for a superstep, kept from one to the next. What it holds between two means nothing.
+#[derive(Drop)]
+struct Space<T> {
+    work: Work<T>,
+    deeds: Deeds<T>,
+    room: Regrouping<T>,
+    olds: Vec<i64>,
+}
+
+// No space yet.
+fn no_space<T: OnPath>(alloc: Global) -> Space<T> {
+    Space {
+        work: Work {
+            puts: Puts::new(alloc),
+            own: Puts::new(alloc),
+            prints: Vec::new(alloc),
+            spawns: Vec::new(alloc),
+        },
+        deeds: Deeds::new(alloc),
+        room: Regrouping::new(alloc),
+        olds: Vec::new(alloc),
+    }
+}
+
+// Whether the same tasks live on.
+fn all_stay(told: PhaseRecord) -> bool
+    ensures { IsTrue result ↔ ((told.left ≡ 0) × (told.spawned ≡ 0)) }
+{
+    told.left == 0 && told.spawned == 0
+}
+
+// Makes room for the record of a superstep, and for the next live tasks if tasks came or left.
+fn make_room<T: OnPath>(
+    records: &mut Vec<PhaseRecord>,
+    room: &mut Regrouping<T>,
+    told: PhaseRecord,
+) -> Result<(), AllocError>
+    requires some { told.left ≤ told.parties }
+    ensures same { records.new.items ≡ records.old.items }
+    ensures record { OnOk result (vec_len records.new < vec_capacity records.new) }
+    ensures room { OnOk result (HasRoom told (vec_capacity room.new.living) (vec_capacity room.new.waiting)) }
+{
+    records.reserve(1)?;
+    if all_stay(told) {
+        return Ok(());
+    }
+    let count = (told.parties - told.left) as usize;
+    room.reserve(count, told.spawned as usize)
+}
+
+// Replaces the tasks by those that live on. Only where tasks came or left they are moved. It takes no memory.
+fn renew<T: OnPath>(
+    tasks: &mut Vec<T>,
+    deeds: &mut Deeds<T>,
+    room: &mut Regrouping<T>,
+    told: PhaseRecord,
+)
+    requires same { length tasks.old.items ≡ length deeds.old }
+    requires left { told.left ≡ left_in deeds.old }
+    requires spawned { told.spawned ≡ spawned_in deeds.old }
+    requires count { length (living_with tasks.old.items deeds.old) + told.left ≡ told.parties }
+    requires rising { is_rising (map T.path_of tasks.old.items) ≡ true }
+    requires numbered { AreNumbered T.path_of tasks.old.items deeds.old }
+    requires room { HasRoom told (vec_capacity room.old.living) (vec_capacity room.old.waiting) }
+    ensures { tasks.new.items ≡ in_path_order T.path_of (living_with tasks.old.items deeds.old) }
+{
+    if all_stay(told) {
+        return;
+    }
+    let count = (told.parties - told.left) as usize;
+    match deeds.regroup(tasks, room, count) {
+        Ok(()) => {}
+        Err(_) => unreachable!(),
+    }
+}
+
+// Records what the tasks did, whose log has landed, and goes on to the next live tasks. It takes no memory.
+fn go_on<T: OnPath>(course: &mut Course<T>, space: &mut Space<T>, told: PhaseRecord)
+    requires same { length course.old.tasks.items ≡ length space.old.deeds }
+    requires left { told.left ≡ left_in space.old.deeds }
+    requires spawned { told.spawned ≡ spawned_in space.old.deeds }
+    requires count { length (living_with course.old.tasks.items space.old.deeds) + told.left ≡ told.parties }
+    requires rising { is_rising (map T.path_of course.old.tasks.items) ≡ true }
+    requires numbered { AreNumbered T.path_of course.old.tasks.items space.old.deeds }
+    requires below { course.old.step + 1 < 2 ^ 32 }
+    requires record { vec_len course.old.records < vec_capacity course.old.records }
+    requires room { HasRoom told (vec_capacity space.old.room.living) (vec_capacity space.old.room.waiting) }
+    ensures step { course.new.step ≡ course.old.step + 1 }
+    ensures arrays { course.new.arrays ≡ course.old.arrays }
+    ensures tasks { course.new.tasks.items ≡ in_path_order T.path_of (living_with course.old.tasks.items space.old.deeds) }
+    ensures prints { course.new.prints.items ≡ course.old.prints.items }
+    ensures records { course.new.records.items ≡ course.old.records.items ++ told ∷ [] }
+{
+    course.records.push_reserved(told);
+    renew(&mut course.tasks, &mut space.deeds, &mut space.room, told);
+    course.step += 1;
+}
+
+// Takes one superstep, or returns the fault that ends the run in it. At most `most` tasks may live on. If memory runs out, the tasks
+// and what was printed mean nothing.
+fn take_superstep<P: TaskLoop>(
+    alloc: Global,
+    program: &P,
+    most: u32,
+    course: &mut Course<P::Task>,
+    space: &mut Space<P::Task>,
+) -> Result<Option<Blame>, AllocError>
+    requires ready { P.ready program.now }
+    requires most { most < 2 ^ 31 }
+    requires few { length course.old.tasks.items ≤ most }
+    requires rising { is_rising (map P.Task.path_of course.old.tasks.items) ≡ true }
+    requires below { course.old.step + 1 < 2 ^ 32 }
+    ensures taken { IfOk result (λ fault. let p = program.now in
+        HasTaken (P.frame p) (P.may p) most (P.meant p) P.Task.path_of fault course.old course.new) }
+    ensures memory { OnErr result ((course.new.step ≡ course.old.step) × (course.new.arrays ≡ course.old.arrays) × (course.new.records.items ≡ course.old.records.items)) }
+{
+    let printed = course.prints.len();
+    space.work.puts.clear();
+    space.deeds.clear();
+    let scene = StepScene {
+        program,
+        arrays: &course.arrays,
+        step: course.step,
+    };
+    let fault = do_all(
+        alloc,
+        &scene,
+        &mut course.tasks,
+        &mut space.work,
+        &mut space.deeds,
+        &mut course.prints,
+    )?;
+    match fault {
+        Some(blame) => {
+            course.prints.truncate(printed);
+            Ok(Some(blame))
+        }
+        None => {
+            if !space.deeds.are_few(most) {
+                course.prints.truncate(printed);
+                return Ok(Some(too_many(alloc)));
+            }
+            let told = space.deeds.record(course.step);
+            make_room(&mut course.records, &mut space.room, told)?;
+            let over = space.work.puts.land(&mut course.arrays, &mut space.olds)?;
+            match over {
+                Some(place) => {
+                    course.prints.truncate(printed);
+                    Ok(space.deeds.blame_at(&course.tasks, place))
+                }
+                None => {
+                    go_on(course, space, told);
+                    Ok(None)
+                }
+            }
+        }
+    }
+}
+
+/// A run on one thread that is taken superstep by superstep (own). The program may be another value, or of another type, at each
+/// superstep: what a task does is that of the program given then.
+#[derive(Drop)]
+pub struct Steps<T: OnPath> {
+    course: Course<T>,
+    space: Space<T>,
+    most: u32,
+    limit: u32,
+    // The fault that has ended the run.
+    fault: Option<Blame>,
+    // Whether memory ran out in a superstep.
+    failed: bool,
+}
+
+impl<T: OnPath> Model for Steps<T> {
+    ghost use Rattle.std.specs.Prelude.{◌≤◌, ◌<◌, ◌^◌, length};
+    ghost use Rattle.programs.specs.Steps.{StepsValue};
+
+    ghost Value = { StepsValue T };
+
+    ghost view = { λ s. record { step = s.course.step; arrays = s.course.arrays; tasks = s.course.tasks.items; prints = s.course.prints.items; records = s.course.records.items; fault = s.fault; failed = s.failed; most = s.most; limit = s.limit } };
+
+    ghost invariant = { λ s. (s.most < 2 ^ 31) × (length s.course.tasks.items ≤ s.most) × (s.course.step ≤ s.limit) };
+}
+
+// What a run leaves that ended so.
+fn leave<T: OnPath>(course: Course<T>, status: JobStatus) -> Ran<T>
+    requires { IsShort (status_seen status) }
+    ensures report { result.report ≡ record { prints = course.prints.items; records = course.records.items; arrays = course.arrays; status = status_seen status } }
+    ensures tasks { result.tasks.items ≡ course.tasks.items }
+{
+    let Course {
+        step: _,
+        arrays,
+        tasks,
+        prints,
+        records,
+    } = course;
+    let report = Report {
+        prints,
+        records,
+        arrays,
+        status,
+    };
+    Ran { report, tasks }
+}
+
+impl<T: OnPath> Steps<T> {
+    ghost use Rattle.std.specs.Prelude.{◌≡◌, ◌≤◌, ◌<◌, ◌^◌, [], true, false, None, IfOk, IfSome, OnOk, OnErr, MatchOption, IsSome, Ok, Err, map, length};
+    ghost use Rattle.std.specs.Option.{option_map};
+    ghost use Rattle.phase_records.specs.Status.{IsShort, Limit};
+    ghost use Rattle.phase_records.specs.StatusSeen.{status_seen};
+    ghost use Rattle.programs.specs.Meaning.{children};
+    ghost use Rattle.programs.specs.Order.{AreOrdered};
+    ghost use Rattle.programs.specs.Steps.{begun, ended, left_by, IsRunning, HasStepped};
+
+    /// Begins a run with these arrays and tasks, of which it has taken no superstep. At most `most` tasks may live at once, and at
+    /// most `limit` supersteps are taken. `P` is the type of the program of the first superstep: its tasks are in order.
+    pub fn new<P: Program<Task = T>>(
+        alloc: Global,
+        arrays: Arrays,
+        tasks: Vec<T>,
+        most: u32,
+        limit: u32,
+    ) -> Self
+        requires most { most < 2 ^ 31 }
+        requires few { length tasks.items ≤ most }
+        requires paths { map T.path_of tasks.items ≡ children [] 0 (length tasks.items) }
+        ensures begun { result ≡ begun arrays tasks.items most limit }
+        ensures ordered { (p : P) → AreOrdered (P.frame p) (map (P.meant p) tasks.items) }
+    {
+        Steps {
+            course: Course {
+                step: 0,
+                arrays,
+                tasks,
+                prints: Vec::new(alloc),
+                records: Vec::new(alloc),
+            },
+            space: no_space(alloc),
+            most,
+            limit,
+            fault: None,
+            failed: false,
+        }
+    }
+
+    /// Returns how the run has ended, or `None` if another superstep can be taken or memory has run out in one.
+    pub fn status(&self) -> Option<JobStatus>
+        ensures status { option_map status_seen result ≡ ended self.now }
+        ensures short { IfSome result (λ s. IsShort (status_seen s)) }
+    {
+        if self.failed {
+            return None;
+        }
+        let step = self.course.step;
+        if let Some(blame) = &self.fault {
+            return Some(blame.status(step));
+        }
+        if self.course.tasks.is_empty() {
+            return Some(JobStatus::Ended(step));
+        }
+        if step < self.limit {
+            return None;
+        }
+        Some(JobStatus::Limit(step))
+    }
+
+    /// Returns whether memory has run out in a superstep.
+    pub fn has_failed(&self) -> bool
+        ensures { result ≡ self.now.failed }
+    {
+        self.failed
+    }
+
+    /// Returns how many supersteps were taken.
+    pub fn superstep(&self) -> u32
+        ensures { result ≡ self.now.step }
+    {
+        self.course.step
+    }
+
+    /// Returns the arrays as the next superstep reads them.
+    pub fn arrays(&self) -> &Arrays
+        ensures { result.now ≡ self.now.arrays }
+    {
+        &self.course.arrays
+    }
+
+    /// Returns the live tasks, in path order. After a fault there are none.
+    pub fn tasks(&self) -> &[T]
+        ensures { result.now ≡ self.now.tasks }
+    {
+        &self.course.tasks
+    }
+
+    /// Returns what the supersteps printed since it was last taken, in order.
+    pub fn prints(&self) -> &[Print]
+        ensures { result.now ≡ self.now.prints }
+    {
+        &self.course.prints
+    }
+
+    /// Returns the records of the supersteps since they were last taken, in order.
+    pub fn records(&self) -> &[PhaseRecord]
+        ensures { result.now ≡ self.now.records }
+    {
+        &self.course.records
+    }
+
+    /// Returns the fault that has ended the run, if one did.
+    pub fn fault(&self) -> Option<&Blame>
+        ensures { option_map (λ b. b.now) result ≡ self.now.fault }
+    {
+        self.fault.as_ref()
+    }
+
+    /// Exchanges the live tasks for others. Whoever gives them sees to it that they are in path order, and apart with all that they
+    /// may spawn.
+    pub fn swap_tasks(&mut self, tasks: &mut Vec<T>)
+        requires few { length tasks.old.items ≤ self.old.most }
+        ensures given { self.new ≡ record self.old { tasks = tasks.old.items } }
+        ensures taken { tasks.new.items ≡ self.old.tasks }
+        ensures few { length tasks.new.items ≤ self.old.most }
+    {
+        mem::swap(&mut self.course.tasks, tasks);
+    }
+
+    /// Gives away what the supersteps printed since it was last taken, in order.
+    pub fn take_prints(&mut self) -> Vec<Print>
+        ensures given { result.items ≡ self.old.prints }
+        ensures kept { self.new ≡ record self.old { prints = [] } }
+    {
+        let none = Vec::new(*self.course.prints.allocator());
+        mem::replace(&mut self.course.prints, none)
+    }
+
+    /// Gives away the records of the supersteps since they were last taken, in order.
+    pub fn take_records(&mut self) -> Vec<PhaseRecord>
+        ensures given { result.items ≡ self.old.records }
+        ensures kept { self.new ≡ record self.old { records = [] } }
+    {
+        let none = Vec::new(*self.course.records.allocator());
+        mem::replace(&mut self.course.records, none)
+    }
+
+    /// Returns what the run leaves, or `None` if it hasn't ended.
+    pub fn into_report(self) -> Option<Ran<T>>
+        ensures report { MatchOption result (ended self ≡ None) (λ ran. IfSome (ended self) (λ s. ran.report ≡ left_by self s)) }
+        ensures tasks { IfSome result (λ ran. ran.tasks.items ≡ self.tasks) }
+    {
+        let status = self.status()?;
+        let Steps { course, .. } = self;
+        Some(leave(course, status))
+    }
+
+    /// Returns what a run leaves that ends here, as at a limit of so many supersteps.
+    pub fn stop(self) -> Ran<T>
+        ensures report { result.report ≡ left_by self (Limit self.step) }
+        ensures tasks { result.tasks.items ≡ self.tasks }
+    {
+        let Steps { course, .. } = self;
+        let status = JobStatus::Limit(course.step);
+        leave(course, status)
+    }
+
+    /// Takes one superstep: each live task does its segment, one after another, by path. Then their puts land. Returns how the run
+    /// has ended, or `None` if another superstep can be taken. After the end, changes nothing.
+    ///
+    /// The live tasks have to be in path order, and apart with all that they may spawn. They are as the run begins, and after a
+    /// superstep of this program; whoever gives another program sees to it that they are by its values too.
+    ///
+    /// If memory runs out, the tasks are lost and the run can't go on: each later call fails too. The arrays and records are those
+    /// before the superstep.
+    pub fn step<P: TaskLoop<Task = T>>(
+        &mut self,
+        alloc: Global,
+        program: &P,
+    ) -> Result<Option<JobStatus>, AllocError>
+        requires ready { P.ready program.now }
+        requires ordered { AreOrdered (P.frame program.now) (map (P.meant program.now) self.old.tasks) }
+        ensures over { IsSome (ended self.old) → OnOk result (self.new ≡ self.old) × OnErr result ⊥ }
+        ensures failed { self.old.failed ≡ true → OnErr result (self.new ≡ self.old) × OnOk result ⊥ }
+        ensures stepped { IsRunning self.old → OnOk result (let p = program.now in HasStepped (P.frame p) (P.may p) (P.meant p) self.old self.new) }
+        ensures memory { IsRunning self.old → OnErr result (self.new ≡ record self.old { tasks = []; prints = []; failed = true }) }
+        ensures status { IfOk result (λ s. option_map status_seen s ≡ ended self.new) }
+        ensures ordered { AreOrdered (P.frame program.now) (map (P.meant program.now) self.new.tasks) }
+    {
+        if self.failed {
+            return Err(AllocError);
+        }
+        let before = self.status();
+        if before.is_some() {
+            return Ok(before);
+        }
+        let Ok(fault) = take_superstep(alloc, program, self.most, &mut self.course, &mut self.space)
+        else {
+            self.course.tasks.clear();
+            self.course.prints.clear();
+            self.failed = true;
+            return Err(AllocError);
+        };
+        let Some(blame) = fault else {
+            return Ok(self.status());
+        };
+        self.course.tasks.clear();
+        self.fault = Some(blame);
+        Ok(self.status())
+    }
+}
