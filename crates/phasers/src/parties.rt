@@ -1,9 +1,10 @@
 //! Members of a tree that arrive together. One exchange of a word counts all of them, however many they are.
 
-ghost use Rattle.std.specs.Prelude.{◌≡◌, ◌<◌, ◌≤◌, ◌+◌, ◌-◌, [], All, IfErr, IfOk, length};
+ghost use Rattle.std.specs.Prelude.{◌≡◌, ◌<◌, ◌≤◌, ◌+◌, ◌-◌, ℕ, Some, [], All, IfErr, IfOk, length};
 ghost use Rattle.std.specs.Vec.{vec_capacity};
-ghost use Rattle.tier_calls.specs.ArrivesAll.{PollsAll};
+ghost use Rattle.tier_calls.specs.ArrivesAll.{PollsAll, AllCaughtUpBy};
 ghost use Rattle.tier_calls.specs.ArrivesWith.{OnlySplit};
+ghost use Rattle.tier_calls.specs.Polls as polls;
 ghost use Rattle.tier_calls.specs.Splits.{SplitAt};
 ghost use Rattle.tier_calls.specs.Waited.{PollAllWaited};
 ghost use Rattle.tier_table.specs.GroupsAtLast.{ArrivesAllAtLast, ArrivesWithAtLast, AwaitsAll, MeetsAll, tokens_arrived};
@@ -387,6 +388,8 @@ impl<'a, A: OnAdvance> Parties<'a, A> {
     pub fn poll(&mut self) -> Polled
         ensures answer { PollsAll self.old self.new result }
         ensures waited { PollAllWaited self.old self.new result }
+        ensures caught_up { AllCaughtUpBy result self.new }
+        ensures ended { (phase : ℕ) → self.old.view.end_seen ≡ Some phase → polls.HasEnded result }
     {
         let shared = self.shared;
         shared.tiers.poll_all(&mut self.group)

@@ -398,6 +398,10 @@ pub first_fresh_all : {w : Fields} {old mid : GroupHeld} → AllLooked 0 w 0 old
 first_fresh_all {w} {old} {mid} r going =
     subst IsFresh (sym r.view) (looked_fresh w old.view going (none_of old.view.end_seen (λ p is. not_both w.ended (end_found old.tree.key.shape w old.view p (first_beside r) is) going)))
 
+-- a token that has seen the end finds no root that goes on
+pub unseen_all : {A : Type 0} {w : Fields} {old mid : GroupHeld} → AllLooked 0 w 0 old mid → w.ended ≡ false → (phase : ℕ) → old.view.end_seen ≡ Some phase → A
+unseen_all {A} {w} {old} {mid} r going p is = not_both w.ended (end_found old.tree.key.shape w old.view p (first_beside r) is) going
+
 looks_waits : (a b c : List Kind) → Looks a b → OnlyLooks b c → HasLooked a c
 looks_waits a b c p q = subst (λ (k : List Kind). MadeOnly is_quiet k c) p q
 

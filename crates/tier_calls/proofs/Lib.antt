@@ -24,6 +24,7 @@ pub mod Arrivals
 pub mod LastOnes
 pub mod Exchanging
 pub mod ArrivingAll
+pub mod CatchingUp
 pub mod Splitting
 pub mod NewTokens
 pub mod ExchangeTry

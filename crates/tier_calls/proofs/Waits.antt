@@ -48,11 +48,11 @@ module _ (h h' new : Holding) (crew : IsCrew h) (took : Looked Look 0 h h') (goi
   fresh : IsFresh new.view
   fresh = subst IsFresh (sym same) (first_fresh took going)
 
-  pub polls_here : (phase : ℕ) → phase ≡ h'.view.phase → Polls h new (Here phase)
-  polls_here phase is =
+  pub polls_here : (phase : ℕ) → phase ≡ h'.view.phase → h'.view.phase ≡ h.view.phase → Polls h new (Here phase)
+  polls_here phase is stays =
       let b = took.after in
       let fits = (mine h.tree.key.shape b.words b.front b.back h'.view b.tally).within in
-      (soon, looked_so, fresh, subst (λ (v : View). v.arrived < v.size) (sym same) (omega arith), is ∙ ap (λ (v : View). v.phase) (sym same), made)
+      (soon, looked_so, fresh, subst (λ (v : View). v.arrived < v.size) (sym same) (omega arith), is ∙ ap (λ (v : View). v.phase) (sym same), made, ap (λ (v : View). v.phase) same ∙ stays)
 
   pub polls_passed : (phase : ℕ) → phase ≡ h'.view.phase → h'.view.phase ≢ h.view.phase → Polls h new (Passed phase)
   polls_passed phase is other =

@@ -1,16 +1,18 @@
 -- What all arrivals of several tokens answer, and what each token did (not part of Java's API).
-use Rattle.std.specs.Prelude.{◌≡◌, ℕ, ◌+◌, ◌≤◌, ◌<◌, true, false, Option, Some, List, [], ◌∷◌}
+use Rattle.std.specs.Prelude.{◌≡◌, ℕ, ◌+◌, ◌≤◌, ◌<◌, ◌⊎◌, true, false, Option, Some, List, [], ◌∷◌}
+use Rattle.phaser_word.specs.Fields.{Fields}
 use Rattle.phaser_word.specs.Phase.{next_phase_of}
 use Rattle.tier_steps.specs.declared.view.View.{View}
 use Rattle.tier_steps.specs.declared.view.Passage.TheVariants.{Arrival}
 use Rattle.tier_steps.specs.declared.kind.Kind.{Kind}
 use Rattle.tier_steps.specs.declared.kind.Kind.TheVariants.{Arrive, Look}
+use Rattle.tier_steps.specs.Step.{CanRefresh}
 use Rattle.tier_rule.specs.declared.sight.Sight.{Sight}
 use Rattle.tier_calls.specs.Holding.{Holding, first_of, no_sight, sight_held}
 use Rattle.tier_calls.specs.Made.{MadeOnly, is_quiet, HasLooked, HasStepped}
 use Rattle.tier_calls.specs.Passes.{IsSame, EndSeen, IsFresh}
 use Rattle.tier_calls.specs.Arrives.{IsLooked}
-use Rattle.tier_calls.specs.Groups.{GroupHeld}
+use Rattle.tier_calls.specs.Groups.{GroupHeld, AllLost}
 use Rattle.tier_calls.specs.Splits.{AreTogether}
 use Rattle.tier_calls.specs.LastOnes.{tokens_in}
 use Rattle.tier_calls.specs.declared.groups.TriedAll.{TriedAll}
@@ -106,15 +108,20 @@ pub record HavePassed (old new : View) : Type 0 where
   pub here : AllHere from new
   pub unled : new.led ≡ false
 
--- What each answer says. After Done nobody owes anything. After Owing the errand's token owes a climb or the advance. After the other answers nothing was counted, and before Busy all tries
--- were made.
+-- What each answer says. After Done nobody owes anything. After Owing the errand's token owes a climb or the advance. After the other answers nothing was counted. AlreadyArrived follows the
+-- look that begins the call, alone, and before Busy all tries were made.
 abbrev pub ArrivesAll : GroupHeld → ℕ → ArrivedAll → Type 0
 ArrivesAll old tries (answer.Done group phase) = (group.tree ≡ old.tree) × HavePassed old.view group.view × (phase ≡ group.view.phase) × Each (Did (HasStepped Arrival) tries) old.tokens group.tokens
 ArrivesAll old tries (answer.Owing errand rest) = (errand.token.tree ≡ old.tree) × HavePassed old.view errand.token.view × ((c : GroupHeld) → rest ≡ Some c → (c.tree ≡ old.tree) × HavePassed old.view c.view × AreTogether errand.token.view c.view)
     × Each (Did (HasStepped Arrival) tries) old.tokens (sight_held errand.token ∷ tokens_in rest)
-ArrivesAll old tries (answer.AlreadyArrived group phase) = (group.tree ≡ old.tree) × IsLooked old.view group.view × IsFresh group.view × (group.view.arrived ≡ 1) × (phase ≡ group.view.phase) × Each (Did HasLooked tries) old.tokens group.tokens
+ArrivesAll old tries (answer.AlreadyArrived group phase) = (group.tree ≡ old.tree) × IsLooked old.view group.view × IsFresh group.view × (group.view.arrived ≡ 1) × (phase ≡ group.view.phase) × Each (Did Looks 0) old.tokens group.tokens
 ArrivesAll old tries (answer.Ended group shown) = (group.tree ≡ old.tree) × IsLooked old.view group.view × EndSeen group.view shown × Each (Did HasLooked tries) old.tokens group.tokens
 ArrivesAll old tries (answer.Busy group) = (group.tree ≡ old.tree) × IsLooked old.view group.view × (group.view.arrived ≡ 0) × Each (Did HasLooked tries) old.tokens group.tokens × HasSpent tries old.tokens group.tokens
+
+-- the answer says that the tree has ended
+abbrev pub HasEnded : ArrivedAll → Type 0
+HasEnded (answer.Ended group shown) = Unit {0}
+HasEnded _ = ⊥
 
 -- all members had arrived in the phase before, and this one is the next
 pub record AllPassedOn (old new : View) : Type 0 where
@@ -122,9 +129,24 @@ pub record AllPassedOn (old new : View) : Type 0 where
   pub next : new.phase ≡ next_phase_of old.phase
   pub nobody : new.arrived ≡ 0
 
--- What a poll by all tokens answers.
+-- What a poll by all tokens answers. Here says that no phase has passed since the look before.
 abbrev pub PollsAll : GroupHeld → GroupHeld → Polled → Type 0
 PollsAll old new (Passed phase) = (new.tree ≡ old.tree) × IsLooked old.view new.view × IsFresh new.view × AllPassedOn old.view new.view × (phase ≡ new.view.phase) × Each (Did HasLooked 1) old.tokens new.tokens
 PollsAll old new Waiting = (new.tree ≡ old.tree) × IsLooked old.view new.view × IsFresh new.view × (new.view.arrived ≡ 1) × Each (Did HasLooked 1) old.tokens new.tokens
 PollsAll old new (Here phase) = (new.tree ≡ old.tree) × IsLooked old.view new.view × IsFresh new.view × (new.view.arrived ≡ 0) × (phase ≡ new.view.phase) × Each (Did HasLooked 1) old.tokens new.tokens
+    × (new.view.phase ≡ old.view.phase)
 PollsAll old new (Ended shown) = (new.tree ≡ old.tree) × IsLooked old.view new.view × EndSeen new.view shown × Each (Did HasLooked 1) old.tokens new.tokens
+
+-- The first token's last step was at the tokens' tier, which is now in their phase. Or that step was a try to bring the tier into it, and the try was lost.
+abbrev pub HaveCaughtUp : GroupHeld → Type 0
+HaveCaughtUp new =
+    ((first_of no_sight new.tokens).tier ≡ new.view.tier)
+    × (((first_of no_sight new.tokens).word.phase ≡ new.view.phase)
+    ⊎ ((before : GroupHeld) × (from : Fields) × (other : Fields) × CanRefresh before.view.tier from before.view × AllLost from other before new))
+
+-- if the members are to arrive, their tier was brought into their phase
+abbrev pub AllCaughtUpBy : Polled → GroupHeld → Type 0
+AllCaughtUpBy (Passed phase) new = HaveCaughtUp new
+AllCaughtUpBy Waiting new = Unit {0}
+AllCaughtUpBy (Here phase) new = HaveCaughtUp new
+AllCaughtUpBy (Ended shown) new = Unit {0}

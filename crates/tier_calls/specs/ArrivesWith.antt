@@ -74,6 +74,11 @@ ArrivesWith tries joining leaving old (answer.AlreadyArrived group phase) = Firs
 ArrivesWith tries joining leaving old (answer.Ended group shown) = (mid : GroupHeld) × FirstLook old mid × KeepsSoon tries mid group × EndSeen group.view shown
 ArrivesWith tries joining leaving old (answer.Busy group) = OnlyTried tries old group
 
+-- the answer says that the tree has ended
+abbrev pub HasEnded : ArrivedWith → Type 0
+HasEnded (answer.Ended group shown) = Unit {0}
+HasEnded _ = ⊥
+
 -- a door off which seats were split
 pub record OnlySplit (old new : Holding) : Type 0 where
   pub tree : new.tree ≡ old.tree

@@ -71,3 +71,8 @@ JoinsAll tries n old (answer.Full group count) = (used : ℕ) × (used < tries) 
 JoinsAll tries n old (answer.AlreadyArrived group phase) = FirstLook old group × IsFresh group.view × (group.view.arrived ≡ 1) × (phase ≡ group.view.phase)
 JoinsAll tries n old (answer.Ended group shown) = (mid : GroupHeld) × FirstLook old mid × KeepsSoon tries mid group × EndSeen group.view shown
 JoinsAll tries n old (answer.Busy group) = OnlyTried tries old group
+
+-- the answer says that the tree has ended
+abbrev pub HasEnded : JoinedAll → Type 0
+HasEnded (answer.Ended group shown) = Unit {0}
+HasEnded _ = ⊥

@@ -14,7 +14,7 @@ use Rattle.tier_calls.specs.Made.{MadeOnly, is_quiet, HasLooked}
 use Rattle.tier_calls.specs.Passes.{HasCounted, EndSeen, IsFresh}
 use Rattle.tier_calls.specs.Arrives.{IsLooked, HasPassed}
 use Rattle.tier_calls.specs.Groups.{GroupHeld, AllLost}
-use Rattle.tier_calls.specs.ArrivesAll.{Each, Did, HasSpent, KeepsAll, KeepsSoon}
+use Rattle.tier_calls.specs.ArrivesAll.{Each, Did, HasSpent, Looks, KeepsAll, KeepsSoon}
 use Rattle.tier_calls.specs.declared.leaving_all.LeavingTry.{LeavingTry}
 use Rattle.tier_calls.specs.declared.leaving_all.LeavingTry.TheVariants as once
 use Rattle.tier_calls.specs.declared.leaving_all.TriedLeaving.{TriedLeaving}
@@ -82,11 +82,16 @@ TriesLeaving tries old (tried.Left door) = HasCounted Departure old.view door.vi
 TriesLeaving tries old (tried.Owing errand) = HasCounted Departure old.view errand.token.view × LeftLast LeavesOnce tries old errand.token
 TriesLeaving tries old (tried.Ended group word) = KeepsSoon tries old group × (word.ended ≡ true) × (group.view.end_seen ≡ Some word.phase)
 
--- What each answer says. After Left the door owes nothing. After Owing the errand's token owes a climb or the advance. After the other answers nothing was counted, and
--- before Busy all tries were made.
+-- What each answer says. After Left the door owes nothing. After Owing the errand's token owes a climb or the advance. After the other answers nothing was counted.
+-- AlreadyArrived follows the look that begins the call, alone, and before Busy all tries were made.
 abbrev pub LeavesAll : GroupHeld → ℕ → LeftAll → Type 0
 LeavesAll old tries (answer.Left door phase) = HasPassed Departure old.view door.view × (phase ≡ door.view.phase) × LeftEarly LooksAndLeaves tries old door
 LeavesAll old tries (answer.Owing errand) = HasPassed Departure old.view errand.token.view × LeftLast LooksAndLeaves tries old errand.token
-LeavesAll old tries (answer.AlreadyArrived group phase) = (group.tree ≡ old.tree) × IsLooked old.view group.view × IsFresh group.view × (group.view.arrived ≡ 1) × (phase ≡ group.view.phase) × Each (Did HasLooked tries) old.tokens group.tokens
+LeavesAll old tries (answer.AlreadyArrived group phase) = (group.tree ≡ old.tree) × IsLooked old.view group.view × IsFresh group.view × (group.view.arrived ≡ 1) × (phase ≡ group.view.phase) × Each (Did Looks 0) old.tokens group.tokens
 LeavesAll old tries (answer.Ended group shown) = (group.tree ≡ old.tree) × IsLooked old.view group.view × EndSeen group.view shown × Each (Did HasLooked tries) old.tokens group.tokens
 LeavesAll old tries (answer.Busy group) = (group.tree ≡ old.tree) × IsLooked old.view group.view × (group.view.arrived ≡ 0) × Each (Did HasLooked tries) old.tokens group.tokens × HasSpent tries old.tokens group.tokens
+
+-- the answer says that the tree has ended
+abbrev pub HasEnded : LeftAll → Type 0
+HasEnded (answer.Ended group shown) = Unit {0}
+HasEnded _ = ⊥

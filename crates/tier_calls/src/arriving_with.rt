@@ -349,7 +349,8 @@ impl Tiers {
 impl Tiers {
     ghost use Rattle.tier_calls.specs.NewTokens.{IsEager};
     ghost use Rattle.tier_calls.specs.ArrivesAll.{KeepsAll};
-    ghost use Rattle.tier_calls.specs.ArrivesWith.{TriesWith, ArrivesWith, OnlySplit};
+    ghost use Rattle.std.specs.Prelude.{ℕ, Some};
+    ghost use Rattle.tier_calls.specs.ArrivesWith.{TriesWith, ArrivesWith, HasEnded, OnlySplit};
 
     /// Makes at most one try by which all tokens pass their tier, after a load of its word. If the tier lags, the try brings
     /// it into the tokens' phase instead. The new tokens are split off the door.
@@ -438,6 +439,7 @@ impl Tiers {
         requires few { leaving ≤ length group.tokens }
         requires come { leaving < joining + length group.tokens }
         ensures answer { ArrivesWith tries joining leaving group result }
+        ensures ended { (phase : ℕ) → group.view.end_seen ≡ Some phase → HasEnded result }
         ensures door { OnlySplit door.old door.new }
     {
         // Only for the prover: brings in that the tree has a root.

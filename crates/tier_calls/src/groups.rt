@@ -1,12 +1,13 @@
 //! Several tokens with one member each in one seat, which take their steps by one access to a word for all of them.
 
-ghost use Rattle.std.specs.Prelude.{false, ◌≡◌, ◌+◌, ◌-◌, ◌<◌, ◌≤◌, take, drop, ◌∷◌, [], length, IfSome, MatchOption, option_map};
+ghost use Rattle.std.specs.Prelude.{false, ◌≡◌, ◌+◌, ◌-◌, ◌<◌, ◌≤◌, ℕ, Some, take, drop, ◌∷◌, [], length, IfSome, MatchOption, option_map};
 ghost use Rattle.phaser_word.specs.Fields.{IsLegal};
 ghost use Rattle.tier_steps.specs.Step.{CanPass, CanRefresh};
 ghost use Rattle.tier_rule.specs.Group.{AreOf, Among, LookedAll};
 ghost use Rattle.tier_calls.specs.Splits.{SplitAt, AreTogether, Together};
 ghost use Rattle.tier_calls.specs.Settles.{HaveAllArrived, Settles};
-ghost use Rattle.tier_calls.specs.ArrivesAll.{KeepsAll, KeepsSoon, TriesAll, ArrivesAll, PollsAll};
+ghost use Rattle.tier_calls.specs.ArrivesAll.{KeepsAll, KeepsSoon, TriesAll, ArrivesAll, PollsAll, HaveCaughtUp, AllCaughtUpBy, HasEnded};
+ghost use Rattle.tier_calls.specs.Polls as polls;
 ghost use Rattle.tier_calls.specs.Waited.{PollAllWaited};
 ghost use Rattle.tier_rule.specs.declared.sight.Key.{Key};
 ghost use Rattle.tier_calls.specs.Holding.{sight_held};
@@ -363,7 +364,8 @@ impl Tiers {
         requires among { Among self.now.key.shape group.old.view.tier word (those group.old.tokens) }
         requires may { CanRefresh group.old.view.tier word group.old.view }
         requires unarrived { group.old.view.arrived ≡ 0 }
-        ensures { KeepsAll 1 group.old group.new }
+        ensures kept { KeepsAll 1 group.old group.new }
+        ensures caught_up { HaveCaughtUp group.new }
     {
         let tier = group.view.tier;
         let next = step_word(Kind::Refresh, tier, word, &group.view);
@@ -424,7 +426,8 @@ impl Tiers {
     /// to do after each answer.
     pub fn arrive_all(&self, mut group: Group, tries: u32) -> ArrivedAll
         requires own { group.tree ≡ self.now }
-        ensures { ArrivesAll group tries result }
+        ensures answer { ArrivesAll group tries result }
+        ensures ended { (phase : ℕ) → group.view.end_seen ≡ Some phase → HasEnded result }
     {
         // Only for the prover: brings in that the tree has a root.
         let _ = self.shape();
@@ -454,6 +457,7 @@ impl Tiers {
         requires unarrived { group.old.view.arrived ≡ 0 }
         ensures kept { KeepsSoon 1 group.old group.new }
         ensures root { group.old.view.tier ≡ 0 → group.new.view ≡ group.old.view }
+        ensures caught_up { (group.old.view.tier ≡ 0 → HaveCaughtUp group.old) → HaveCaughtUp group.new }
     {
         let tier = group.tier();
         if tier == 0 {
@@ -473,6 +477,8 @@ impl Tiers {
         requires own { group.old.tree ≡ self.now }
         ensures answer { PollsAll group.old group.new result }
         ensures waited { PollAllWaited group.old group.new result }
+        ensures caught_up { AllCaughtUpBy result group.new }
+        ensures ended { (phase : ℕ) → group.old.view.end_seen ≡ Some phase → polls.HasEnded result }
     {
         // Only for the prover: brings in that the tree has a root.
         let _ = self.shape();

@@ -1,11 +1,11 @@
 //! Registrations of several tokens at once.
 
-ghost use Rattle.std.specs.Prelude.{◌≡◌, ◌+◌, ◌<◌, ◌≤◌, length};
+ghost use Rattle.std.specs.Prelude.{◌≡◌, ◌+◌, ◌<◌, ◌≤◌, ℕ, Some, length};
 ghost use Rattle.phaser_word.specs.Fields.{IsLegal};
 ghost use Rattle.tier_steps.specs.Step.{CanPass};
 ghost use Rattle.tier_calls.specs.ArrivesWith.{OnlySplit};
 ghost use Rattle.tier_calls.specs.NewTokens.{AreBlank, IsEager};
-ghost use Rattle.tier_calls.specs.JoinsAll.{sights_joined, TriesJoining, TriesToJoin, JoinsAll};
+ghost use Rattle.tier_calls.specs.JoinsAll.{sights_joined, TriesJoining, TriesToJoin, JoinsAll, HasEnded};
 ghost use Rattle.tier_calls.specs.Groups.{joined_more};
 
 use crate::arriving_with::NewTokens;
@@ -186,6 +186,7 @@ impl Tiers {
     pub fn join_all(&self, mut group: Group, door: &mut Door, n: u32, tries: u32) -> JoinedAll
         requires own { (door.old.tree ≡ self.now) × (group.tree ≡ self.now) }
         ensures answer { JoinsAll tries n group result }
+        ensures ended { (phase : ℕ) → group.view.end_seen ≡ Some phase → HasEnded result }
         ensures door { OnlySplit door.old door.new }
     {
         // Only for the prover: brings in that the tree has a root.

@@ -1,13 +1,13 @@
 //! The exchange by which all members of a group leave their tier.
 
-ghost use Rattle.std.specs.Prelude.{◌≡◌, ◌<◌, ◌≤◌, length, false};
+ghost use Rattle.std.specs.Prelude.{◌≡◌, ◌<◌, ◌≤◌, ℕ, Some, length, false};
 ghost use Rattle.phaser_word.specs.Fields.{IsLegal};
 ghost use Rattle.tier_shape.specs.Parents.{parent_of};
 ghost use Rattle.tier_steps.specs.Step.{CanPass, owed};
 ghost use Rattle.tier_steps.specs.declared.view.Passage.TheVariants.{Departure};
 ghost use Rattle.tier_calls.specs.Groups.{left_less};
 ghost use Rattle.tier_calls.specs.LastOnes.{IsLast};
-ghost use Rattle.tier_calls.specs.LeavesAll.{TriesOnce, TriesLeaving, LeavesAll};
+ghost use Rattle.tier_calls.specs.LeavesAll.{TriesOnce, TriesLeaving, LeavesAll, HasEnded};
 
 use crate::going::Going;
 use crate::groups::{Group, view_glanced};
@@ -195,7 +195,8 @@ impl Tiers {
     /// may also bring the tier into the root's phase. See [`LeftAll`] for what to do after each answer.
     pub fn leave_all(&self, mut group: Group, tries: u32) -> LeftAll
         requires own { group.tree ≡ self.now }
-        ensures { LeavesAll group tries result }
+        ensures answer { LeavesAll group tries result }
+        ensures ended { (phase : ℕ) → group.view.end_seen ≡ Some phase → HasEnded result }
     {
         // Only for the prover: brings in that the tree has a root.
         let _ = self.shape();

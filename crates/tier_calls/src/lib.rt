@@ -48,7 +48,7 @@
 //! * `proofs/Grouping.antt`: a group's seat; `Arrivals.antt`, `LastOnes.antt`, `LeavingAll.antt`, `Exchanging.antt`: their
 //!   exchanges; `ExchangeTry.antt`, `JoiningTry.antt`: one try of these; `ArrivingAll.antt`, `ExchangeTries.antt`,
 //!   `JoiningTries.antt`, `LeavingTries.antt`: what each token did; `Splitting.antt`, `Few.antt`, `Settled.antt`: groups that
-//!   split and go together; `Registering.antt`: a new group.
+//!   split and go together; `CatchingUp.antt`: the tier after a poll; `Registering.antt`: a new group.
 #![tactic(auto)]
 
 pub mod arriving;

@@ -9,7 +9,7 @@ use Rattle.tier_calls.specs.RegistersAll.{AreRegistered}
 use Rattle.tier_calls.specs.declared.going.Going.{Going}
 use Rattle.tier_calls.specs.declared.joining_all.JoinedAll.TheVariants as joined
 use Rattle.tier_calls.specs.declared.leaving_all.LeftAll.TheVariants as left
-use Rattle.tier_table.specs.AtLast.{ResumesAtLast, ResumedBy, RegistersAtLast}
+use Rattle.tier_table.specs.AtLast.{ResumesAtLast, ResumedBy, RegistersAtLast, LedAtLast}
 use Rattle.tier_table.specs.GroupsAtLast.{IsBefore}
 use Rattle.tier_table.specs.declared.waiting.ArrivedAtLast.TheVariants as counted
 use Rattle.tier_table.specs.declared.waiting.RegisteredAtLast.TheVariants as admitted
@@ -27,12 +27,12 @@ JoinsAllAtLast tries n old (group_joined.Full new parties) = (last : GroupHeld) 
 JoinsAllAtLast tries n old (group_joined.AlreadyArrived new phase) = (last : GroupHeld) × IsBefore old last × JoinsAll tries n last (joined.AlreadyArrived new phase)
 JoinsAllAtLast tries n old (group_joined.Ended new shown) = (last : GroupHeld) × IsBefore old last × JoinsAll tries n last (joined.Ended new shown)
 
--- All members have left, by one exchange. If they were the last of their tier, what follows was done too.
+-- All members have left, by one exchange. If they were the last of their tier, what follows was done too; the call advanced the tree only if all had arrived.
 abbrev pub AllLeaveAtLast : ℕ → GroupHeld → Holding → ℕ → Bool → Type 0
 AllLeaveAtLast tries last door phase led =
     (LeavesAll last tries (left.Left door phase) × (led ≡ false))
     ⊎ ((errand : Going) × LeavesAll last tries (left.Owing errand) × ResumesAtLast errand.token (counted.Left door phase led) × (door.opened ≡ errand.token.opened)
-    × ResumedBy errand.token.steps (counted.Left door phase led))
+    × ResumedBy errand.token.steps (counted.Left door phase led) × LedAtLast (counted.Left door phase led))
 
 -- what a departure of all members answers
 abbrev pub LeavesAllAtLast : ℕ → GroupHeld → GroupLeft → Type 0

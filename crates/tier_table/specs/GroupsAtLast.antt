@@ -5,7 +5,7 @@ use Rattle.tier_calls.specs.Passes.{IsSame}
 use Rattle.tier_calls.specs.Arrives.{IsLooked}
 use Rattle.tier_calls.specs.Made.{HasLooked}
 use Rattle.tier_calls.specs.Groups.{GroupHeld}
-use Rattle.tier_calls.specs.ArrivesAll.{Each, Did, ArrivesAll, PollsAll}
+use Rattle.tier_calls.specs.ArrivesAll.{Each, Did, ArrivesAll, PollsAll, AllCaughtUpBy}
 use Rattle.tier_calls.specs.ArrivesWith.{ArrivesWith}
 use Rattle.tier_calls.specs.Finishes.{IsWhole}
 use Rattle.tier_calls.specs.Waited.{PollAllWaited, WaitedFor}
@@ -14,7 +14,7 @@ use Rattle.tier_calls.specs.declared.groups.ArrivedAll.TheVariants as arrived
 use Rattle.tier_calls.specs.declared.arriving_with.ArrivedWith.TheVariants as arrived_with
 use Rattle.tier_calls.specs.declared.polling.Polled.{Polled}
 use Rattle.tier_calls.specs.declared.polling.Polled.TheVariants as polled
-use Rattle.tier_table.specs.AtLast.{ResumesAtLast, ResumedBy}
+use Rattle.tier_table.specs.AtLast.{ResumesAtLast, ResumedBy, LedAtLast}
 use Rattle.tier_table.specs.declared.waiting.ArrivedAtLast.TheVariants as counted
 use Rattle.tier_table.specs.declared.waiting.AwaitedAdvance.{AwaitedAdvance}
 use Rattle.tier_table.specs.declared.waiting.AwaitedAdvance.TheVariants as awaited
@@ -32,10 +32,11 @@ pub record HaveLookedOn (old new : GroupHeld) : Type 0 where
 abbrev pub IsBefore : GroupHeld → GroupHeld → Type 0
 IsBefore old last = (last ≡ old) ⊎ HaveLookedOn old last
 
--- the rest of an arrival that was counted: what the token owes, and then its group as a whole
+-- the rest of an arrival that was counted: what the token owes, and then its group as a whole; the call advanced the tree only if all had arrived
 abbrev pub FinishesAtLast : Holding → Option GroupHeld → GroupHeld → ℕ → Bool → Type 0
 FinishesAtLast h others new phase led =
     (crew : Holding) × ResumesAtLast h (counted.Done crew phase led) × (crew.opened ≡ h.opened) × ResumedBy h.steps (counted.Done crew phase led) × IsWhole crew others new
+    × LedAtLast (counted.Done crew phase led)
 
 -- All members have arrived, by one exchange. If they were the last of their tier, what follows was done too.
 abbrev pub AllArriveAtLast : ℕ → GroupHeld → GroupHeld → ℕ → Bool → Type 0
@@ -81,6 +82,8 @@ pub record AwaitsAll (old new : GroupHeld) (answer : AwaitedAdvance) : Type 0 wh
   pub polls : PollsAll last new (polled_of answer)
   -- the phase has passed only after all members of all tokens had arrived in it
   pub all : PollAllWaited last new (polled_of answer)
+  -- if the members are to arrive, their tier was brought into their phase
+  pub caught_up : AllCaughtUpBy (polled_of answer) new
 
 -- the tokens that an answer returns
 abbrev pub tokens_arrived : GroupArrived → GroupHeld

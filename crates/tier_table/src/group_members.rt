@@ -1,12 +1,15 @@
 //! Registrations and departures of groups of tokens.
 
-ghost use Rattle.std.specs.Prelude.{◌≡◌, ◌<◌, ◌≤◌, MatchResult, length};
+ghost use Rattle.std.specs.Prelude.{◌≡◌, ◌<◌, ◌≤◌, ℕ, Some, MatchResult, length};
 ghost use Rattle.advance_rule.specs.Stored.{Answers};
 ghost use Rattle.advance_rule.specs.Plan.{end_ends_at};
 ghost use Rattle.tier_calls.specs.ArrivesWith.{OnlySplit};
 ghost use Rattle.tier_calls.specs.JoinsAll.{JoinsAll};
+ghost use Rattle.tier_calls.specs.JoinsAll as joins_all;
 ghost use Rattle.tier_calls.specs.LeavesAll.{LeavesAll};
+ghost use Rattle.tier_calls.specs.LeavesAll as leaves_all;
 ghost use Rattle.tier_calls.specs.RegistersAll.{RegistersAll};
+ghost use Rattle.tier_calls.specs.RegistersAll as registers_all;
 ghost use Rattle.tier_table.specs.GroupsAtLast.{HaveLookedOn};
 ghost use Rattle.tier_table.specs.GroupMembersAtLast.{JoinsAllAtLast, LeavesAllAtLast, OthersJoin, RegistersAllAtLast, tokens_joined, tree_left, tree_registered};
 
@@ -213,6 +216,7 @@ impl<F: Fn(u32, u32) -> bool> Tree<F> {
     pub fn join_all(&self, group: Group, door: &mut Door, n: u32, tries: u32) -> JoinedAll
         requires own { (door.old.tree ≡ self.now.tree) × (group.tree ≡ self.now.tree) }
         ensures answer { JoinsAll tries n group result }
+        ensures ended { (phase : ℕ) → group.view.end_seen ≡ Some phase → joins_all.HasEnded result }
         ensures door { OnlySplit door.old door.new }
     {
         self.tiers.join_all(group, door, n, tries)
@@ -241,7 +245,8 @@ impl<F: Fn(u32, u32) -> bool> Tree<F> {
         requires own { door.tree ≡ self.now.tree }
         requires tier { tier < length self.now.tree.key.shape }
         requires some { 0 < n }
-        ensures { RegistersAll door tier n tries result }
+        ensures answer { RegistersAll door tier n tries result }
+        ensures ended { (phase : ℕ) → door.view.end_seen ≡ Some phase → registers_all.HasEnded result }
     {
         self.tiers.register_all(door, tier, n, tries)
     }
@@ -268,7 +273,8 @@ impl<F: Fn(u32, u32) -> bool> Tree<F> {
     /// are counted by one exchange, however many they are. See [`LeftAll`] for the answers.
     pub fn leave_all(&self, group: Group, tries: u32) -> LeftAll
         requires own { group.tree ≡ self.now.tree }
-        ensures { LeavesAll group tries result }
+        ensures answer { LeavesAll group tries result }
+        ensures ended { (phase : ℕ) → group.view.end_seen ≡ Some phase → leaves_all.HasEnded result }
     {
         self.tiers.leave_all(group, tries)
     }

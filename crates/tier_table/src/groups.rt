@@ -1,11 +1,14 @@
 //! Groups of tokens in a tree. One exchange lets all members of a group arrive, however many they are.
 
-ghost use Rattle.std.specs.Prelude.{◌≡◌, ◌<◌, ◌≤◌, ◌+◌, IfSome, MatchResult, length};
+ghost use Rattle.std.specs.Prelude.{◌≡◌, ◌<◌, ◌≤◌, ◌+◌, ℕ, Some, IfSome, MatchResult, length};
 ghost use Rattle.advance_rule.specs.Stored.{Answers};
 ghost use Rattle.advance_rule.specs.Plan.{end_ends_at};
-ghost use Rattle.tier_calls.specs.ArrivesAll.{ArrivesAll, PollsAll};
+ghost use Rattle.tier_calls.specs.ArrivesAll.{ArrivesAll, PollsAll, AllCaughtUpBy};
+ghost use Rattle.tier_calls.specs.ArrivesAll as arrives_all;
 ghost use Rattle.tier_calls.specs.ArrivesWith.{ArrivesWith, OnlySplit};
+ghost use Rattle.tier_calls.specs.ArrivesWith as arrives_with;
 ghost use Rattle.tier_calls.specs.Finishes.{IsBeside, Finishes};
+ghost use Rattle.tier_calls.specs.Polls as polls;
 ghost use Rattle.tier_calls.specs.Splits.{SplitAt, AreTogether, Together};
 ghost use Rattle.tier_calls.specs.Waited.{PollAllWaited};
 ghost use Rattle.tier_table.specs.GroupsAtLast.{HaveLookedOn, FinishesAtLast, ArrivesAllAtLast, ArrivesWithAtLast, AwaitsAfter, AwaitsAll, MeetsAll, tokens_arrived};
@@ -246,7 +249,8 @@ impl<F: Fn(u32, u32) -> bool> Tree<F> {
     /// counted by one exchange, however many they are. See [`ArrivedAll`] for the answers.
     pub fn arrive_all(&self, group: Group, tries: u32) -> ArrivedAll
         requires own { group.tree ≡ self.now.tree }
-        ensures { ArrivesAll group tries result }
+        ensures answer { ArrivesAll group tries result }
+        ensures ended { (phase : ℕ) → group.view.end_seen ≡ Some phase → arrives_all.HasEnded result }
     {
         self.tiers.arrive_all(group, tries)
     }
@@ -278,6 +282,7 @@ impl<F: Fn(u32, u32) -> bool> Tree<F> {
         requires few { leaving ≤ length group.tokens }
         requires come { leaving < joining + length group.tokens }
         ensures answer { ArrivesWith tries joining leaving group result }
+        ensures ended { (phase : ℕ) → group.view.end_seen ≡ Some phase → arrives_with.HasEnded result }
         ensures door { OnlySplit door.old door.new }
     {
         self.tiers.arrive_with(door, group, joining, leaving, tries)
@@ -316,11 +321,14 @@ impl<F: Fn(u32, u32) -> bool> Tree<F> {
         self.tiers.finish(errand, others, &self.rule, tries)
     }
 
-    /// Checks once for all tokens of `group` whether their phase is over. Doesn't wait. The answers are those of `poll`.
+    /// Checks once for all tokens of `group` whether their phase is over. Doesn't wait. Brings their tier into the root's
+    /// phase if that tier lags, with at most one try. The answers are those of `poll`.
     pub fn poll_all(&self, group: &mut Group) -> Polled
         requires own { group.old.tree ≡ self.now.tree }
         ensures answer { PollsAll group.old group.new result }
         ensures waited { PollAllWaited group.old group.new result }
+        ensures caught_up { AllCaughtUpBy result group.new }
+        ensures ended { (phase : ℕ) → group.old.view.end_seen ≡ Some phase → polls.HasEnded result }
     {
         self.tiers.poll_all(group)
     }

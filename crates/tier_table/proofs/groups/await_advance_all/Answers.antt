@@ -19,13 +19,13 @@ pub loop-preserved-derived : goal.loop-preserved-derived
 loop-preserved-derived g c = (tt, tt)
 
 pub returns-in-Passed-clause-answer : goal.returns-in-Passed-clause-answer
-returns-in-Passed-clause-answer g c = record { last = c.loop.group; waited = c.loop.invariant.2; polls = c.in-Passed.ensures.answer; all = c.in-Passed.ensures.waited }
+returns-in-Passed-clause-answer g c = record { last = c.loop.group; waited = c.loop.invariant.2; polls = c.in-Passed.ensures.answer; all = c.in-Passed.ensures.waited; caught_up = c.in-Passed.ensures.caught_up }
 
 pub returns-in-Here-clause-answer : goal.returns-in-Here-clause-answer
-returns-in-Here-clause-answer g c = record { last = c.loop.group; waited = c.loop.invariant.2; polls = c.in-Here.ensures.answer; all = tt }
+returns-in-Here-clause-answer g c = record { last = c.loop.group; waited = c.loop.invariant.2; polls = c.in-Here.ensures.answer; all = tt; caught_up = c.in-Here.ensures.caught_up }
 
 pub returns-in-Ended-clause-answer : goal.returns-in-Ended-clause-answer
-returns-in-Ended-clause-answer g c = let told = c.in-Ended.ensures.answer in record { last = c.loop.group; waited = c.loop.invariant.2; polls = (told.0, told.1, (told.2.0, told.2.1, search rules), told.3); all = c.in-Ended.ensures.waited }
+returns-in-Ended-clause-answer g c = let told = c.in-Ended.ensures.answer in record { last = c.loop.group; waited = c.loop.invariant.2; polls = (told.0, told.1, (told.2.0, told.2.1, search rules), told.3); all = c.in-Ended.ensures.waited; caught_up = tt }
 
 pub unreachable-requires : goal.unreachable-requires
 unreachable-requires g c = false≢true c.in-None.ensures.steps

@@ -6,7 +6,7 @@ use Rattle.phaser_word.specs.Fields.{Fields}
 use Rattle.phaser_word.specs.Phase.{shown_of}
 use Rattle.tier_calls.specs.Holding.{Named}
 use Rattle.tier_calls.specs.Groups.{GroupHeld}
-use Rattle.tier_calls.proofs.ArrivingAll.{first_look, first_fresh_all, end_shown_all, keeps_none, keeps_soon, to_arrive}
+use Rattle.tier_calls.proofs.ArrivingAll.{first_look, unseen_all, first_fresh_all, end_shown_all, keeps_none, keeps_soon, to_arrive}
 use Rattle.tier_calls.proofs.ExchangeTries.{eager_first}
 use Rattle.tier_calls.proofs.JoiningTries.{only_tried}
 use Rattle.tier_calls.proofs.tiers.Tiers.join_all.Goals as goal
@@ -55,3 +55,15 @@ returns-in-Ended-clause-answer c =
     let e = c.in-Ended.ensures.went in
     let f : SFits w32 c.shown-in-Ended.result = search rules in
     (c.look_all-root.new.group, first_look c.look_all-root.ensures, e.0, (c.in-Ended.word.phase, e.2, to_z-of_z w32 c.shown-in-Ended.result f ∙ c.shown-in-Ended.ensures ∙ ap (shown_of c.in-Ended.word.phase) e.1))
+
+pub returns-then-group-eq1-clause-ended : goal.returns-then-group-eq1-clause-ended
+returns-then-group-eq1-clause-ended c = unseen_all c.look_all-root.ensures (ap (λ (w : Fields). w.ended) (sym c.root.view_is) ∙ c.if-root.false)
+
+pub returns-in-Yet-clause-ended : goal.returns-in-Yet-clause-ended
+returns-in-Yet-clause-ended c = unseen_all c.look_all-root.ensures (ap (λ (w : Fields). w.ended) (sym c.root.view_is) ∙ c.if-root.false)
+
+pub returns-in-Joined-clause-ended : goal.returns-in-Joined-clause-ended
+returns-in-Joined-clause-ended c = unseen_all c.look_all-root.ensures (ap (λ (w : Fields). w.ended) (sym c.root.view_is) ∙ c.if-root.false)
+
+pub returns-in-Full-clause-ended : goal.returns-in-Full-clause-ended
+returns-in-Full-clause-ended c = unseen_all c.look_all-root.ensures (ap (λ (w : Fields). w.ended) (sym c.root.view_is) ∙ c.if-root.false)

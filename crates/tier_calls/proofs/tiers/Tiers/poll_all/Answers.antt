@@ -6,7 +6,8 @@ use Rattle.phaser_word.specs.Fields.{Fields}
 use Rattle.phaser_word.specs.Phase.{shown_of}
 use Rattle.tier_calls.specs.Holding.{Named}
 use Rattle.tier_calls.specs.Groups.{GroupHeld}
-use Rattle.tier_calls.proofs.ArrivingAll.{first_look, first_fresh_all, end_shown_all, no_more, waited, to_arrive, fresh_still, passed_on, all_waited, all_end}
+use Rattle.tier_calls.proofs.ArrivingAll.{first_look, unseen_all, first_fresh_all, end_shown_all, no_more, waited, to_arrive, fresh_still, passed_on, all_waited, all_end}
+use Rattle.tier_calls.proofs.CatchingUp.{all_caught_up_at_root}
 use Rattle.tier_calls.proofs.tiers.Tiers.poll_all.Goals as goal
 
 pub returns-then-word-clause-answer : goal.returns-then-word-clause-answer
@@ -33,7 +34,7 @@ returns-then-phase-before-clause-answer c =
     let w = waited 1 (first_look c.look_all-word.ensures) c.catch_up_all.ensures.kept in
     let none = to_arrive c.look_all-word.new.group.view c.look_all-word.ensures.group.view (λ e. c.if-group-eq1.false (ap (λ (z : GroupHeld). z.view.arrived) c.group.view_is ∙ e)) in
     let fresh = fresh_still 1 c.look_all-word.ensures (ap (λ (w : Fields). w.ended) (sym c.word.view_is) ∙ c.if-word.false) c.catch_up_all.ensures.kept c.catch_up_all.ensures.root in
-    (w.tree, w.looked, fresh, c.catch_up_all.ensures.kept.kept.view.same.arrived ∙ none, c.phase-phase.ensures, w.tokens)
+    (w.tree, w.looked, fresh, c.catch_up_all.ensures.kept.kept.view.same.arrived ∙ none, c.phase-phase.ensures, w.tokens, sym c.phase-phase.ensures ∙ (c.if-phase-before.true ∙ c.phase-before.ensures))
 
 pub returns-clause-answer : goal.returns-clause-answer
 returns-clause-answer c =
@@ -50,3 +51,20 @@ returns-clause-waited c =
 
 pub returns-then-word-clause-waited : goal.returns-then-word-clause-waited
 returns-then-word-clause-waited c = all_end c.look_all-word.ensures (ap (λ (w : Fields). w.ended) (sym c.word.view_is) ∙ c.if-word.true)
+
+pub returns-then-phase-before-clause-caught_up : goal.returns-then-phase-before-clause-caught_up
+returns-then-phase-before-clause-caught_up c =
+    c.catch_up_all.ensures.caught_up (λ own. all_caught_up_at_root c.look_all-word.ensures (λ e. c.if-group-eq1.false (ap (λ (z : GroupHeld). z.view.arrived) c.group.view_is ∙ e)) own)
+
+pub returns-clause-caught_up : goal.returns-clause-caught_up
+returns-clause-caught_up c =
+    c.catch_up_all.ensures.caught_up (λ own. all_caught_up_at_root c.look_all-word.ensures (λ e. c.if-group-eq1.false (ap (λ (z : GroupHeld). z.view.arrived) c.group.view_is ∙ e)) own)
+
+pub returns-then-group-eq1-clause-ended : goal.returns-then-group-eq1-clause-ended
+returns-then-group-eq1-clause-ended c = unseen_all c.look_all-word.ensures (ap (λ (w : Fields). w.ended) (sym c.word.view_is) ∙ c.if-word.false)
+
+pub returns-then-phase-before-clause-ended : goal.returns-then-phase-before-clause-ended
+returns-then-phase-before-clause-ended c = unseen_all c.look_all-word.ensures (ap (λ (w : Fields). w.ended) (sym c.word.view_is) ∙ c.if-word.false)
+
+pub returns-clause-ended : goal.returns-clause-ended
+returns-clause-ended c = unseen_all c.look_all-word.ensures (ap (λ (w : Fields). w.ended) (sym c.word.view_is) ∙ c.if-word.false)

@@ -1,5 +1,6 @@
 use Rattle.tier_calls.proofs.Grouping.{looked_crowd}
 use Rattle.tier_calls.proofs.ArrivingAll.{refresh_runs, refresh_may, refreshed_crowd, refreshed_keeps, lost_keeps}
+use Rattle.tier_calls.proofs.CatchingUp.{refreshed_caught_up, lost_caught_up}
 use Rattle.tier_calls.proofs.tiers.Tiers.refresh_first.Goals as goal
 
 pub step_word-next-requires : goal.step_word-next-requires
@@ -16,9 +17,16 @@ invariant_of-group c =
 pub invariant_of-group-in_default : goal.invariant_of-group-in_default
 invariant_of-group-in_default c = refreshed_crowd c.group.invariant c.in_default.ensures.gone
 
-pub returns-in-Some : goal.returns-in-Some
-returns-in-Some c =
+pub returns-in-Some-clause-kept : goal.returns-in-Some-clause-kept
+returns-in-Some-clause-kept c =
     lost_keeps c.group.inside.seat.me c.go_together.new.seat.me c.group.invariant c.group.view_is c.requires.own c.requires.unarrived c.go_together.ensures.table c.in-Some.ensures.gone c.view_glanced-group-inside.ensures
 
-pub returns-in_default : goal.returns-in_default
-returns-in_default c = refreshed_keeps c.group.inside.seat.me c.go_together.new.seat.me c.group.invariant c.group.view_is c.go_together.ensures.table c.in_default.ensures.gone
+pub returns-in_default-clause-kept : goal.returns-in_default-clause-kept
+returns-in_default-clause-kept c = refreshed_keeps c.group.inside.seat.me c.go_together.new.seat.me c.group.invariant c.group.view_is c.go_together.ensures.table c.in_default.ensures.gone
+
+pub returns-in-Some-clause-caught_up : goal.returns-in-Some-clause-caught_up
+returns-in-Some-clause-caught_up c =
+    lost_caught_up c.group.inside.seat.me c.go_together.new.seat.me c.group.invariant c.group.view_is c.requires.own c.requires.unarrived c.requires.may c.go_together.ensures.table c.in-Some.ensures.gone c.view_glanced-group-inside.ensures
+
+pub returns-in_default-clause-caught_up : goal.returns-in_default-clause-caught_up
+returns-in_default-clause-caught_up c = refreshed_caught_up c.group.inside.seat.me c.go_together.new.seat.me c.group.invariant c.in_default.ensures.gone

@@ -12,7 +12,7 @@ returns-then-word c =
     (keeps_soon 0 1 (omega arith) (looked_yet c.look_all-word.ensures c.tier-tier.ensures c.requires.unarrived), e, end_shown_all c.look_all-word.ensures e)
 
 pub returns-then-is_behind : goal.returns-then-is_behind
-returns-then-is_behind c = keeps_then 0 1 1 refl (looked_yet c.look_all-word.ensures c.tier-tier.ensures c.requires.unarrived) c.refresh_first.ensures
+returns-then-is_behind c = keeps_then 0 1 1 refl (looked_yet c.look_all-word.ensures c.tier-tier.ensures c.requires.unarrived) c.refresh_first.ensures.kept
 
 pub arrive_early-lost-requires-clause-may : goal.arrive_early-lost-requires-clause-may
 arrive_early-lost-requires-clause-may c =

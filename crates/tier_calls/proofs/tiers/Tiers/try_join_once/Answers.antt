@@ -15,7 +15,7 @@ returns-then-word-clause-went c =
     (keeps_soon 0 1 (omega arith) (looked_yet c.look_all-word.ensures c.tier-tier.ensures c.requires.unarrived), e, end_shown_all c.look_all-word.ensures e)
 
 pub returns-then-is_behind-clause-went : goal.returns-then-is_behind-clause-went
-returns-then-is_behind-clause-went c = keeps_then 0 1 1 refl (looked_yet c.look_all-word.ensures c.tier-tier.ensures c.requires.unarrived) c.refresh_first.ensures
+returns-then-is_behind-clause-went c = keeps_then 0 1 1 refl (looked_yet c.look_all-word.ensures c.tier-tier.ensures c.requires.unarrived) c.refresh_first.ensures.kept
 
 pub returns-then-n-word-clause-went : goal.returns-then-n-word-clause-went
 returns-then-n-word-clause-went c =
