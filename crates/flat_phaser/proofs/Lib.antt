@@ -3,5 +3,4 @@ pub mod Everyone
 pub mod Places
 pub mod Alikeness
 pub mod Runs
-pub mod Firsts
 pub mod Coming
