@@ -4,7 +4,7 @@ use Rattle.job_view.specs.Look.{LookValue}
 use Rattle.bsp_cli.specs.Did.{Did}
 use Rattle.bsp_cli.specs.Ends.{Does}
 use Rattle.bsp_cli.specs.Texts.{fault_text, fault_status}
-use Rattle.bsp_cli.specs.declared.asked.Asked.{Asked}
+use Rattle.bsp_words.specs.declared.asked.Asked.{Asked}
 use Rattle.bsp_cli.specs.declared.fault.RunFault.{RunFault}
 use Rattle.bsp_cli.specs.declared.fault.RunFault.TheVariants.{Text, Read, Write, Memory, NotStarted, Internal}
 

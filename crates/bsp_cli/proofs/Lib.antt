@@ -1,10 +1,5 @@
-mod Clashes
-mod Decimals
 mod Faulted
-mod Limits
 mod Listings
-mod Numbers
-mod Parsed
 mod Refusals
 mod RunJobs
 mod StreamJobs

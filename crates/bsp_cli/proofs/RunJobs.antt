@@ -21,7 +21,7 @@ use Rattle.std.specs.Io.KnownBytes.{Appends, Keeps}
 use Rattle.devices.specs.Device.{AppendsBeginning}
 use Rattle.bsp_cli.specs.Drawn.{drawn, program_told}
 use Rattle.bsp_cli.specs.Ends.{IsOfPool, ReadCause, WriteCause, Reports, Runs, Draws, Does, end_result}
-use Rattle.bsp_cli.specs.declared.asked.Asked.TheVariants.{Run, RunJson, Draw}
+use Rattle.bsp_words.specs.declared.asked.Asked.TheVariants.{Run, RunJson, Draw}
 use Rattle.bsp_cli.specs.declared.fault.RunFault.{RunFault}
 use Rattle.bsp_cli.specs.declared.fault.RunFault.TheVariants.{Text, Read, Write, Memory, NotStarted, Internal}
 

@@ -16,7 +16,7 @@ use Rattle.step_core.specs.JobMeaning.{report_of}
 use Rattle.job_stream.specs.Streamed as stream
 use Rattle.bsp_cli.specs.Jobs.{program_of_tree, status_number}
 use Rattle.bsp_cli.specs.Ends.{IsOfPool, Reports, RunsStream, StreamsJob, Does, end_result}
-use Rattle.bsp_cli.specs.declared.asked.Asked.TheVariants.{RunStream}
+use Rattle.bsp_words.specs.declared.asked.Asked.TheVariants.{RunStream}
 use Rattle.bsp_cli.specs.declared.fault.RunFault.{RunFault}
 use Rattle.bsp_cli.specs.declared.fault.RunFault.TheVariants.{Text, Read, Write, Memory, NotStarted, Internal}
 use Rattle.bsp_cli.proofs.RunJobs.{if-some, left, same-program, small}

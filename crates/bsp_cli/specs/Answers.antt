@@ -3,9 +3,9 @@ use Rattle.std.specs.Prelude.{◌≡◌, ◌≢◌, ◌≤◌, ◌⊎◌, ℕ, t
 use Rattle.std.specs.Io.KnownBytes.{Appends}
 use Rattle.clap.specs.declared.error.kind.ErrorKind.TheVariants as kinds
 use Rattle.tier_shape.specs.Told.{shape_told}
-use Rattle.bsp_cli.specs.CommandLine.{asked_in, look_asked, refused_by, tree_asked}
-use Rattle.bsp_cli.specs.Did.{Did, ReadsNothing, are_refused}
-use Rattle.bsp_cli.specs.Texts.{CountsFailures, Says, Tells, WritesSome, version_line}
+use Rattle.bsp_words.specs.CommandLine.{are_refused, asked_in, look_asked, refused_by, tree_asked, version_line}
+use Rattle.bsp_cli.specs.Did.{Did, ReadsNothing}
+use Rattle.bsp_cli.specs.Texts.{CountsFailures, Says, Tells, WritesSome}
 
 -- Devices before and after a run: a device as a whole, what it holds or will give, and how often it failed.
 pub record Around (D : Type 0) : Type 0 where

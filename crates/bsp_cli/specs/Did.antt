@@ -1,6 +1,5 @@
 -- What the program did, by its status.
-use Rattle.std.specs.Prelude.{◌≡◌, ◌≤◌, ◌<◌, ◌⊎◌, ℕ, Bool, true, false, List, [], ◌∷◌, Option, IfSome, Err}
-use Rattle.std.specs.List.{list_all}
+use Rattle.std.specs.Prelude.{◌≡◌, ◌≤◌, ◌<◌, ◌⊎◌, ℕ, List, Option, IfSome, Err}
 use Rattle.std.specs.Io.KnownBytes.{Appends, Keeps}
 use Rattle.text_lines.specs.declared.refusal.Refusal.{Refusal}
 use Rattle.phase_records.specs.ReportText.{report_text}
@@ -10,15 +9,12 @@ use Rattle.trace_text.specs.Trace.{asked_of}
 use Rattle.trace_text.specs.Outcome.{WritesAnswers, WritesBeginning}
 use Rattle.job_reader.specs.Reading.{job_in}
 use Rattle.job_faults.specs.Listing.{listing}
-use Rattle.clap.specs.declared.error.kind.ErrorKind.{ErrorKind}
-use Rattle.clap.specs.declared.error.kind.ErrorKind.TheVariants as kinds
-use Rattle.clap.specs.Words.{Kinds}
 use Rattle.bsp_cli.specs.Drawn.{drawn_in}
 use Rattle.bsp_cli.specs.Jobs.{WritesCanonical, BeginsCanonical, BeginsListing, WritesUpgraded, BeginsUpgraded, WritesReport, BeginsReport, WritesSteps}
 use Rattle.bsp_cli.specs.Texts.{refusal_line, worker_line}
-use Rattle.bsp_cli.specs.Topics.{WritesTopic, BeginsTopic}
-use Rattle.bsp_cli.specs.declared.asked.Asked.{Asked}
-use Rattle.bsp_cli.specs.declared.asked.Asked.TheVariants.{Trace, Check, CheckAll, Upgrade, Run, RunJson, RunStream, Draw, Explain}
+use Rattle.bsp_cli.specs.Explained.{WritesTopic, BeginsTopic}
+use Rattle.bsp_words.specs.declared.asked.Asked.{Asked}
+use Rattle.bsp_words.specs.declared.asked.Asked.TheVariants.{Trace, Check, CheckAll, Upgrade, Run, RunJson, RunStream, Draw, Explain}
 
 -- the input was read, and all that is asked for was written
 abbrev pub Finishes : Asked → LookValue → List ℕ → Option (List ℕ) → Option (List ℕ) → ℕ → Type 0
@@ -86,13 +82,3 @@ pub record Did (a : Asked) (look : LookValue) (input old new : Option (List ℕ)
   pub not_started : status ≡ 7 → Keeps old new × (k : ℕ) × IsWorkerOf a k × told (worker_line k)
   pub failed : status ≡ 8 → Keeps old new ⊎ IfSome input (λ bytes. Begins a look bytes old new)
   pub internal : status ≡ 9 → StopsShort a input old new
-
--- words that are refused: neither taken nor a call for help or for the version
-abbrev pub is_refusal : ErrorKind → Bool
-is_refusal kinds.DisplayHelp = false
-is_refusal kinds.DisplayVersion = false
-is_refusal kind = true
-
-abbrev pub are_refused : Kinds → Bool
-are_refused [] = false
-are_refused (k ∷ ks) = list_all is_refusal (k ∷ ks)

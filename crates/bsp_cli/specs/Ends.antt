@@ -21,11 +21,10 @@ use Rattle.job_stream.specs.Streamed.{Streams}
 use Rattle.job_stream.specs.declared.fault.StreamFault.TheVariants as stream
 use Rattle.bsp_cli.specs.Did.{Finishes, Begins, Lists, Refuses, RunsOut, StopsShort, IsWorkerOf}
 use Rattle.bsp_cli.specs.Texts.{fault_status}
-use Rattle.bsp_cli.specs.Topics.{WritesTopic, BeginsTopic}
-use Rattle.bsp_cli.specs.declared.asked.Topic.{Topic}
-use Rattle.bsp_cli.specs.declared.asked.Topic.TheVariants.{All, Code, Fault, TraceCode}
-use Rattle.bsp_cli.specs.declared.asked.Asked.{Asked}
-use Rattle.bsp_cli.specs.declared.asked.Asked.TheVariants.{Run, RunJson, RunStream, Draw, Explain}
+use Rattle.bsp_cli.specs.Explained.{WritesTopic, BeginsTopic}
+use Rattle.bsp_words.specs.declared.asked.Topic.{Topic}
+use Rattle.bsp_words.specs.declared.asked.Asked.{Asked}
+use Rattle.bsp_words.specs.declared.asked.Asked.TheVariants.{RunStream}
 use Rattle.bsp_cli.specs.declared.fault.RunFault.{RunFault}
 use Rattle.bsp_cli.specs.declared.fault.RunFault.TheVariants.{Text, Read, Write, Memory, NotStarted, Internal}
 
@@ -163,22 +162,6 @@ Does a look input old new (Err Memory) = RunsOut a input old new
 Does a look input old new (Err (NotStarted k)) = Keeps old new × IsWorkerOf a k
 Does a look input old new (Err Internal) = StopsShort a input old new
 Does a look input old new _ = Keeps old new
-
--- there is such a code or fault
-abbrev pub IsTopic : Topic → Type 0
-IsTopic All = Unit {0}
-IsTopic (Code n) = (1 ≤ n) × (n ≤ 14)
-IsTopic (Fault n) = (1 ≤ n) × (n ≤ 8)
-IsTopic (TraceCode n) = (1 ≤ n) × (n ≤ 12)
-
--- workers and limit are in range, and there is what is to be explained
-abbrev pub IsAsked : Asked → Type 0
-IsAsked (Run workers limit) = ((1 ≤ workers) × (workers ≤ 64)) × ((1 ≤ limit) × (limit ≤ 1000000))
-IsAsked (RunJson workers limit) = ((1 ≤ workers) × (workers ≤ 64)) × ((1 ≤ limit) × (limit ≤ 1000000))
-IsAsked (RunStream workers limit) = ((1 ≤ workers) × (workers ≤ 64)) × ((1 ≤ limit) × (limit ≤ 1000000))
-IsAsked (Explain topic) = IsTopic topic
-IsAsked (Draw workers limit) = ((1 ≤ workers) × (workers ≤ 64)) × ((1 ≤ limit) × (limit ≤ 1000000))
-IsAsked _ = Unit {0}
 
 -- how a run of a job ended, as a status
 abbrev pub end_result : Result JobStatus RunFault → Result ℕ RunFault

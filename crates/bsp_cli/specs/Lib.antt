@@ -1,10 +1,9 @@
 pub mod Answers
-pub mod CommandLine
 pub mod Did
 pub mod Drawn
 pub mod Ends
+pub mod Explained
 pub mod Jobs
-pub mod Laws
 pub mod Lines
+pub mod Marked
 pub mod Texts
-pub mod Topics

@@ -28,10 +28,6 @@ pub record CountsFailures (status read read_after written written_after : ℕ) :
   pub failed : status ≡ 8 → read_after + written_after ≡ read + written + 1
   pub worked : status ≢ 8 → (read_after ≡ read) × (written_after ≡ written)
 
--- what `--version` prints
-abbrev pub version_line : List ℕ
-version_line = codes "bsp 0.1.0, reads jobs of formats 1 and 2\n"
-
 -- a text that isn't empty was written
 abbrev pub WritesSome : Option (List ℕ) → Option (List ℕ) → Type 0
 WritesSome old new = (text : List ℕ) × (text ≢ []) × Appends old new text

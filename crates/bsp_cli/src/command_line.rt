@@ -1,18 +1,17 @@
 //! The command line.
-ghost use Rattle.std.specs.Prelude.{◌≡◌, ◌≢◌, ◌≤◌, ◌⊎◌, ◌+◌, [], ◌∷◌, true, Ok, IfOk, IfErr, IsOk, IsErr, MatchOption, None, map, option_map, string_bytes};
+ghost use Rattle.std.specs.Prelude.{◌≡◌, ◌≢◌, ◌≤◌, ◌⊎◌, ◌+◌, [], true, Ok, IfOk, IsOk, IsErr, MatchOption, None, map, option_map, string_bytes};
 ghost use Rattle.std.specs.Io.KnownBytes.{Appends};
-ghost use Rattle.clap.specs.Words.{HasKind, kind_of};
+ghost use Rattle.clap.specs.Words.{kind_of};
 ghost use Rattle.clap.specs.declared.error.kind.ErrorKind.TheVariants as kinds;
 ghost use Rattle.tier_shape.specs.Told.{shape_told};
 ghost use Rattle.bsp_cli.specs.Answers.{AnswersWords, around};
-ghost use Rattle.bsp_cli.specs.CommandLine.{asked_in, file_asked, look_asked, refused_by, tree_asked};
+ghost use Rattle.bsp_words.specs.CommandLine.{file_asked, refused_by, tree_asked, version_line};
+ghost use Rattle.bsp_words.specs.Ranges.{IsAsked};
 ghost use Rattle.job_view.specs.Look.{look_value};
 ghost use Rattle.bsp_cli.specs.Did.{Did, ReadsNothing};
-ghost use Rattle.bsp_cli.specs.Ends.{Does, IsAsked, ReadCause, WriteCause};
-ghost use Rattle.bsp_cli.specs.Texts.{CountsFailures, Says, Tells, WritesSome, version_line};
+ghost use Rattle.bsp_cli.specs.Ends.{Does, ReadCause, WriteCause};
+ghost use Rattle.bsp_cli.specs.Texts.{CountsFailures, Says, Tells, WritesSome};
 
-use crate::asked::{Asked, Request, VERSION_LINE, asked_for, clashes, parser};
-use crate::clash::refuse_clash;
 use crate::explain::explain;
 use crate::fault::{RunFault, refuse, tell};
 use crate::job::{check, check_all, draw_bytes, run_bytes, run_json_bytes, run_status, upgrade};
@@ -20,6 +19,7 @@ use crate::progress::{NoProgress, Progress};
 use crate::status::{COMMAND_LINE_REFUSED, DEVICE_FAILED, OUT_OF_MEMORY};
 use crate::stream::stream_bytes;
 use crate::trace::trace;
+use bsp_words::{Asked, Request, parse, version_text};
 use clap::Error;
 use clap::error::ErrorKind;
 use devices::{CountedRead, CountedWrite, write_all};
@@ -28,28 +28,6 @@ use std::convert::AsStr;
 use std::sync::Wait;
 use std::thread::Threads;
 use tier_shape::Shape;
-
-// Parses the words of a command line.
-fn parse<'a, S: AsStr>(alloc: Global, words: &'a [S]) -> Result<Request<'a>, Error>
-    ensures taken { IfOk result (λ r. refused_by (map S.text words.entry.now) ≡ []) }
-    ensures asked { IfOk result (λ r. r.asked ≡ asked_in (map S.text words.entry.now)) }
-    ensures tree { IfOk result (λ r. r.tree.now ≡ tree_asked (map S.text words.entry.now)) }
-    ensures file { IfOk result (λ r. option_map (λ s. s.now) r.file ≡ file_asked (map S.text words.entry.now)) }
-    ensures look { IfOk result (λ r. look_value r.look ≡ look_asked (map S.text words.entry.now)) }
-    ensures limit { IfOk result (λ r. IsAsked r.asked) }
-    ensures err { IfErr result (HasKind (refused_by (map S.text words.entry.now))) }
-{
-    let command = parser(alloc)?;
-    match command.try_get_matches_from(words) {
-        Ok(matches) => {
-            if clashes(&matches) {
-                return Err(refuse_clash(alloc));
-            }
-            Ok(asked_for(&matches))
-        }
-        Err(error) => Err(error),
-    }
-}
 
 // Writes a text that was asked for in place of a subcommand. Returns the status.
 #[tactic(auto, using(crate::proofs::Saying::nothing_says))]
@@ -124,7 +102,7 @@ fn answer_error<W: CountedWrite, E: CountedWrite>(
 {
     match error.kind() {
         ErrorKind::DisplayHelp => show_help(alloc, writer, errors, error),
-        ErrorKind::DisplayVersion => show(writer, errors, VERSION_LINE.as_bytes()),
+        ErrorKind::DisplayVersion => show(writer, errors, version_text().as_bytes()),
         ErrorKind::OutOfMemory => tell(errors, RunFault::Memory),
         _ => refuse(errors),
     }
@@ -146,7 +124,7 @@ fn do_asked<T: Threads + Wait + Sync, R: CountedRead, W: CountedWrite + Send, P:
     ensures read_failures { ReadCause (R.failures reader.old) (R.failures reader.new) result }
     ensures write_failures { WriteCause (W.failures writer.old) (W.failures writer.new) result }
 {
-    let progress = if request.progress {
+    let asked = if request.progress {
         Some(progress)
     } else {
         None
@@ -173,17 +151,21 @@ fn do_asked<T: Threads + Wait + Sync, R: CountedRead, W: CountedWrite + Send, P:
             Ok(0)
         }
         Asked::Run { workers, limit } => {
-            run_status(run_bytes(rt, alloc, reader, writer, shape, workers, limit, progress))
+            let ended = run_bytes(rt, alloc, reader, writer, shape, workers, limit, asked);
+            run_status(rt, progress, ended)
         }
         Asked::RunJson { workers, limit } => {
-            run_status(run_json_bytes(rt, alloc, reader, writer, shape, workers, limit, progress))
+            let ended = run_json_bytes(rt, alloc, reader, writer, shape, workers, limit, asked);
+            run_status(rt, progress, ended)
         }
         Asked::RunStream { workers, limit } => {
-            run_status(stream_bytes(rt, alloc, reader, writer, shape, workers, limit, progress))
+            let ended = stream_bytes(rt, alloc, reader, writer, shape, workers, limit, asked);
+            run_status(rt, progress, ended)
         }
         Asked::Draw { workers, limit } => {
             let look = request.look;
-            run_status(draw_bytes(rt, alloc, reader, writer, shape, workers, limit, look))
+            let ended = draw_bytes(rt, alloc, reader, writer, shape, workers, limit, look);
+            run_status(rt, progress, ended)
         }
     }
 }
@@ -320,7 +302,7 @@ fn run_request<
 
 /// Does what a command line asks for. Its first word is the program's name. Reads the input from `reader` and prints to
 /// `writer`. Returns the status that the program ends with; unless that is 0, 2 or 3, `errors` gets one line. If progress
-/// is asked for, `progress` is called for each segment, and that changes nothing else.
+/// is asked for, `progress` is called for each segment; it gets how the job ended. That changes nothing else.
 pub fn run_telling<
     'a,
     T: Threads + Wait + Sync,

@@ -186,11 +186,18 @@ fn end_status(status: &JobStatus) -> u8
     }
 }
 
-/// Returns the program's status for how a run ended, or its fault.
-pub(crate) fn run_status(ended: Result<JobStatus, RunFault>) -> Result<u8, RunFault>
+/// Returns the program's status for how a run ended, or its fault. `progress` gets how it ended.
+pub(crate) fn run_status<T: Wait, P: Progress>(
+    rt: &T,
+    progress: &P,
+    ended: Result<JobStatus, RunFault>,
+) -> Result<u8, RunFault>
     ensures { result ≡ end_result ended }
 {
-    Ok(end_status(&ended?))
+    let status = ended?;
+    let number = end_status(&status);
+    progress.set_end(rt, status);
+    Ok(number)
 }
 
 // What a job leaves within this limit of supersteps that workers share, with this gate before and after each segment.

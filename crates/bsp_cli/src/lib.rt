@@ -1,21 +1,17 @@
-//! The program's command line, and what each subcommand does. Nothing here is part of Java's API.
+//! The program's command line: what each subcommand does. What words ask for is in `bsp_words`. Nothing here is part of Java's
+//! API.
 //!
 //! # Where things are
 //!
-//! * `asked.rt`: the parser and what words ask for; `clash.rt`: words that ask for too much; `help.rt`: the texts of
-//!   help; `trace.rt`, `job.rt`, `stream.rt` and `explain.rt`: the subcommands; `progress.rt`: progress while a job
-//!   runs; `why.rt`, `end_why.rt`: the reasons for people;
-//!   `fault.rt`: the line on standard error; `command_line.rt`: the whole; `program.rt`: from the system's words.
-//! * `specs/CommandLine.antt`: words; `Did.antt`: what a status means.
+//! * `trace.rt`, `job.rt`, `stream.rt` and `explain.rt`: the subcommands; `progress.rt`: progress while a job runs, and how it
+//!   ended; `why.rt`: the reasons for people; `fault.rt`: the line on standard error; `command_line.rt`: the whole;
+//!   `program.rt`: from the system's words.
+//! * `specs/Answers.antt`: what words lead to; `Did.antt`: what a status means.
 #![tactic(auto)]
 
-mod asked;
-mod clash;
 mod command_line;
-mod end_why;
 mod explain;
 mod fault;
-mod help;
 mod job;
 mod laws;
 mod program;
@@ -24,14 +20,11 @@ mod stream;
 mod trace;
 mod why;
 
-pub use asked::{Asked, Topic};
+pub use bsp_words::{Asked, Topic};
 pub use command_line::{file_named, run, run_telling};
 pub use fault::RunFault;
 pub use job::{draw_bytes, run_bytes, run_json_bytes};
-pub use laws::{
-    limits_ask, lines_are_worked_out, numbers_ask, other_numbers_are_refused, words_are_refused,
-    words_ask, words_help, words_look, words_name_files, words_tell_the_version, workers_ask,
-};
+pub use laws::lines_are_worked_out;
 pub use program::run_program;
 pub use progress::{NoProgress, Progress, WatchEnd};
 pub use stream::stream_bytes;

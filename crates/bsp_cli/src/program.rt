@@ -3,12 +3,16 @@ ghost use Rattle.std.specs.Prelude.{◌≡◌, ◌≤◌, ◌⊎◌};
 ghost use Rattle.bsp_cli.specs.Texts.{Says};
 
 use crate::command_line::{file_named, run_telling};
-use crate::end_why::job_end_reason;
 use crate::fault::{RunFault, refuse, tell};
 use crate::progress::{Seen, Teller, seen_by, stop, ticker_for};
-use crate::status::{COMMAND_LINE_REFUSED, LIMIT_REACHED, OUT_OF_MEMORY, TASK_FAULT, TEXT_REFUSED};
-use crate::why::{WHY, reason_of, text_reason};
+use crate::status::{
+    COMMAND_LINE_REFUSED, DEVICE_FAILED, LIMIT_REACHED, OUT_OF_MEMORY, TASK_FAULT, TEXT_REFUSED,
+};
+use crate::why::{WHY, text_reason};
+use bsp_words::reason_of;
 use devices::{CountedWrite, Reader};
+use fault_reasons::end_reason;
+use phase_records::JobStatus;
 use std::alloc::{AllocError, Global};
 use std::io::{Input, Read};
 use std::rt::{Clock, Files};
@@ -65,19 +69,39 @@ impl<F: Read + Drop, S: Read + Drop> Read for Source<F, S> {
     }
 }
 
+// What is known of a text that was read: its bytes, whether these are all, and whether the last read failed.
+#[derive(Drop)]
+struct ReadText {
+    bytes: Vec<u8>,
+    is_whole: bool,
+    has_failed: bool,
+}
+
+impl ReadText {
+    // Nothing was read. Keeps the bytes if it is asked to.
+    fn new(alloc: Global, keeps: bool) -> Self {
+        ReadText {
+            bytes: Vec::new(alloc),
+            is_whole: keeps,
+            has_failed: false,
+        }
+    }
+}
+
 // A reader that keeps what it gives, as long as it is asked to and memory is there.
 #[derive(Drop)]
 struct Kept<'a, R: Read + Drop> {
     inner: R,
-    text: &'a mut Vec<u8>,
-    keeps: &'a mut bool,
+    text: &'a mut ReadText,
 }
 
 impl<R: Read + Drop> Read for Kept<'_, R> {
     fn read(&mut self, buffer: &mut [u8]) -> io::Result<usize> {
-        let count = self.inner.read(buffer)?;
-        if *self.keeps && count <= buffer.len() {
-            *self.keeps = self.text.extend_from_slice(&buffer[..count]).is_ok();
+        let read = self.inner.read(buffer);
+        self.text.has_failed = read.is_err();
+        let count = read?;
+        if self.text.is_whole && count <= buffer.len() {
+            self.text.is_whole = self.text.bytes.extend_from_slice(&buffer[..count]).is_ok();
         }
         Ok(count)
     }
@@ -128,27 +152,46 @@ fn tell_text_reason<T: AllocGlobal + Eprint>(
     }
 }
 
-// Says on standard error why a job ended by a fault or at its limit.
-fn tell_end_reason<T: AllocGlobal + Eprint>(rt: &T, words: &[&str], text: &[u8]) {
-    if let Ok(Some(reason)) = job_end_reason(rt.alloc(), words, text)
+// Says on standard error why the job of a text ended so, by a fault or at its limit.
+fn tell_end_reason<T: AllocGlobal + Eprint>(rt: &T, text: &[u8], end: &JobStatus) {
+    if let Ok(Some(reason)) = end_reason(rt.alloc(), text, end)
         && let Ok(reason) = str::from_utf8(&reason)
     {
         let _ = eprint!(rt; "{reason}");
     }
 }
 
-// Says on standard error why a command that read this text whole ended with this status, if there is more to say.
+// Says on standard error which file can't be opened or read, or that standard output can't be written.
+fn tell_device<T: Eprint>(rt: &T, file: Option<&str>, is_open: bool, has_failed: bool) {
+    let (device, verb) = match file {
+        Some(file) if !is_open => (file, "opened"),
+        Some(file) if has_failed => (file, "read"),
+        None if has_failed => ("standard input", "read"),
+        _ => ("standard output", "written"),
+    };
+    let _ = eprintln!(rt; "{device}: can't be {verb}");
+}
+
+// Says on standard error why a command of these words, which read this text, ended with this status, if there is more to say. `end`
+// is how its job ended.
 fn tell_why<T: AllocGlobal + Eprint>(
     rt: &T,
     words: &[&str],
     file: Option<&str>,
-    text: &[u8],
+    is_open: bool,
+    text: &ReadText,
+    end: Option<&JobStatus>,
     status: u8,
 ) {
     match status {
-        TEXT_REFUSED => tell_text_reason(rt, words, file, text),
-        TASK_FAULT => tell_end_reason(rt, words, text),
-        LIMIT_REACHED => tell_end_reason(rt, words, text),
+        COMMAND_LINE_REFUSED => tell_reason(rt, words),
+        DEVICE_FAILED => tell_device(rt, file, is_open, text.has_failed),
+        TEXT_REFUSED if text.is_whole => tell_text_reason(rt, words, file, &text.bytes),
+        TASK_FAULT | LIMIT_REACHED if text.is_whole => {
+            if let Some(end) = end {
+                tell_end_reason(rt, &text.bytes, end);
+            }
+        }
         _ => {}
     }
 }
@@ -167,11 +210,14 @@ fn words_of<T: env::Env + AllocGlobal>(rt: &T) -> Result<Vec<String>, io::ErrorK
 /// Does what the command line of this process asks for, as [`run_telling`] does. Reads the file that the command line names,
 /// or else standard input, prints to `writer`, and reports to `errors` what went wrong. Returns the status that the process
 /// ends with. Words that aren't text are refused; the reads of a file that can't be opened fail. If `terminal` is true,
-/// standard input is a terminal, and a first read of it prints to standard error that it waits for input. If `reasons` is
-/// true, or a word is `--why`, the reason for a refused command line or text follows the line on standard error. The reason
-/// for a fault, or for reaching the limit, is printed there too; to find it, the job is run again on this thread.
-/// If a word is `--progress`, another thread prints progress to standard error once a second. If it can't be started, progress is
-/// only printed when a superstep begins.
+/// standard input is a terminal, and a first read of it prints to standard error that it waits for input.
+///
+/// If `reasons` is true, or a word is `--why`, the line on standard error is followed by the reason for a refused command line
+/// or text, or by the file that can't be opened or read, or that standard output can't be written. The reason for a fault, or
+/// for reaching the limit, is printed there too; to find it, the job is run again on this thread.
+///
+/// If a word is `--progress`, another thread prints progress to standard error once a second. If it can't be started, progress
+/// is only printed when a superstep begins.
 pub fn run_program<
     T: env::Env
         + AllocGlobal
@@ -209,16 +255,17 @@ pub fn run_program<
         tells: terminal,
     };
     let asks = reasons || asked.len() < words.len();
-    let mut text = Vec::new(rt.alloc());
-    let mut keeps = asks;
+    let mut text = ReadText::new(rt.alloc(), asks);
+    let source = opened(rt, file, standard);
+    let is_open = !matches!(source, Source::Unopened);
     let mut reader = Reader::new(Kept {
-        inner: opened(rt, file, standard),
+        inner: source,
         text: &mut text,
-        keeps: &mut keeps,
     });
     let ticker = ticker_for(rt, rt.alloc(), &asked);
     let here = Seen::new();
-    let teller = Teller::new(rt, seen_by(&ticker, &here));
+    let seen = seen_by(&ticker, &here);
+    let teller = Teller::new(rt, seen);
     let status = run_telling(
         rt,
         rt.alloc(),
@@ -229,12 +276,10 @@ pub fn run_program<
         &teller,
     );
     drop(reader);
+    let end = seen.take_end(rt);
     stop(rt, ticker);
-    if asks && status == COMMAND_LINE_REFUSED {
-        tell_reason(rt, &asked);
-    }
-    if keeps {
-        tell_why(rt, &asked, file, &text, status);
+    if asks {
+        tell_why(rt, &asked, file, is_open, &text, end.as_ref(), status);
     }
     status
 }

@@ -1,4 +1,5 @@
 //! Progress of a job while it runs. No contract depends on it: progress changes nothing else.
+use phase_records::JobStatus;
 use std::alloc::{AllocError, Global};
 use std::rt::Clock;
 use std::sync::{Arc, Condvar, CondvarTimeouts, Mutex, Wait};
@@ -26,6 +27,9 @@ pub trait Progress: Gate {
 
     /// Called when no more segments come.
     fn end<R: Wait>(&self, rt: &R);
+
+    /// Called with how a job ended, once its report is printed.
+    fn set_end<R: Wait>(&self, rt: &R, status: JobStatus);
 }
 
 /// Reports nothing.
@@ -50,6 +54,8 @@ impl Progress for NoProgress {
     }
 
     fn end<R: Wait>(&self, _rt: &R) {}
+
+    fn set_end<R: Wait>(&self, _rt: &R, _status: JobStatus) {}
 }
 
 // The word that asks for progress.
@@ -118,11 +124,12 @@ fn seen_after<T: Clock + Eprint>(
     }
 }
 
-/// What is known of a job that runs.
+/// What is known of a job that runs, and how it ended.
 #[derive(Drop)]
 pub(crate) struct Seen {
     state: Mutex<ProgressState>,
     over: Condvar,
+    end: Mutex<Option<JobStatus>>,
 }
 
 impl Seen {
@@ -137,7 +144,13 @@ impl Seen {
                 over: false,
             }),
             over: Condvar::new(),
+            end: Mutex::new(None),
         }
+    }
+
+    /// Gives away how the job ended, if its report was printed.
+    pub(crate) fn take_end<T: Wait>(&self, rt: &T) -> Option<JobStatus> {
+        self.end.lock(rt).take()
     }
 
     // Sees `tasks` more tasks of this superstep.
@@ -279,5 +292,9 @@ impl<'a, T: Clock + Eprint + Wait> Progress for Teller<'a, T> {
 
     fn end<R: Wait>(&self, _rt: &R) {
         self.seen.end(self.rt);
+    }
+
+    fn set_end<R: Wait>(&self, rt: &R, status: JobStatus) {
+        *self.seen.end.lock(rt) = Some(status);
     }
 }

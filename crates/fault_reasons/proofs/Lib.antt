@@ -1,5 +1,6 @@
 pub mod Before
 pub mod Behind
-pub mod RanAgain
+pub mod Reached
 pub mod WalkedRuns
 pub mod Walks
+pub mod WorkedOut

@@ -1,10 +1,17 @@
--- What a walk says of a segment (own).
-use Rattle.std.specs.Prelude.{◌≡◌, ℕ, true, List, length}
+-- What a walk says of a segment, and the end of a job of its supersteps (own).
+use Rattle.std.specs.Prelude.{◌≡◌, ℕ, true, List, length, Some}
+use Rattle.phase_records.specs.ReportValue.{ReportValue}
+use Rattle.phase_records.specs.Status.{Status, Ended, Fault, Limit}
+use Rattle.step_parts.specs.JobMeaning.{report_of}
+use Rattle.step_parts.specs.Program.{program_of}
+use Rattle.task_code.specs.JobValue.{JobValue}
 use Rattle.step_parts.specs.OrderValue.{is_synced}
 use Rattle.task_code.specs.Reading.{IsMatched, tree_of}
 use Rattle.task_code.specs.Tree.{rest_at}
 use Rattle.task_code.specs.declared.code.Line.{Line}
-use Rattle.task_actions.specs.Meaning.{Doing, Segment, Setting, Stopped, faulted, run}
+use Rattle.task_actions.specs.Meaning.{Doing, Segment, Setting, faulted, run}
+use Rattle.programs.specs.Meaning.{Stopped}
+use Rattle.fault_reasons.specs.Begun.{GetsTo}
 use Rattle.fault_reasons.specs.Done.{Done}
 use Rattle.fault_reasons.specs.Walk.{walked}
 use Rattle.fault_reasons.specs.declared.walk.End.{End}
@@ -30,3 +37,12 @@ abbrev pub WalksAreSegments : Type 0
 WalksAreSegments =
     (s : Setting) (code : List Line) (n place : ℕ) (x : Doing) → IsMatched code
     → IsOf (walked s code n place (done_of x)) (run s n (rest_at (tree_of code) place) x)
+
+-- the superstep that a job's end names is one that the job gets to
+abbrev pub IsReached : JobValue → Status → Type 0
+IsReached j (Ended step) = Unit {0}
+IsReached j (Fault code step path) = GetsTo j step
+IsReached j (Limit step) = GetsTo j step
+
+abbrev pub EndsAreReached : Type 0
+EndsAreReached = (j : JobValue) (limit : ℕ) (r : ReportValue) → report_of (program_of j) limit ≡ Some r → IsReached j r.status

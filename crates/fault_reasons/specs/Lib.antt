@@ -1,11 +1,12 @@
 pub mod AgainSeen
+pub mod Begun
 pub mod Done
 pub mod Explains
 pub mod Found
 pub mod Items
 pub mod Laws
 pub mod Lines
-pub mod RunAgain
 pub mod SightSeen
 pub mod Texts
 pub mod Walk
+pub mod Worked

@@ -55,6 +55,10 @@ fault_head f = codes "fault " ++ decimal (code_of f) ++ codes " (" ++ fault_name
 abbrev pub more_said : ℕ → List ℕ
 more_said n = codes "  and " ++ decimal n ++ codes " more\n"
 
+-- the word for this many supersteps
+abbrev pub supersteps_said : ℕ → List ℕ
+supersteps_said n = if n == 1 then codes " superstep" else codes " supersteps"
+
 abbrev pub fresh : List ℤ → Done
 fresh locals = record { locals = locals; puts = []; spawned = 0 }
 
@@ -174,4 +178,4 @@ module _ (a : Again) where
   -- how many tasks live at the limit, and where the first of them wait
   abbrev pub limit_text : List ℕ
   limit_text =
-      codes "limit of " ++ decimal a.step ++ codes " supersteps reached, live tasks: " ++ decimal (length a.tasks) ++ codes "\n" ++ waiting 5 a.tasks
+      codes "limit of " ++ decimal a.step ++ supersteps_said a.step ++ codes " reached, live tasks: " ++ decimal (length a.tasks) ++ codes "\n" ++ waiting 5 a.tasks

@@ -21,8 +21,8 @@ ghost use Rattle.fault_reasons.specs.SightSeen.{sight_seen};
 
 use crate::names::{push_array_name, push_cell, push_index};
 use crate::pieces::{push_field, push_text};
-use crate::values::{cell_value, index_value};
 use std::alloc::{AllocError, Global};
+use task_actions::value::{cell_value, index_value};
 use task_code::code::{Action, Cell, Expr, Index, Line, Operand};
 use task_lang::scene::Scene;
 

@@ -4,8 +4,8 @@
 //!
 //! # Where things are
 //!
-//! * `again.rt`: the tasks and the arrays as a superstep began; `walk.rt`, `values.rt`: where a segment ends, and what it
-//!   did; `lines.rt`: the lines of a body in the text; `items.rt`, `names.rt`: what a statement reads; `task.rt`, `sums.rt`,
+//! * `again.rt`: the tasks and the arrays as a superstep began; `walk.rt`: where a segment ends, and what it did;
+//!   `lines.rt`: the lines of a body in the text; `items.rt`, `names.rt`: what a statement reads; `task.rt`, `sums.rt`,
 //!   `limit.rt`: the texts; `reason.rt`: the whole.
 #![tactic(auto)]
 
@@ -19,7 +19,6 @@ mod pieces;
 mod reason;
 mod sums;
 mod task;
-mod values;
 mod walk;
 
 pub use reason::end_reason;

@@ -1,7 +1,7 @@
 //! The text of a job that reached its limit.
 ghost use Rattle.std.specs.Prelude.{◌≡◌, ◌++◌, OnOk, length};
 ghost use Rattle.fault_reasons.specs.AgainSeen.{again_seen};
-ghost use Rattle.fault_reasons.specs.Texts.{limit_text, more_said, waiting, waits};
+ghost use Rattle.fault_reasons.specs.Texts.{limit_text, more_said, supersteps_said as supersteps_said_of, waiting, waits};
 
 use crate::pieces::{push_field, push_text};
 use crate::task::{Superstep, push_body_line, push_task};
@@ -47,12 +47,24 @@ fn push_waiting(out: &mut Vec<u8>, at: Superstep<'_>) -> Result<(), AllocError>
     Ok(())
 }
 
+// Returns the word for this many supersteps.
+fn supersteps_said(count: u32) -> &'static [u8]
+    ensures { result.now ≡ supersteps_said_of count }
+{
+    if count == 1 {
+        b" superstep"
+    } else {
+        b" supersteps"
+    }
+}
+
 /// Appends how many tasks live at the limit, and where the first of them wait.
 pub(crate) fn push_limit(out: &mut Vec<u8>, at: Superstep<'_>) -> Result<(), AllocError>
     ensures { OnOk result (out.new.items ≡ out.old.items ++ limit_text (again_seen at.entry)) }
 {
     push_field(out, b"limit of ", at.step)?;
-    push_field(out, b" supersteps reached, live tasks: ", at.tasks.len())?;
+    push_text(out, supersteps_said(at.step))?;
+    push_field(out, b" reached, live tasks: ", at.tasks.len())?;
     push_text(out, b"\n")?;
     push_waiting(out, at)
 }

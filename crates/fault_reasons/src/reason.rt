@@ -1,30 +1,30 @@
 //! Why a job ended by a fault or at its limit.
 ghost use Rattle.std.specs.Prelude.{◌≡◌, IfOk};
 ghost use Rattle.std.specs.Option.{option_map};
+ghost use Rattle.phase_records.specs.StatusSeen.{status_seen};
 ghost use Rattle.fault_reasons.specs.AgainSeen.{again_seen};
-ghost use Rattle.fault_reasons.specs.Explains.{again, Explains, ExplainsJob, SaysEnd, SaysFault};
+ghost use Rattle.fault_reasons.specs.Explains.{again, Explains, SaysEnd, SaysIfThere};
 ghost use Rattle.fault_reasons.specs.Texts.{fault_text as fault_text_of, limit_text as limit_text_of};
 
 use crate::again::run_to;
 use crate::limit::push_limit;
 use crate::sums::{push_overflow, push_too_many};
 use crate::task::{Superstep, push_task_fault};
+use job_program::JobSteps;
 use job_reader::{ReadJobFault, read_job};
 use phase_records::JobStatus;
-use programs::alone::Ran;
 use std::alloc::{AllocError, Global};
 use task_code::job::Job;
-use task_lang::task::Task;
 
-// Returns the superstep of this number, which begins with what a run to it left.
-fn superstep<'a>(text: &'a [u8], job: &'a Job, ran: &'a Ran<Task>, step: u32) -> Superstep<'a>
-    ensures { again_seen result ≡ again text.now job.now ran.now.report ran.now.tasks.items step }
+// Returns the superstep that a run takes next, which has this number.
+fn superstep<'a>(text: &'a [u8], job: &'a Job, run: &'a JobSteps<'a>, step: u32) -> Superstep<'a>
+    ensures { again_seen result ≡ again text.now job.now step run.now.run.arrays run.now.run.tasks }
 {
     Superstep {
         text,
         job,
-        arrays: &ran.report.arrays,
-        tasks: ran.tasks.as_slice(),
+        arrays: run.arrays(),
+        tasks: run.tasks(),
         step,
     }
 }
@@ -49,7 +49,7 @@ fn fault_text(
     Ok(out)
 }
 
-// Returns why a fault ended a job in this superstep.
+// Returns why a fault ended a job in this superstep, or `None` if the job doesn't get there.
 fn fault_reason(
     alloc: Global,
     text: &[u8],
@@ -57,11 +57,16 @@ fn fault_reason(
     code: u8,
     step: u32,
     path: &[u16],
-) -> Result<Vec<u8>, AllocError>
-    ensures { IfOk result (λ reason. SaysFault text.now job.now code step path.now reason.items) }
+) -> Result<Option<Vec<u8>>, AllocError>
+    ensures { IfOk result (λ reason. SaysIfThere text.now job.now step (λ a. fault_text_of a code path.now) (option_map (λ v. v.items) reason)) }
 {
-    let ran = run_to(alloc, job, step)?;
-    fault_text(alloc, superstep(text, job, &ran, step), code, path)
+    match run_to(alloc, job, step)? {
+        Some(run) => {
+            let reason = fault_text(alloc, superstep(text, job, &run, step), code, path)?;
+            Ok(Some(reason))
+        }
+        None => Ok(None),
+    }
 }
 
 // Returns the text of a job that reached its limit.
@@ -73,49 +78,54 @@ fn limit_text(alloc: Global, at: Superstep<'_>) -> Result<Vec<u8>, AllocError>
     Ok(out)
 }
 
-// Returns why a job ended that left this.
-fn ran_reason(
+// Returns why a job ended at this limit, or `None` if it doesn't get there.
+fn limit_reason(
     alloc: Global,
     text: &[u8],
     job: &Job,
-    ran: &Ran<Task>,
+    step: u32,
 ) -> Result<Option<Vec<u8>>, AllocError>
-    ensures { IfOk result (λ reason. SaysEnd text.now job.now ran.now.report ran.now.tasks.items ran.now.report.status (option_map (λ v. v.items) reason)) }
+    ensures { IfOk result (λ reason. SaysIfThere text.now job.now step limit_text_of (option_map (λ v. v.items) reason)) }
 {
-    match &ran.report.status {
-        JobStatus::Ended(_) => Ok(None),
-        JobStatus::Fault { code, step, path } => {
-            let reason = fault_reason(alloc, text, job, *code, *step, path)?;
+    match run_to(alloc, job, step)? {
+        Some(run) => {
+            let reason = limit_text(alloc, superstep(text, job, &run, step))?;
             Ok(Some(reason))
         }
-        JobStatus::Limit(step) => {
-            let reason = limit_text(alloc, superstep(text, job, ran, *step))?;
-            Ok(Some(reason))
-        }
+        None => Ok(None),
     }
 }
 
-// Returns why a job ended by a fault or at this limit.
+// Returns why a job ended so.
 fn job_reason(
     alloc: Global,
     text: &[u8],
     job: &Job,
-    limit: u32,
+    status: &JobStatus,
 ) -> Result<Option<Vec<u8>>, AllocError>
-    ensures { IfOk result (λ reason. ExplainsJob text.now job.now limit (option_map (λ v. v.items) reason)) }
+    ensures { IfOk result (λ reason. SaysEnd text.now job.now (status_seen status.now) (option_map (λ v. v.items) reason)) }
 {
-    let ran = run_to(alloc, job, limit)?;
-    ran_reason(alloc, text, job, &ran)
+    match status {
+        JobStatus::Ended(_) => Ok(None),
+        JobStatus::Fault { code, step, path } => fault_reason(alloc, text, job, *code, *step, path),
+        JobStatus::Limit(step) => limit_reason(alloc, text, job, *step),
+    }
 }
 
-/// Returns why the job of a text ended by a fault or at this limit of supersteps, in words for people, or `None` if it ended
-/// without. Runs the job again, on this thread: once to its end, and after a fault once more to the superstep in which it
-/// came.
-pub fn end_reason(alloc: Global, text: &[u8], limit: u32) -> Result<Option<Vec<u8>>, AllocError>
-    ensures { IfOk result (λ reason. Explains text.now limit (option_map (λ v. v.items) reason)) }
+/// Returns why the job of a text ended as `status` says, in words for people. Returns `None` if the text is refused, if the job
+/// ended without a fault before its limit, or if it never gets to the superstep that `status` names: the job's own status names one
+/// that it gets to, as [`ends_are_reached`](crate::laws::ends_are_reached) says.
+///
+/// Runs the job once more, on this thread, to that superstep. Keeps arrays and tasks in memory, and no prints or records.
+pub fn end_reason(
+    alloc: Global,
+    text: &[u8],
+    status: &JobStatus,
+) -> Result<Option<Vec<u8>>, AllocError>
+    ensures { IfOk result (λ reason. Explains text.now (status_seen status.now) (option_map (λ v. v.items) reason)) }
 {
     match read_job(alloc, text) {
-        Ok(job) => job_reason(alloc, text, &job, limit),
+        Ok(job) => job_reason(alloc, text, &job, status),
         Err(ReadJobFault::Text(_)) => Ok(None),
         Err(ReadJobFault::Memory) => Err(AllocError),
     }

@@ -5,10 +5,10 @@ ghost use Rattle.task_actions.specs.Meaning.{value_of as value_in};
 ghost use Rattle.task_actions.specs.Views.{setting};
 ghost use Rattle.fault_reasons.specs.Walk.{acted, costing, free_to as free_to_of, moved, moved_at, spent as spent_at, statement_count, tested, walked, with_local, with_put, with_spawn};
 
-use crate::values::{index_value, value_of};
 use std::alloc::AllocError;
 use std::marker::Model;
 use superstep_memory::arrays::{Put, PutKind};
+use task_actions::value::{index_value, value_of};
 use task_code::code::{Action, Cell, Expr, Line};
 use task_code::operation::line_at;
 use task_lang::fault::Fault;

@@ -1,4 +1,2 @@
 pub mod Listed
 pub mod Behind
-pub mod Lasts
-pub mod Reasoned

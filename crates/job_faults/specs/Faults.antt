@@ -7,15 +7,11 @@ use Rattle.text_lines.specs.declared.refusal.Refusal.{Refusal}
 use Rattle.text_lines.specs.Laws.{joined}
 use Rattle.text_lines.specs.Text.{lines_of, words_of}
 use Rattle.job_words.specs.Words.{Words}
+use Rattle.refusal_reasons.specs.Lines.{line_at}
 use Rattle.job_reader.specs.Reading.{job_in}
 use Rattle.job_reader.specs.Trees.{JobTree}
 
--- the line of this number, from 1
-abbrev pub line_at : ℕ → List (List ℕ) → List ℕ
-line_at n [] = []
-line_at n (l ∷ ls) = if n == 1 then l else line_at (n - 1) ls
-
--- another line in its place
+-- another line in the place of the one of this number, from 1
 abbrev pub replaced : ℕ → List ℕ → List (List ℕ) → List (List ℕ)
 replaced n other [] = []
 replaced n other (l ∷ ls) = (if n == 1 then other else l) ∷ replaced (n - 1) other ls

@@ -1,9 +1,5 @@
 pub mod Faults
+pub mod JobReasons
 pub mod Laws
 pub mod Listing
-pub mod Places
 pub mod Worked
-pub mod WorkedPlaces
-pub mod Meanings
-pub mod Reasons
-pub mod WorkedReasons

@@ -1,7 +1,7 @@
 -- Texts with several faulty lines, worked out by hand (own).
 use Rattle.std.specs.Prelude.{◌≡◌, ℕ, [], ◌∷◌, codes}
 use Rattle.text_lines.specs.declared.refusal.Code.{Code}
-use Rattle.text_lines.specs.declared.refusal.Code.TheVariants.{BadByte, BadHeader, UnknownLine, BadNumber, BadLine, UnknownName, Unclosed}
+use Rattle.text_lines.specs.declared.refusal.Code.TheVariants.{BadByte, BadHeader, UnknownLine, BadNumber, BadLine, UnknownName, Unclosed, Reserved}
 use Rattle.text_lines.specs.declared.refusal.Refusal.{Refusal}
 use Rattle.job_faults.specs.Faults.{faults_in}
 use Rattle.job_faults.specs.Listing.{listing}
@@ -24,4 +24,6 @@ pub record FaultsAreWorkedOut : Type 0 where
   pub header : faults_in (codes "bsp 3\nshow\n") ≡ at 1 BadHeader ∷ []
   pub told : listing (codes "bsp 1\nbody b\nlet x = 05\nput c[0] = 1\nend\nshow\n")
       ≡ codes "line 3 code 6 BadNumber\nline 4 code 9 UnknownName\nline 6 code 4 UnknownLine\n"
+  -- a block whose test is a reserved word
+  pub reserved : faults_in (codes "bsp 1\nbody b\nif sync\nend\nend\nshow\n") ≡ at 3 Reserved ∷ at 6 UnknownLine ∷ []
   pub bodies : faults_in (codes "bsp 1\nbody b b\nshow\nend\n") ≡ at 2 BadLine ∷ []

@@ -5,9 +5,10 @@ ghost use Rattle.job_reader.specs.Reading.{job_in};
 ghost use Rattle.job_reader.specs.Trees.{JobTree};
 ghost use Rattle.job_faults.specs.Faults.{block_left, ends_list, faults_in, opens_body, repaired, stand_in};
 
-use crate::lines::{line_at, with_line};
+use crate::lines::with_line;
 use job_reader::{Code, ReadJobFault, Refusal, read_job};
 use job_words::words::is_word;
+use refusal_reasons::line_at;
 use std::alloc::{AllocError, Global};
 use text_lines::split_word;
 

@@ -1,27 +1,11 @@
-//! Lines of a text by their numbers.
+//! Texts with another line.
 ghost use Rattle.std.specs.Prelude.{◌≡◌, ◌++◌, OnOk, IfOk, codes};
 ghost use Rattle.text_lines.specs.Laws.{joined};
 ghost use Rattle.text_lines.specs.Text.{lines_of};
-ghost use Rattle.job_faults.specs.Faults.{line_at, replaced};
+ghost use Rattle.job_faults.specs.Faults.{replaced};
 
 use std::alloc::{AllocError, Global};
 use text_lines::split_line;
-
-/// Returns the line of this number, from 1, or no bytes if there is none.
-pub(crate) fn line_at(text: &[u8], number: usize) -> &[u8]
-    ensures { result.now ≡ line_at number (lines_of text.now) }
-{
-    let mut left = number;
-    let mut rest = text;
-    while let Some((line, after)) = split_line(rest) {
-        if left == 1 {
-            return line;
-        }
-        left = left.saturating_sub(1);
-        rest = after;
-    }
-    &[]
-}
 
 // Appends a line and its end.
 fn push_line(out: &mut Vec<u8>, line: &[u8]) -> Result<(), AllocError>

@@ -1,34 +1,13 @@
 //! The faulty lines of a text as a text.
 ghost use Rattle.std.specs.Prelude.{◌≡◌, ◌++◌, OnOk, IfOk};
 ghost use Rattle.std.specs.List.{flat_map};
-ghost use Rattle.job_faults.specs.Listing.{code_name, fault_line, listing};
+ghost use Rattle.job_faults.specs.Listing.{fault_line, listing};
 
 use crate::faults::faults_of;
 use crate::pieces::push_field;
-use job_reader::{Code, Refusal};
+use job_reader::Refusal;
+use refusal_reasons::code_name;
 use std::alloc::{AllocError, Global};
-
-/// Returns the name of a code.
-pub fn code_name(code: Code) -> &'static str
-    ensures { result.now ≡ code_name code }
-{
-    match code {
-        Code::TooLong => "TooLong",
-        Code::BadByte => "BadByte",
-        Code::BadHeader => "BadHeader",
-        Code::UnknownLine => "UnknownLine",
-        Code::BadName => "BadName",
-        Code::BadNumber => "BadNumber",
-        Code::BadLine => "BadLine",
-        Code::Twice => "Twice",
-        Code::UnknownName => "UnknownName",
-        Code::Unclosed => "Unclosed",
-        Code::BadNesting => "BadNesting",
-        Code::TooMany => "TooMany",
-        Code::BadLength => "BadLength",
-        Code::Reserved => "Reserved",
-    }
-}
 
 // Appends the line that reports a faulty line.
 fn push_fault(out: &mut Vec<u8>, refusal: Refusal) -> Result<(), AllocError>

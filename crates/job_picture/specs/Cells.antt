@@ -1,6 +1,6 @@
 -- An array as a strip of cells (own): a cell is one unit wide.
-use Rattle.std.specs.Prelude.{ℕ, ◌+◌, ◌-◌, ◌*◌, ◌/◌, min, max, ◌==◌, nat_le, nat_lt, if◌then◌else◌, ℤ, pos, ◌-ℤ◌, unsigned_abs, List, [], ◌∷◌, ◌++◌, length, codes, decimal}
-use Rattle.std.specs.List.{fold, flat_map}
+use Rattle.std.specs.Prelude.{ℕ, Bool, ◌&&◌, ◌||◌, Option, Some, None, ◌+◌, ◌-◌, ◌*◌, ◌/◌, min, max, ◌==◌, nat_le, nat_lt, if◌then◌else◌, ℤ, pos, ◌-ℤ◌, unsigned_abs, List, [], ◌∷◌, ◌++◌, length, codes, decimal}
+use Rattle.std.specs.List.{fold}
 use Rattle.std.specs.Int.{int_min, int_max}
 use Rattle.std.specs.Fmt.{signed_decimal}
 use Rattle.job_picture.specs.declared.cells.Extent.{Extent}
@@ -9,6 +9,22 @@ use Rattle.job_picture.specs.declared.cells.Extent.{Extent}
 abbrev pub escaped : ℕ → List ℕ
 escaped b =
     if b == 38 then codes "&amp;" else if b == 60 then codes "&lt;" else if b == 62 then codes "&gt;" else if nat_lt b 32 then codes " " else b ∷ []
+
+-- the bytes of U+FFFE and of U+FFFF, which no text of XML may hold
+abbrev pub is_none : ℕ → ℕ → ℕ → Bool
+is_none a b c = a == 239 && (b == 191 && (c == 190 || c == 191))
+
+-- what follows them, if a name begins with them
+abbrev pub after_none : List ℕ → Option (List ℕ)
+after_none (a ∷ b ∷ c ∷ rest) = if is_none a b c then Some rest else None
+after_none name = None
+
+-- a name as a text of XML: a space for each of them, and each other byte as it may be there
+abbrev pub escape : List ℕ → List ℕ
+escape [] = []
+escape (a ∷ []) = escaped a
+escape (a ∷ b ∷ []) = escaped a ++ escaped b
+escape (a ∷ b ∷ c ∷ rest) = if is_none a b c then 32 ∷ escape rest else escaped a ++ escape (b ∷ c ∷ rest)
 
 abbrev pub least : List ℤ → ℤ
 least [] = pos 0
@@ -66,7 +82,7 @@ shown_values values = if nat_le (length values) 64 then few_values values else [
 -- greatest
 abbrev pub caption : ℕ → List ℕ → ℕ → Extent → List ℕ
 caption top name count e =
-    codes "<g transform=\"translate(0," ++ decimal top ++ codes ")\"><text class=\"k\" x=\"80\" y=\"12\">" ++ flat_map escaped name
+    codes "<g transform=\"translate(0," ++ decimal top ++ codes ")\"><text class=\"k\" x=\"80\" y=\"12\">" ++ escape name
     ++ codes ": cells " ++ decimal count ++ codes ", least " ++ signed_decimal e.low ++ codes ", greatest " ++ signed_decimal e.high
 
 -- and the array

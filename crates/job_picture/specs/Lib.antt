@@ -4,6 +4,7 @@ pub mod Columns
 pub mod Grids
 pub mod Panels
 pub mod Picture
+pub mod Texts
 pub mod Views
 pub mod Worked
 pub mod WorkedPanels

@@ -1,8 +1,7 @@
 -- What is drawn of an array (own): a strip, a board, its cells over supersteps, or a small board for each superstep.
 use Rattle.std.specs.Prelude.{ℕ, zero, suc, ◌+◌, ◌-◌, ◌*◌, max, nat_le, nat_lt, if◌then◌else◌, ℤ, List, [], ◌∷◌, ◌++◌, length, take, drop, codes, decimal}
-use Rattle.std.specs.List.{flat_map}
 use Rattle.std.specs.Int.{div_ceil}
-use Rattle.job_picture.specs.Cells.{caption, escaped, extent_of, strip}
+use Rattle.job_picture.specs.Cells.{caption, escape, extent_of, strip}
 use Rattle.job_picture.specs.Grids.{beside, board_frame, grid, placed, small_frame, time_frame}
 use Rattle.job_picture.specs.declared.cells.Extent.{Extent}
 use Rattle.job_picture.specs.declared.grids.Frame.{Frame}
@@ -59,7 +58,7 @@ across_of across = max across 1
 -- what is written over an array that isn't there
 abbrev pub missing : ℕ → List ℕ → List ℕ
 missing top name =
-    codes "<g transform=\"translate(0," ++ decimal top ++ codes ")\"><text class=\"k\" x=\"80\" y=\"12\">" ++ flat_map escaped name ++ codes ": no such array</text></g>\n"
+    codes "<g transform=\"translate(0," ++ decimal top ++ codes ")\"><text class=\"k\" x=\"80\" y=\"12\">" ++ escape name ++ codes ": no such array</text></g>\n"
 
 abbrev pub board : ℕ → List ℕ → ℕ → List ℤ → ℕ → List ℕ
 board top name cells values across =

@@ -1,11 +1,11 @@
 -- The picture of a report, as the text of an SVG file (own): a title, a column a superstep, and the arrays below.
-use Rattle.std.specs.Prelude.{ℕ, ◌+◌, ◌-◌, ◌*◌, max, nat_lt, if◌then◌else◌, ℤ, List, [], ◌++◌, length, codes, decimal, Option, Some, None}
+use Rattle.std.specs.Prelude.{ℕ, ◌+◌, ◌-◌, ◌*◌, max, nat_lt, if◌then◌else◌, ℤ, List, [], ◌∷◌, ◌++◌, length, codes, decimal, Option, Some, None}
 use Rattle.std.specs.List.{flat_map}
 use Rattle.std.specs.Int.{div_ceil}
 use Rattle.phase_records.specs.ReportValue.{ReportValue}
 use Rattle.phase_records.specs.Status.{Status, Ended, Fault, Limit}
 use Rattle.job_picture.specs.Axes.{party_tick, step_tick, ticks}
-use Rattle.job_picture.specs.Cells.{escaped, strips_from}
+use Rattle.job_picture.specs.Cells.{escape, strips_from}
 use Rattle.job_picture.specs.Columns.{bars, columns_of, greatest, joined, tick}
 use Rattle.job_picture.specs.Panels.{height_of, panels_from}
 use Rattle.job_picture.specs.declared.columns.Column.{Column}
@@ -33,10 +33,11 @@ shared_by group = codes ", each column the greatest of " ++ decimal group ++ cod
 abbrev pub sharing : ℕ → List ℕ
 sharing group = if nat_lt 1 group then shared_by group else []
 
--- the name of a picture
+-- the name of a picture, if it has any bytes
 abbrev pub named : Option (List ℕ) → List ℕ
 named None = []
-named (Some name) = flat_map escaped name ++ codes ": "
+named (Some []) = []
+named (Some (c ∷ cs)) = escape (c ∷ cs) ++ codes ": "
 
 abbrev pub title : Option (List ℕ) → ℕ → ℕ → Status → List ℕ
 title name steps most status =

@@ -1,6 +1,7 @@
 -- Panels worked out by hand, line by line (own).
 use Rattle.std.specs.Prelude.{◌≡◌, ℕ, ℤ, pos, List, [], ◌∷◌, ◌++◌, codes, Some}
 use Rattle.phase_records.specs.Status.{Ended}
+use Rattle.job_picture.specs.Cells.{escape}
 use Rattle.job_picture.specs.Panels.{drawn, height}
 use Rattle.job_picture.specs.Picture.{title}
 use Rattle.job_picture.specs.declared.panels.Form.TheVariants.{Board, OverTime, Boards, Missing}
@@ -62,3 +63,8 @@ pub record PanelsAreWorkedOut : Type 0 where
   pub boards_height : height 4 boards_values (Boards 2 1) ≡ 66
   pub named : title (Some (codes "a<b")) 2 4 (Ended 2)
       ≡ codes "<text class=\"t\" x=\"20\" y=\"24\">a&lt;b: supersteps 2, parties at most 4, ended</text>\n"
+  pub ampersand : title (Some (codes "a & b>c")) 2 4 (Ended 2)
+      ≡ codes "<text class=\"t\" x=\"20\" y=\"24\">a &amp; b&gt;c: supersteps 2, parties at most 4, ended</text>\n"
+  pub bytes : escape (97 ∷ 27 ∷ 13 ∷ 98 ∷ []) ≡ codes "a  b"
+  pub none : escape (97 ∷ 239 ∷ 191 ∷ 191 ∷ 98 ∷ 239 ∷ 191 ∷ 189 ∷ []) ≡ 97 ∷ 32 ∷ 98 ∷ 239 ∷ 191 ∷ 189 ∷ []
+  pub unnamed : title (Some []) 2 4 (Ended 2) ≡ codes "<text class=\"t\" x=\"20\" y=\"24\">supersteps 2, parties at most 4, ended</text>\n"

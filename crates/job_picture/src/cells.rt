@@ -1,8 +1,9 @@
 //! Arrays as strips of cells.
-ghost use Rattle.std.specs.Prelude.{◌≡◌, ◌++◌, ◌^◌, ◌≤◌, ◌<◌, OnOk, length};
-ghost use Rattle.std.specs.List.{flat_map};
+ghost use Rattle.std.specs.Prelude.{◌≡◌, ◌++◌, ◌^◌, ◌≤◌, ◌<◌, OnOk, IfSome, length, option_map};
 ghost use Rattle.std.specs.Fmt.{signed_decimal};
 ghost use Rattle.job_picture.specs.Cells.{
+  after_none as after_none_of,
+  escape,
   escaped,
   least as least_of,
   most as most_of,
@@ -25,20 +26,48 @@ use itoa::Buffer;
 use std::alloc::AllocError;
 use superstep_memory::arrays::Arrays;
 
+// Returns what follows a code point that no text of XML may hold, if a name begins with one.
+fn after_none(name: &[u8]) -> Option<&[u8]>
+    ensures found { option_map (λ s. s.now) result ≡ after_none_of name.now }
+    ensures shorter { IfSome result (λ rest. length rest.now < length name.now) }
+{
+    let (a, rest) = name.split_first()?;
+    let (b, rest) = rest.split_first()?;
+    let (c, rest) = rest.split_first()?;
+    if *a == 239 && *b == 191 && (*c == 190 || *c == 191) {
+        Some(rest)
+    } else {
+        None
+    }
+}
+
+// Appends a byte of a name, escaped for XML.
+fn push_byte(out: &mut Vec<u8>, byte: u8) -> Result<(), AllocError>
+    ensures { OnOk result (out.new.items ≡ out.old.items ++ escaped byte) }
+{
+    match byte {
+        b'&' => push_text(out, b"&amp;"),
+        b'<' => push_text(out, b"&lt;"),
+        b'>' => push_text(out, b"&gt;"),
+        0..32 => push_text(out, b" "),
+        other => push_text(out, &[other]),
+    }
+}
+
 /// Appends a name, escaped for XML.
+#[tactic(auto, using(crate::proofs::Escapes::none_escaped, crate::proofs::Escapes::byte_escaped))]
 pub(crate) fn push_escaped(out: &mut Vec<u8>, name: &[u8]) -> Result<(), AllocError>
-    ensures { OnOk result (out.new.items ≡ out.old.items ++ flat_map escaped name.now) }
+    ensures { OnOk result (out.new.items ≡ out.old.items ++ escape name.now) }
 {
     let mut rest = name;
     while let Some((byte, after)) = rest.split_first() {
-        match *byte {
-            b'&' => push_text(out, b"&amp;")?,
-            b'<' => push_text(out, b"&lt;")?,
-            b'>' => push_text(out, b"&gt;")?,
-            0..32 => push_text(out, b" ")?,
-            other => push_text(out, &[other])?,
+        if let Some(more) = after_none(rest) {
+            push_text(out, b" ")?;
+            rest = more;
+        } else {
+            push_byte(out, *byte)?;
+            rest = after;
         }
-        rest = after;
     }
     Ok(())
 }

@@ -90,7 +90,11 @@ fn push_named(out: &mut Vec<u8>, name: Option<&str>) -> Result<(), AllocError>
     let Some(name) = name else {
         return Ok(());
     };
-    push_escaped(out, name.as_bytes())?;
+    let bytes = name.as_bytes();
+    if bytes.is_empty() {
+        return Ok(());
+    }
+    push_escaped(out, bytes)?;
     push_text(out, b": ")
 }
 

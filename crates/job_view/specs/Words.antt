@@ -1,5 +1,5 @@
 -- The texts of the options (own): `NAME=N`, several with commas between them, and names with commas between them.
-use Rattle.std.specs.Prelude.{ℕ, ◌||◌, ◌&&◌, ◌==◌, nat_le, if◌then◌else◌, ℤ, pos, negsuc, List, [], ◌∷◌, map, Option, Some, None}
+use Rattle.std.specs.Prelude.{ℕ, Bool, true, false, ◌||◌, ◌&&◌, ◌==◌, nat_le, if◌then◌else◌, ℤ, pos, negsuc, List, [], ◌∷◌, map, Option, Some, None, is_some}
 use Rattle.std.specs.Str.{bytes_eq}
 use Rattle.text_lines.specs.Number.{number_of}
 use Rattle.text_lines.specs.Text.{words_of}
@@ -22,3 +22,15 @@ abbrev pub width_in : List ℕ → List (List ℕ) → Option ℕ
 width_in name [] = None
 width_in name (n ∷ []) = None
 width_in name (n ∷ w ∷ ws) = if bytes_eq n name then width_by (number_of w) else width_in name ws
+
+-- whether these words give a width to the array of a name
+abbrev pub is_given : List ℕ → List (List ℕ) → Bool
+is_given name [] = false
+is_given name (n ∷ []) = false
+is_given name (n ∷ w ∷ ws) = if bytes_eq n name then true else is_given name ws
+
+-- whether names and widths take turns, each width is one, and each name comes once
+abbrev pub are_widths : List (List ℕ) → Bool
+are_widths [] = true
+are_widths (n ∷ []) = false
+are_widths (n ∷ w ∷ ws) = if is_given n ws then false else if is_some (width_by (number_of w)) then are_widths ws else false

@@ -1,10 +1,10 @@
 -- Looks worked out by hand (own).
-use Rattle.std.specs.Prelude.{◌≡◌, ℕ, ℤ, pos, List, [], ◌∷◌, codes, Some, None}
+use Rattle.std.specs.Prelude.{◌≡◌, true, false, ℕ, ℤ, pos, List, [], ◌∷◌, codes, Some, None}
 use Rattle.phase_records.specs.ReportValue.{ReportValue}
 use Rattle.phase_records.specs.Status.{Ended}
 use Rattle.job_picture.specs.declared.panels.Form.TheVariants.{Strip, Board, OverTime, Missing}
 use Rattle.job_view.specs.Look.{LookValue, every_of, row_count, views}
-use Rattle.job_view.specs.Words.{width_in, words_in}
+use Rattle.job_view.specs.Words.{are_widths, width_in, words_in}
 
 abbrev pub look : LookValue
 look = record { title = None; widths = codes "b=2,c=3"; over_time = codes "a,d" }
@@ -31,6 +31,10 @@ pub record LooksAreWorkedOut : Type 0 where
   pub widest : width_in (codes "b") (words_in (codes "a=1,b=4096")) ≡ Some 4096
   pub too_wide : width_in (codes "b") (words_in (codes "b=4097")) ≡ None
   pub no_width : width_in (codes "b") (words_in (codes "b=0")) ≡ None
+  pub all_widths : are_widths (words_in (codes "a=2,b=4096,c=2")) ≡ true
+  pub twice : are_widths (words_in (codes "a=2,b=3,a=2")) ≡ false
+  pub unnumbered : are_widths (words_in (codes "a=2,b")) ≡ false
+  pub none : are_widths (words_in (codes "a=0")) ≡ false
   pub all_rows : row_count 999 ≡ 1000
   pub apart : every_of 1000 ≡ 2
   pub fewer_rows : row_count 1000 ≡ 501

@@ -13,4 +13,4 @@ mod words;
 
 pub use laws::looks_are_worked_out;
 pub use views::{Look, cells_named, every_of, look_picture, row_count};
-pub use words::spaced_text;
+pub use words::{says_widths, spaced_text};

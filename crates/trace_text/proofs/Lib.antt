@@ -7,3 +7,4 @@ pub mod TreeRuns
 mod OwnFaults
 pub mod ReadWords
 mod SpelledTrees
+mod FoundNumbers

@@ -12,3 +12,4 @@ pub mod Gives
 pub mod Views
 pub mod Outcome
 pub mod Laws
+pub mod Faulty

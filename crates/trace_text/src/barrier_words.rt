@@ -102,7 +102,7 @@ fn barrier_head_words(line: &[u8]) -> Option<BarrierHeadWords<'_>>
 }
 
 // Reads a word as a generation.
-fn generation(word: &[u8]) -> Option<u64>
+pub(crate) fn generation(word: &[u8]) -> Option<u64>
     ensures { result ≡ spec.not_below_zero (number_of word.now) }
 {
     let n = number(word)?;

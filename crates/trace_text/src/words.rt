@@ -52,7 +52,7 @@ pub(crate) fn up_to(most: u32, word: &[u8]) -> Option<u32>
 }
 
 // Reads a word as a number of 32 signed bits.
-fn of_32_bits(word: &[u8]) -> Option<i32>
+pub(crate) fn of_32_bits(word: &[u8]) -> Option<i32>
     ensures { result ≡ spec.of_32_bits (number_of word.now) }
 {
     let n = number(word)?;

@@ -1,6 +1,7 @@
 use Rattle.std.proofs.Common.{◌≡◌, inl, inr, ap, [], rules}
 use Rattle.clap.specs.Words.{HasKind}
-use Rattle.bsp_cli.proofs.Refusals.{no-memory, refused-kind}
+use Rattle.bsp_words.proofs.Refusals.{refused-kind}
+use Rattle.bsp_cli.proofs.Refusals.{no-memory}
 use Rattle.bsp_cli.proofs.command_line.run_telling.Goals as goal
 
 pub returns-in-Err : goal.returns-in-Err

@@ -1,9 +1,13 @@
-use Rattle.std.proofs.Common.{map}
-use Rattle.task_actions.specs.Views.{plans, task_of}
-use Rattle.fault_reasons.proofs.RanAgain.{run-again}
+use Rattle.std.proofs.Common.{◌∙◌, sym}
+use Rattle.fault_reasons.proofs.Reached.{begins_if, never_if}
 use Rattle.fault_reasons.proofs.again.run_to.Goals as goal
+
+pub returns-then-is_at_limit : goal.returns-then-is_at_limit
+returns-then-is_at_limit c =
+    begins_if c.args.job.now c.args.step c.in_ok-run.run' c.advance.new.self c.in_ok-run.ensures.begun c.in_ok-run.ensures.job c.in_ok-advance.ensures
+    (sym c.is_at_limit.ensures ∙ c.if-is_at_limit.true)
 
 pub returns : goal.returns
 returns c =
-    run-again c.args.job.now c.args.limit c.in_ok-ran.ran.report c.in_ok-ran.ran.tasks.items c.in_ok-arrays.field-0.arrays
-    (map (task_of (plans c.args.job.now.bodies)) c.in_ok-arrays.field-0.tasks.items) c.in_ok-arrays.ensures.arrays c.in_ok-arrays.ensures.tasks c.in_ok-ran.ensures
+    never_if c.args.job.now c.args.step c.in_ok-run.run' c.advance.new.self c.in_ok-run.ensures.begun c.in_ok-run.ensures.job c.in_ok-advance.ensures
+    (sym c.is_at_limit.ensures ∙ c.if-is_at_limit.false)

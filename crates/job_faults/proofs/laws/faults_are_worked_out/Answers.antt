@@ -19,5 +19,6 @@ returns c = record {
   unclosed = refl;
   header = refl;
   told = refl;
+  reserved = refl;
   bodies = refl;
 }

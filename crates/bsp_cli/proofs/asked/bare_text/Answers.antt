@@ -1,9 +1,0 @@
-use Rattle.std.proofs.Common.{◌∙◌, ap, refl}
-use Rattle.clap.specs.Simple.{app_of_fields}
-use Rattle.bsp_cli.proofs.asked.bare_text.Goals as goal
-
-pub returns-clause-app : goal.returns-clause-app
-returns-clause-app c = ap app_of_fields c.after_long_help.ensures ∙ (ap app_of_fields c.about.ensures ∙ c.new.ensures.app)
-
-pub returns-clause-local : goal.returns-clause-local
-returns-clause-local c = rw c.after_long_help.ensures (rw c.about.ensures (rw c.new.ensures.local refl))

@@ -1,5 +1,0 @@
-use Rattle.bsp_cli.proofs.Numbers.{numbers-ask}
-use Rattle.bsp_cli.proofs.laws.numbers_ask.Goals as goal
-
-pub returns : goal.returns
-returns c = numbers-ask

@@ -1,5 +1,0 @@
-use Rattle.bsp_cli.proofs.Numbers.{others-refused}
-use Rattle.bsp_cli.proofs.laws.other_numbers_are_refused.Goals as goal
-
-pub returns : goal.returns
-returns c = others-refused

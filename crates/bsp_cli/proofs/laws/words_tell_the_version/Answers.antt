@@ -1,5 +1,0 @@
-use Rattle.bsp_cli.proofs.Parsed.{words-version}
-use Rattle.bsp_cli.proofs.laws.words_tell_the_version.Goals as goal
-
-pub returns : goal.returns
-returns c = words-version

@@ -1,0 +1,6 @@
+mod Clashes
+mod Decimals
+mod Limits
+mod Numbers
+mod Parsed
+pub mod Refusals

@@ -1,0 +1,4 @@
+pub mod CommandLine
+pub mod Laws
+pub mod Ranges
+pub mod Topics

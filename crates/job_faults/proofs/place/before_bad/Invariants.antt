@@ -1,9 +1,0 @@
-use Rattle.std.proofs.Common.{◌≡◌, ◌+◌, drop}
-use Rattle.job_faults.specs.Places.{before_bad}
-use Rattle.job_faults.proofs.place.before_bad.Given as goal
-
-abbrev pub invariant-loop-byte : goal.invariant-loop-byte
-invariant-loop-byte l = record {
-  same : l.before + before_bad (drop l.byte-index l.line) ≡ before_bad l.line;
-  at : l.before ≡ l.byte-index;
-}

@@ -1,0 +1,6 @@
+pub mod Behind
+mod Marking
+mod Noted
+pub mod Reasoned
+mod Refused
+mod Short

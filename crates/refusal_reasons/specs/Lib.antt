@@ -1,0 +1,10 @@
+pub mod Known
+pub mod Lines
+pub mod Marks
+pub mod Meanings
+pub mod Names
+pub mod Places
+pub mod Reasons
+pub mod WordFaults
+pub mod WorkedPlaces
+pub mod WorkedReasons

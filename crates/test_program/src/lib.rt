@@ -1,0 +1,20 @@
+//! Tests of the program that need Rust: devices that give or take little or fail, texts that are cut at each byte, help, and
+//! progress. What a row can say is in `examples/rows.txt`.
+#![tactic(auto)]
+
+#[cfg(test)]
+mod examples;
+#[cfg(test)]
+mod failing;
+#[cfg(test)]
+mod fakes;
+#[cfg(test)]
+mod fronts;
+#[cfg(test)]
+mod help;
+#[cfg(test)]
+mod interrupted;
+#[cfg(test)]
+mod progress;
+#[cfg(test)]
+mod runs;
