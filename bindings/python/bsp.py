@@ -162,7 +162,7 @@ def _report(text):
         elif kind == "array":
             arrays[words[0]] = [int(word) for word in words[1:]]
         elif kind == "fault":
-            fault = Fault(int(words[0]), FAULTS[int(words[0])], int(words[2]), _path(words[4]))
+            fault = Fault(int(words[0]), FAULTS.get(int(words[0]), "Own"), int(words[2]), _path(words[4]))
     return Report(kind, len(supersteps), supersteps, prints, arrays, fault, text)
 
 

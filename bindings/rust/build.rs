@@ -3,7 +3,7 @@
 use std::path::{Path, PathBuf};
 use std::process::Command;
 
-const LIBRARIES: [&str; 2] = ["libbsp_phaser.a", "libbsp_job.a"];
+const LIBRARIES: [&str; 3] = ["libbsp_phaser.a", "libbsp_job.a", "libbsp_steps.a"];
 
 // The folders of the libraries, and whether the toolchain's functions for memory have to be linked too.
 fn folders() -> (Vec<PathBuf>, bool) {
@@ -15,7 +15,7 @@ fn folders() -> (Vec<PathBuf>, bool) {
         return (vec![installed], false);
     }
     let crates = Path::new(env!("CARGO_MANIFEST_DIR")).join("../../crates");
-    let mut folders: Vec<PathBuf> = ["bsp_phaser", "bsp_job"].iter().map(|name| crates.join(name).join("out")).collect();
+    let mut folders: Vec<PathBuf> = ["bsp_phaser", "bsp_job", "bsp_steps"].iter().map(|name| crates.join(name).join("out")).collect();
     // `rt doc` names a page beside the toolchain's folder `c`.
     if let Ok(ran) = Command::new("rt").arg("doc").output() {
         let page = PathBuf::from(String::from_utf8_lossy(&ran.stdout).trim());

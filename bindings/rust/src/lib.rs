@@ -1,5 +1,5 @@
-//! Bulk-synchronous jobs as texts, and a phaser in one atomic word, over the proved calls of `libbsp_job.a` and
-//! `libbsp_phaser.a`.
+//! Bulk-synchronous jobs as texts, supersteps whose tasks are Rust values ([`Steps`]), and a phaser in one atomic word, over the
+//! proved calls of `libbsp_job.a`, `libbsp_steps.a` and `libbsp_phaser.a`.
 //!
 //! The calls in [`sys`] are proved. What is here is Rust over them, and isn't: reading the text of a report, the loops of
 //! compare-and-swap, and the waiting.
@@ -13,7 +13,9 @@
 mod job;
 mod phaser;
 mod sleep;
+mod steps;
 pub mod sys;
 
 pub use job::{Code, End, Fault, JobError, Print, Refusal, Report, Superstep, check, run, upgrade};
 pub use phaser::{Arrival, Phaser, Refused};
+pub use steps::{Ending, Out, Steps, StepsEnd, StepsError, TaskBody, View};

@@ -1,0 +1,416 @@
+/* The calls of bsp_steps.h on runs of every kind, and on random runs beside a model that is written here: prints what it has tried.
+ * With WRAPPED, and linked with --wrap=malloc,--wrap=realloc, each allocation fails in turn. */
+#include "bsp_steps.h"
+#include <stdio.h>
+#include <string.h>
+
+static long tried, wrong;
+static void want(int holds, int line) {
+    tried++;
+    if (!holds) wrong++, printf("line %d is wrong\n", line);
+}
+#define WANT(holds) want(holds, __LINE__)
+
+static const struct bsp_array none[1];
+
+static struct bsp_array array(const char *name, const int64_t *cells, size_t len) {
+    struct bsp_array a = {(const uint8_t *)name, strlen(name), cells, len};
+    return a;
+}
+
+static int32_t cell(struct bsp_steps *run, size_t array, size_t index, int64_t *value) {
+    struct bsp_cells cells = {NULL, 0};
+    int32_t status = bsp_steps_cells(run, array, &cells);
+    if (!status) *value = cells.at[index];
+    return status;
+}
+
+static size_t live(struct bsp_steps *run) {
+    struct bsp_look look;
+    return bsp_steps_look(run, &look) ? 0 : look.live;
+}
+
+/* what is refused at open */
+static void opens(void) {
+    int64_t cells[3] = {1, 2, 3};
+    struct bsp_array same[2] = {array("a", cells, 3), array("a", cells, 1)};
+    struct bsp_array strange[1] = {array("\xff", cells, 3)};
+    struct bsp_array good[3] = {array("a", cells, 3), array("b", NULL, 0), array("", cells, 1)};
+    struct bsp_steps run = {0};
+    WANT(bsp_steps_open(same, 2, 1, 1, 1, &run) == BSP_STEPS_REFUSED && !run.held);
+    WANT(bsp_steps_open(strange, 1, 1, 1, 1, &run) == BSP_STEPS_REFUSED && !run.held);
+    WANT(bsp_steps_open(good, 3, 2, 1, 1, &run) == BSP_STEPS_TASKS && !run.held);
+    WANT(bsp_steps_open(good, 3, 65536, 65536, 1, &run) == BSP_STEPS_TASKS && !run.held);
+    WANT(bsp_steps_open(good, 3, 1, 2147483648u, 1, &run) == BSP_STEPS_TASKS && !run.held);
+    WANT(bsp_steps_open(good, 3, 1, UINT32_MAX, 1, &run) == BSP_STEPS_TASKS && !run.held);
+    WANT(bsp_steps_free(&run) == BSP_STEPS_CLOSED);
+    WANT(bsp_steps_open(good, 3, 1, 1, 1, &run) == BSP_STEPS_DONE && run.held);
+    WANT(bsp_steps_open(good, 3, 1, 1, 1, &run) == BSP_STEPS_OPEN && run.held);
+    WANT(bsp_steps_free(&run) == BSP_STEPS_DONE && !run.held);
+    WANT(bsp_steps_free(&run) == BSP_STEPS_CLOSED);
+    WANT(bsp_steps_open(none, 0, 0, 0, 0, &run) == BSP_STEPS_DONE);
+    WANT(bsp_steps_close(NULL, 0, &run) == BSP_STEPS_OVER);
+    WANT(bsp_steps_free(&run) == BSP_STEPS_DONE);
+    WANT(bsp_steps_open(none, 0, 65535, 65535, 0, &run) == BSP_STEPS_DONE && live(&run) == 65535);
+    WANT(bsp_steps_close(NULL, 0, &run) == BSP_STEPS_OVER);
+    WANT(bsp_steps_free(&run) == BSP_STEPS_DONE);
+}
+
+/* each call on a slot that isn't open tells nothing */
+static void closed(void) {
+    struct bsp_steps run = {0};
+    struct bsp_look look = {1, 2, 3, 4, 5};
+    struct bsp_cells cells = {NULL, 7};
+    struct bsp_path path = {NULL, 7};
+    struct bsp_origin origin = {7, 7, true};
+    struct bsp_print print = {7, 7};
+    struct bsp_record record = {7, 7, 7, 7};
+    uint32_t code = 7;
+    size_t bytes = 7;
+    WANT(bsp_steps_close(NULL, 0, &run) == BSP_STEPS_CLOSED);
+    WANT(bsp_steps_look(&run, &look) == BSP_STEPS_CLOSED && look.step == 1 && look.records == 5);
+    WANT(bsp_steps_cells(&run, 0, &cells) == BSP_STEPS_CLOSED && cells.len == 7);
+    WANT(bsp_steps_path(&run, 0, &path) == BSP_STEPS_CLOSED && path.len == 7);
+    WANT(bsp_steps_origin(&run, 0, &origin) == BSP_STEPS_CLOSED && origin.place == 7);
+    WANT(bsp_steps_fault(&run, &code, &path) == BSP_STEPS_CLOSED && code == 7);
+    WANT(bsp_steps_print(&run, 0, &print, &path) == BSP_STEPS_CLOSED && print.value == 7);
+    WANT(bsp_steps_record(&run, 0, &record) == BSP_STEPS_CLOSED && record.left == 7);
+    WANT(bsp_steps_report(&run, NULL, 0, &bytes) == BSP_STEPS_CLOSED && bytes == 0);
+}
+
+/* deeds that don't fit change nothing; endings of each number */
+static void unfit(void) {
+    for (int ending = 0; ending < 256; ending++) {
+        int64_t cells[1] = {5}, value = 0;
+        struct bsp_array arrays[1] = {array("a", cells, 1)};
+        struct bsp_steps run = {0};
+        WANT(bsp_steps_open(arrays, 1, 2, 9, 9, &run) == BSP_STEPS_DONE);
+        struct bsp_put put = {0, 0, 0, 8};
+        struct bsp_deed deeds[3] = {{&put, 1, NULL, 0, 0, BSP_GOES_ON}, {NULL, 0, NULL, 0, 0, (uint8_t)ending}, {NULL, 0, NULL, 0, 0, 0}};
+        WANT(bsp_steps_close(deeds, 1, &run) == BSP_STEPS_UNFIT);
+        WANT(bsp_steps_close(deeds, 3, &run) == BSP_STEPS_UNFIT);
+        WANT(bsp_steps_close(NULL, 0, &run) == BSP_STEPS_UNFIT);
+        WANT(live(&run) == 2 && cell(&run, 0, 0, &value) == 0 && value == 5);
+        int32_t status = bsp_steps_close(deeds, 2, &run);
+        WANT(cell(&run, 0, 0, &value) == 0);
+        uint32_t code = 0;
+        struct bsp_path path = {NULL, 0};
+        if (ending < 2) WANT(status == BSP_STEPS_DONE && value == 8 && live(&run) == 2 - (size_t)ending);
+        else if (ending < 16) WANT(status == BSP_STEPS_UNFIT && value == 5 && live(&run) == 2);
+        else {
+            WANT(status == BSP_STEPS_FAULT && value == 5 && live(&run) == 0);
+            WANT(bsp_steps_fault(&run, &code, &path) == 0 && code == (uint32_t)ending && path.len == 1 && path.at[0] == 1);
+            WANT(bsp_steps_close(deeds, 2, &run) == BSP_STEPS_OVER);
+        }
+        WANT(bsp_steps_free(&run) == BSP_STEPS_DONE);
+    }
+}
+
+/* a run of one deed, and the fault that ends it */
+static void fault(struct bsp_deed deed, uint32_t most, uint32_t want_code, size_t want_len) {
+    int64_t cells[2] = {5, INT64_MAX}, value = 0;
+    struct bsp_array arrays[1] = {array("a", cells, 2)};
+    struct bsp_steps run = {0};
+    uint32_t code = 0;
+    struct bsp_path path = {NULL, 9};
+    uint8_t text[200];
+    size_t bytes = 0;
+    WANT(bsp_steps_open(arrays, 1, 1, most, 9, &run) == BSP_STEPS_DONE);
+    WANT(bsp_steps_fault(&run, &code, &path) == BSP_STEPS_NONE && path.len == 9);
+    WANT(bsp_steps_report(&run, text, sizeof text, &bytes) == BSP_STEPS_GOING && bytes == 0);
+    WANT(bsp_steps_close(&deed, 1, &run) == BSP_STEPS_FAULT);
+    WANT(bsp_steps_fault(&run, &code, &path) == 0 && code == want_code && path.len == want_len);
+    WANT(cell(&run, 0, 0, &value) == 0 && value == 5 && live(&run) == 0);
+    WANT(bsp_steps_report(&run, text, sizeof text, &bytes) == 0 && bytes > 20);
+    WANT(bsp_steps_report(&run, text, bytes - 1, &bytes) == BSP_STEPS_SHORT);
+    WANT(bsp_steps_free(&run) == BSP_STEPS_DONE);
+}
+
+static void faults(void) {
+    struct bsp_put outside[2] = {{0, 0, 0, 6}, {0, 0, 2, 1}}, nowhere = {1, 1, 0, 1};
+    struct bsp_put over[2] = {{0, 0, 0, 6}, {0, 1, 1, 1}};
+    struct bsp_deed no_cell = {outside, 2, NULL, 0, 0, 0}, no_array = {&nowhere, 1, NULL, 0, 0, 1}, sum = {over, 2, NULL, 0, 0, 0};
+    struct bsp_deed many = {NULL, 0, NULL, 0, 9, 0}, most = {NULL, 0, NULL, 0, 65535, 0};
+    fault(no_cell, 9, 3, 1);
+    fault(no_array, 9, 3, 1);
+    fault(sum, 9, 8, 1);
+    fault(many, 9, 7, 0);
+    fault(most, 65535, 7, 0);
+}
+
+/* tasks nine deep: the eighth numbers of a path are the last */
+static void depth(void) {
+    struct bsp_steps run = {0};
+    struct bsp_deed spawns = {NULL, 0, NULL, 0, 1, BSP_STOPS};
+    WANT(bsp_steps_open(none, 0, 1, 9, 99, &run) == BSP_STEPS_DONE);
+    for (size_t i = 1; i < 8; i++) {
+        struct bsp_path path;
+        struct bsp_origin origin;
+        WANT(bsp_steps_close(&spawns, 1, &run) == BSP_STEPS_DONE);
+        WANT(bsp_steps_path(&run, 0, &path) == 0 && path.len == i + 1);
+        WANT(bsp_steps_origin(&run, 0, &origin) == 0 && origin.spawned && origin.place == 0 && origin.number == 0);
+        WANT(bsp_steps_origin(&run, 1, &origin) == BSP_STEPS_NONE && bsp_steps_path(&run, 1, &path) == BSP_STEPS_NONE);
+    }
+    WANT(bsp_steps_close(&spawns, 1, &run) == BSP_STEPS_FAULT);
+    uint32_t code;
+    struct bsp_path path;
+    WANT(bsp_steps_fault(&run, &code, &path) == 0 && code == 5 && path.len == 8);
+    WANT(bsp_steps_free(&run) == BSP_STEPS_DONE);
+}
+
+/* puts, prints, spawns, origins and the report of a run to its limit */
+static int32_t whole(struct bsp_steps *run) {
+    int64_t cells[2] = {10, 20};
+    struct bsp_array arrays[2] = {array("a", cells, 2), array("b", cells, 1)};
+    int32_t status = bsp_steps_open(arrays, 2, 2, 9, 2, run);
+    if (status) return status;
+    struct bsp_put puts[3] = {{0, 0, 0, 1}, {0, 1, 0, 5}, {1, 1, 0, -3}};
+    int64_t prints[2] = {7, -8};
+    struct bsp_deed first[2] = {{puts, 1, prints, 2, 2, BSP_GOES_ON}, {puts + 1, 2, prints, 1, 1, BSP_STOPS}};
+    status = bsp_steps_close(first, 2, run);
+    if (status) return status;
+    struct bsp_deed second[4] = {{NULL, 0, prints, 1, 1, 0}, {NULL, 0, NULL, 0, 0, 1}, {NULL, 0, prints + 1, 1, 0, 0}, {NULL, 0, NULL, 0, 0, 0}};
+    return bsp_steps_close(second, 4, run);
+}
+
+static const char text_of_whole[] = "print 0 0 7\nprint 0 0 -8\nprint 0 1 7\nphase 0 parties 5 left 1 spawned 3\n"
+                                    "print 1 0 7\nprint 1 0.1 -8\nphase 1 parties 5 left 1 spawned 1\narray a 6 20\narray b 7\nlimit 2\n";
+
+static void reads(void) {
+    struct bsp_steps run = {0};
+    WANT(whole(&run) == BSP_STEPS_LIMIT);
+    /* live: 0, 0.1, 0.2 (spawned in step 1), 1.0 */
+    struct bsp_origin want_origin[4] = {{0, 0, false}, {2, 0, false}, {0, 0, true}, {3, 0, false}};
+    for (size_t i = 0; i < 4; i++) {
+        struct bsp_origin origin = {99, 99, false};
+        WANT(bsp_steps_origin(&run, i, &origin) == 0 && origin.place == want_origin[i].place && origin.number == want_origin[i].number
+             && origin.spawned == want_origin[i].spawned);
+    }
+    struct bsp_print print;
+    struct bsp_path path;
+    struct bsp_record record;
+    WANT(bsp_steps_print(&run, 4, &print, &path) == 0 && print.step == 1 && print.value == -8 && path.len == 2 && path.at[1] == 1);
+    WANT(bsp_steps_print(&run, 5, &print, &path) == BSP_STEPS_NONE);
+    WANT(bsp_steps_record(&run, 0, &record) == 0 && record.phase == 0 && record.parties == 5 && record.left == 1 && record.spawned == 3);
+    WANT(bsp_steps_record(&run, 2, &record) == BSP_STEPS_NONE);
+    size_t len = sizeof text_of_whole - 1, bytes = 0;
+    for (size_t room = 0; room <= len + 1; room++) {
+        uint8_t *out = (uint8_t *)malloc(room + 1);
+        if (!out) exit(6);
+        out[room] = 0xa5;
+        int32_t status = bsp_steps_report(&run, out, room, &bytes);
+        WANT(bytes == len && out[room] == 0xa5 && status == (room < len ? BSP_STEPS_SHORT : BSP_STEPS_DONE));
+        WANT(status || !memcmp(out, text_of_whole, len));
+        free(out);
+    }
+    WANT(bsp_steps_free(&run) == BSP_STEPS_DONE);
+}
+
+/* Random runs, each beside a model: what tasks are, and what lands. */
+enum { MODEL_TASKS = 40, MODEL_ROOM = 400, MODEL_CELLS = 6, MODEL_PUTS = 4 };
+
+struct model_task {
+    uint16_t path[8];
+    size_t len;
+    uint32_t begun;
+    struct bsp_origin origin;
+};
+
+static struct model_task model[MODEL_ROOM], after[MODEL_ROOM];
+static size_t model_live;
+static int64_t model_cells[2][MODEL_CELLS];
+static uint32_t seed;
+
+static uint32_t pick(uint32_t below) {
+    seed = seed * 1664525u + 1013904223u;
+    return (uint32_t)(((uint64_t)(seed >> 8) * below) >> 24);
+}
+
+static int by_path(const void *one, const void *other) {
+    const struct model_task *a = (const struct model_task *)one, *b = (const struct model_task *)other;
+    for (size_t i = 0; i < a->len && i < b->len; i++)
+        if (a->path[i] != b->path[i]) return a->path[i] < b->path[i] ? -1 : 1;
+    return a->len < b->len ? -1 : a->len > b->len;
+}
+
+/* the fault of the first task that has one, by what it does alone: its number */
+static uint32_t own_fault(const struct bsp_deed *deeds, size_t *who) {
+    for (*who = 0; *who < model_live; ++*who) {
+        const struct bsp_deed *deed = &deeds[*who];
+        if (deed->ending >= 16) return deed->ending;
+        for (size_t k = 0; k < deed->put_count; k++)
+            if (deed->puts[k].array > 1 || deed->puts[k].index >= MODEL_CELLS) return 3;
+        if (deed->spawns && model[*who].len == 8) return 5;
+    }
+    return 0;
+}
+
+/* the fault of a sum, else all puts land */
+static uint32_t lands(const struct bsp_deed *deeds, size_t *who) {
+    int64_t cells[2][MODEL_CELLS];
+    memcpy(cells, model_cells, sizeof cells);
+    for (*who = 0; *who < model_live; ++*who)
+        for (size_t k = 0; k < deeds[*who].put_count; k++) {
+            struct bsp_put put = deeds[*who].puts[k];
+            int64_t *cell = &cells[put.array][put.index];
+            if (!put.adds) *cell = put.value;
+            else if (__builtin_add_overflow(*cell, put.value, cell)) return 8;
+        }
+    memcpy(model_cells, cells, sizeof cells);
+    return 0;
+}
+
+/* the next live tasks */
+static size_t next_live(const struct bsp_deed *deeds) {
+    size_t count = 0;
+    for (size_t i = 0; i < model_live; i++) {
+        for (uint16_t k = 0; k < deeds[i].spawns; k++) {
+            struct model_task *child = &after[count++];
+            *child = model[i];
+            child->path[child->len++] = (uint16_t)(model[i].begun + k);
+            child->begun = 0;
+            struct bsp_origin origin = {i, k, true};
+            child->origin = origin;
+        }
+        if (deeds[i].ending) continue;
+        struct bsp_origin origin = {i, 0, false};
+        after[count] = model[i];
+        after[count].begun += deeds[i].spawns;
+        after[count++].origin = origin;
+    }
+    qsort(after, count, sizeof *after, by_path);
+    return count;
+}
+
+/* the live tasks and cells are those of the model */
+static void same(struct bsp_steps *run) {
+    struct bsp_look look;
+    WANT(bsp_steps_look(run, &look) == 0 && look.live == model_live);
+    for (size_t i = 0; i < model_live && i < look.live; i++) {
+        struct bsp_path path;
+        struct bsp_origin origin;
+        WANT(bsp_steps_path(run, i, &path) == 0 && path.len == model[i].len && !memcmp(path.at, model[i].path, path.len * sizeof *path.at));
+        WANT(bsp_steps_origin(run, i, &origin) == 0 && origin.place == model[i].origin.place && origin.number == model[i].origin.number
+             && origin.spawned == model[i].origin.spawned);
+    }
+    for (size_t a = 0; a < 2; a++) {
+        struct bsp_cells cells;
+        WANT(bsp_steps_cells(run, a, &cells) == 0 && cells.len == MODEL_CELLS && !memcmp(cells.at, model_cells[a], sizeof model_cells[a]));
+    }
+}
+
+static void random_deed(struct bsp_deed *deed, struct bsp_put *puts, const int64_t *prints, bool calm) {
+    deed->puts = puts, deed->put_count = pick(MODEL_PUTS + 1), deed->prints = prints, deed->print_count = pick(3);
+    for (size_t k = 0; k < deed->put_count; k++) {
+        int64_t value = (int64_t)pick(2000) - 1000;
+        struct bsp_put put = {(uint16_t)pick(2), (uint16_t)pick(2), pick(MODEL_CELLS), pick(9) ? value : value * (INT64_MAX / 1001)};
+        if (!calm && !pick(300)) put.index = MODEL_CELLS + pick(2) * 4000000000u;
+        puts[k] = put;
+    }
+    deed->spawns = (uint16_t)(pick(4) ? 0 : 1 + pick(2));
+    deed->ending = (uint8_t)(pick(4) ? BSP_GOES_ON : BSP_STOPS);
+    if (!calm && !pick(200)) deed->ending = (uint8_t)(16 + pick(240));
+}
+
+/* one run; returns the number of the fault that ended it, or 0 */
+static uint32_t random_run(bool calm) {
+    struct bsp_array arrays[2] = {array("a", model_cells[0], MODEL_CELLS), array("b", model_cells[1], MODEL_CELLS)};
+    struct bsp_steps run = {0};
+    memset(model_cells, 0, sizeof model_cells);
+    model_live = 1 + pick(5);
+    for (size_t i = 0; i < model_live; i++) {
+        struct model_task task = {{(uint16_t)i}, 1, 0, {i, 0, false}};
+        model[i] = task;
+    }
+    WANT(bsp_steps_open(arrays, 2, (uint32_t)model_live, MODEL_TASKS, 30, &run) == BSP_STEPS_DONE);
+    uint32_t fault = 0;
+    for (uint32_t step = 0;; step++) {
+        same(&run);
+        static struct bsp_put puts[MODEL_TASKS][MODEL_PUTS];
+        static struct bsp_deed deeds[MODEL_TASKS];
+        const int64_t prints[2] = {step, -7};
+        for (size_t i = 0; i < model_live; i++) random_deed(&deeds[i], puts[i], prints, calm);
+        size_t who = 0;
+        int32_t status = bsp_steps_close(deeds, model_live, &run);
+        fault = own_fault(deeds, &who);
+        size_t next = fault ? 0 : next_live(deeds);
+        if (!fault && next > MODEL_TASKS) fault = 7;
+        if (!fault) fault = lands(deeds, &who);
+        if (fault) {
+            uint32_t code = 0;
+            struct bsp_path path = {NULL, 0};
+            WANT(status == BSP_STEPS_FAULT && bsp_steps_fault(&run, &code, &path) == 0 && code == fault);
+            if (fault == 7) WANT(path.len == 0);
+            else WANT(path.len == model[who].len && !memcmp(path.at, model[who].path, path.len * sizeof *path.at));
+            model_live = 0;
+        } else {
+            memcpy(model, after, next * sizeof *model);
+            model_live = next;
+            WANT(status == (next == 0 ? BSP_STEPS_ENDED : step == 29 ? BSP_STEPS_LIMIT : BSP_STEPS_DONE));
+        }
+        if (status != BSP_STEPS_DONE) break;
+    }
+    same(&run);
+    WANT(bsp_steps_free(&run) == BSP_STEPS_DONE);
+    return fault;
+}
+
+static void random_runs(uint32_t count) {
+    uint32_t faults[256] = {0};
+    for (uint32_t i = 0; i < count; i++) {
+        seed = i * 2654435761u + 1;
+        faults[random_run(i % 2)]++;
+    }
+    uint32_t own = 0;
+    for (int code = 16; code < 256; code++) own += faults[code];
+    printf("%u random runs, faults: %u cells, %u depth, %u tasks, %u sums, %u own\n", count, faults[3], faults[5], faults[7], faults[8], own);
+}
+
+#ifdef WRAPPED
+static long left = -1;
+void *__real_malloc(size_t n);
+void *__real_realloc(void *p, size_t n);
+void *__wrap_malloc(size_t n) { return left >= 0 && left-- == 0 ? NULL : __real_malloc(n); }
+void *__wrap_realloc(void *p, size_t n) { return left >= 0 && left-- == 0 ? NULL : __real_realloc(p, n); }
+
+/* each allocation fails in turn: the status says it, and nothing is lost but the run */
+static void memory(void) {
+    long failed = 0;
+    for (long n = 0;; n++) {
+        struct bsp_steps run = {0};
+        uint8_t out[sizeof text_of_whole];
+        size_t bytes = 0;
+        left = n;
+        int32_t status = whole(&run);
+        if (status == BSP_STEPS_LIMIT) status = bsp_steps_report(&run, out, sizeof out, &bytes);
+        bool reached = left < 0;
+        left = -1;
+        WANT(status == (reached ? BSP_STEPS_NO_MEMORY : BSP_STEPS_DONE));
+        if (run.held && status) {
+            struct bsp_look look;
+            int64_t value = 0;
+            WANT(bsp_steps_look(&run, &look) == 0 && cell(&run, 0, 0, &value) == 0 && (look.step == 0 ? value == 10 : value == 6));
+            if (look.live == 0) WANT(bsp_steps_close(NULL, 0, &run) == BSP_STEPS_NO_MEMORY);
+        }
+        WANT(bsp_steps_free(&run) == (run.held ? BSP_STEPS_DONE : BSP_STEPS_CLOSED) || !run.held);
+        if (!reached) break;
+        failed++;
+    }
+    printf("%ld allocations failed in turn\n", failed);
+}
+#endif
+
+int main(void) {
+    opens();
+    closed();
+    unfit();
+    faults();
+    depth();
+    reads();
+    random_runs(1000);
+#ifdef WRAPPED
+    memory();
+#endif
+    printf("%ld answers, %ld wrong\n", tried, wrong);
+    return wrong != 0;
+}

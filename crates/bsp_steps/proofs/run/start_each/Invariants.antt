@@ -1,0 +1,12 @@
+use Rattle.std.proofs.Common.{◌≡◌, ◌≤◌, ◌++◌, ◌-◌}
+use Rattle.bsp_steps.specs.Given.{start_origins}
+use Rattle.bsp_steps.proofs.run.start_each.Given as goal
+
+abbrev pub invariant-loop-place : goal.invariant-loop-place
+invariant-loop-place l = record {
+  starts : l.starts.items ++ start_origins l.place (l.count - l.place) ≡ start_origins 0 l.fn.count;
+  within : l.place ≤ l.count;
+}
+
+abbrev pub decreases-loop-place : goal.decreases-loop-place
+decreases-loop-place l = l.count - l.place

@@ -1,0 +1,230 @@
+/* bsp_steps.h: supersteps whose tasks you run yourself (docs/EMBEDDING.md, "Supersteps in your language").
+ *
+ * You run the segment of each live task, in your language and on your threads, and tell what each task left. The library lands
+ * the puts, orders the prints, counts, and says which tasks live next. The result is the same on any number of threads.
+ *
+ * Proved: the calls, which are in the libraries libbsp_steps.a and libbsp.so. Not proved: the functions that are inline here.
+ *
+ * What is promised, for any numbers and slices:
+ *   bsp_steps_close, status 0 to 3: the run is one superstep further, in which each live task left exactly what its deed says.
+ *   A put to no cell is fault 3 of its task, a spawn by a task whose path has 8 numbers is fault 5, a task's 65536th spawn
+ *   fault 6, too many live tasks fault 7, a sum outside of 64 signed bits fault 8. After a fault nothing of its superstep counts;
+ *   5, 8, 11, 12 and 13: in exactly that case, and nothing is changed; 4: an array is refused, and nothing is open;
+ *   6: memory ran out. At open nothing is open then; at close the run can't go on: each later close returns 6;
+ *   7: nothing is open; 9: there is no array, task, print, record or fault of this number; what the call tells is left alone;
+ *   10: `out` is too short for the text, which is `*bytes` long; the bytes of `out` may change.
+ *   Nothing halts; every call returns. None allocates for each put alone: buffers grow, and are kept from one close to the next.
+ *
+ * The caller ensures that a slot is `{0}` before it is opened for the first time, is never copied or written, and is used by one
+ * call at a time; that pointers point to as many values as it says (any pointer, also NULL, if the number is 0), which don't
+ * overlap with what a call writes; and that malloc, realloc and free are those of one allocator. What a call
+ * lends is there, and stays as it is, until the next close or free of that slot, and any number of threads may read it meanwhile.
+ * (The calls' contracts say so until the next call with that slot. That the calls which only look move nothing is tested.) */
+#ifndef BSP_STEPS_H
+#define BSP_STEPS_H
+
+#include <stdbool.h>
+#include <stddef.h>
+#include <stdint.h>
+#include <stdlib.h>
+
+#ifdef __cplusplus
+extern "C" {
+#endif
+
+/* the statuses */
+enum {
+    BSP_STEPS_DONE = 0,      /* done; of a close: the run goes on */
+    BSP_STEPS_ENDED = 1,     /* no task lives on */
+    BSP_STEPS_FAULT = 2,     /* a fault has ended the run */
+    BSP_STEPS_LIMIT = 3,     /* the limit is reached with live tasks */
+    BSP_STEPS_REFUSED = 4,   /* an array's name is not UTF-8 or another array's, or it has over 4294967296 cells */
+    BSP_STEPS_TASKS = 5,     /* more start tasks than may live or than 65535, or more may live than 2147483647 */
+    BSP_STEPS_NO_MEMORY = 6, /* an allocation failed */
+    BSP_STEPS_CLOSED = 7,    /* nothing is open */
+    BSP_STEPS_OPEN = 8,      /* the slot is open already */
+    BSP_STEPS_NONE = 9,      /* there is none of this number */
+    BSP_STEPS_SHORT = 10,    /* `out` is too short */
+    BSP_STEPS_UNFIT = 11,    /* the deeds are not as many as the live tasks, or one ends by a number from 2 to 15 */
+    BSP_STEPS_OVER = 12,     /* the run was over before */
+    BSP_STEPS_GOING = 13     /* the run isn't over */
+};
+
+/* how a task ends a superstep, or the number of a fault, from 16 to 255 */
+enum { BSP_GOES_ON = 0, BSP_STOPS = 1 };
+
+/* a run, in the caller's memory: {0} before it is opened */
+struct bsp_steps {
+    void *at;
+    bool held;
+};
+
+/* an array: its name and its cells, which are copied */
+struct bsp_array {
+    const uint8_t *name;
+    size_t name_len;
+    const int64_t *cells;
+    size_t len;
+};
+
+/* a put: sets the cell, or adds to it if `adds` is not 0 */
+struct bsp_put {
+    uint16_t array;
+    uint16_t adds;
+    uint32_t index;
+    int64_t value;
+};
+
+/* what a live task left: its puts and prints, in order, how many tasks it spawned, and how it ends */
+struct bsp_deed {
+    const struct bsp_put *puts;
+    size_t put_count;
+    const int64_t *prints;
+    size_t print_count;
+    uint16_t spawns;
+    uint8_t ending;
+};
+
+/* where a live task comes from: it had this place in the superstep before, or (`spawned`) its spawner had, which had spawned
+ * `number` tasks before it in that superstep. A start task has its own place. */
+struct bsp_origin {
+    size_t place;
+    uint16_t number;
+    bool spawned;
+};
+
+struct bsp_look {
+    uint32_t step;
+    size_t live;
+    size_t arrays;
+    size_t prints;
+    size_t records;
+};
+
+struct bsp_print {
+    uint32_t step;
+    int64_t value;
+};
+
+struct bsp_record {
+    uint32_t phase;
+    uint32_t parties;
+    uint32_t left;
+    uint32_t spawned;
+};
+
+/* what a call lends: cells, and the numbers of a path */
+struct bsp_cells {
+    const int64_t *at;
+    size_t len;
+};
+
+struct bsp_path {
+    const uint16_t *at;
+    size_t len;
+};
+
+/* Begins a run of these arrays and of so many start tasks, whose paths are 0, 1 and so on: 0, 4, 5, 6 or 8. At most `most` tasks
+ * may live at once, and at most `limit` supersteps are taken. */
+int32_t bsp_steps_open(const struct bsp_array *arrays, size_t array_count, uint32_t starts, uint32_t most, uint32_t limit, struct bsp_steps *slot);
+
+/* Takes one superstep. There is a deed for each live task, in order. 0 to 3, 6, 7, 11 or 12. */
+int32_t bsp_steps_close(const struct bsp_deed *deeds, size_t deed_count, struct bsp_steps *slot);
+
+/* Tells how many supersteps were taken, how many tasks live, and how many arrays, prints and records there are: 0 or 7. */
+int32_t bsp_steps_look(struct bsp_steps *slot, struct bsp_look *look);
+
+/* Lends the cells of an array, the path of a live task, or tells where that comes from: 0, 7 or 9. */
+int32_t bsp_steps_cells(struct bsp_steps *slot, size_t array, struct bsp_cells *cells);
+int32_t bsp_steps_path(struct bsp_steps *slot, size_t task, struct bsp_path *path);
+int32_t bsp_steps_origin(struct bsp_steps *slot, size_t task, struct bsp_origin *origin);
+
+/* The fault that has ended the run, with the path of its task; a print, with that of its task; a record: 0, 7 or 9. */
+int32_t bsp_steps_fault(struct bsp_steps *slot, uint32_t *code, struct bsp_path *path);
+int32_t bsp_steps_print(struct bsp_steps *slot, size_t place, struct bsp_print *print, struct bsp_path *path);
+int32_t bsp_steps_record(struct bsp_steps *slot, size_t place, struct bsp_record *record);
+
+/* Puts the text of the report of a run that is over into `out`, as the program `bsp run` prints it: 0, 6, 7, 10 or 13. `*bytes` is
+ * the length of the text, 0 except at 0 and 10. */
+int32_t bsp_steps_report(struct bsp_steps *slot, uint8_t *out, size_t out_len, size_t *bytes);
+
+/* Frees the run: 0 or 7. */
+int32_t bsp_steps_free(struct bsp_steps *slot);
+
+/* Below: C, not proved. What a task leaves, in buffers of its own that are kept from one superstep to the next. */
+struct bsp_out {
+    struct bsp_put *puts;
+    size_t put_count, put_room;
+    int64_t *prints;
+    size_t print_count, print_room;
+    uint32_t spawns;
+    bool failed; /* memory ran out, or over 65535 spawns: don't close with it */
+};
+
+/* Begins a superstep: nothing was left yet. An `out` is {0} at first. */
+static inline void bsp_out_begin(struct bsp_out *out) {
+    out->put_count = out->print_count = 0;
+    out->spawns = 0;
+    out->failed = false;
+}
+
+static inline void *bsp_out_room(void *at, size_t count, size_t *room, size_t size, bool *failed) {
+    if (count < *room) return at;
+    size_t next = *room ? 2 * *room : 8;
+    void *more = realloc(at, next * size);
+    if (!more) {
+        *failed = true;
+        return at;
+    }
+    *room = next;
+    return more;
+}
+
+static inline void bsp_out_push(struct bsp_out *out, uint16_t array, uint16_t adds, uint32_t index, int64_t value) {
+    out->puts = (struct bsp_put *)bsp_out_room(out->puts, out->put_count, &out->put_room, sizeof *out->puts, &out->failed);
+    if (out->put_count == out->put_room) return;
+    struct bsp_put put = {array, adds, index, value};
+    out->puts[out->put_count++] = put;
+}
+
+/* Sets a cell. */
+static inline void bsp_out_put(struct bsp_out *out, uint16_t array, uint32_t index, int64_t value) {
+    bsp_out_push(out, array, 0, index, value);
+}
+
+/* Adds to a cell. */
+static inline void bsp_out_add(struct bsp_out *out, uint16_t array, uint32_t index, int64_t value) {
+    bsp_out_push(out, array, 1, index, value);
+}
+
+/* Prints a value. */
+static inline void bsp_out_print(struct bsp_out *out, int64_t value) {
+    out->prints = (int64_t *)bsp_out_room(out->prints, out->print_count, &out->print_room, sizeof *out->prints, &out->failed);
+    if (out->print_count == out->print_room) return;
+    out->prints[out->print_count++] = value;
+}
+
+/* Spawns a task, and returns its number: the `number` of its origin after the close. */
+static inline uint32_t bsp_out_spawn(struct bsp_out *out) {
+    if (out->spawns == 65535) out->failed = true;
+    return out->failed ? 0 : out->spawns++;
+}
+
+/* The deed of a task that ends so. */
+static inline struct bsp_deed bsp_out_deed(const struct bsp_out *out, uint8_t ending) {
+    struct bsp_deed deed = {out->puts, out->put_count, out->prints, out->print_count, (uint16_t)out->spawns, ending};
+    return deed;
+}
+
+/* Frees its buffers. */
+static inline void bsp_out_free(struct bsp_out *out) {
+    free(out->puts);
+    free(out->prints);
+    struct bsp_out none = {NULL, 0, 0, NULL, 0, 0, 0, false};
+    *out = none;
+}
+
+#ifdef __cplusplus
+}
+#endif
+#endif
