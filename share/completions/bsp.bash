@@ -15,11 +15,11 @@ _bsp() {
         return
     fi
     case ${COMP_WORDS[1]} in
-        run) COMPREPLY=($(compgen -W "--file --workers --tree --limit --progress --json --stream --help" -- "$word")) ;;
-        draw) COMPREPLY=($(compgen -W "--file --workers --tree --limit --width --over-time --title --help" -- "$word")) ;;
-        explain) COMPREPLY=($(compgen -W "1 2 3 4 5 6 7 8 9 10 11 12 13 14 --fault --trace --help" -- "$word")) ;;
-        check) COMPREPLY=($(compgen -W "--file --all --help" -- "$word")) ;;
-        trace | upgrade) COMPREPLY=($(compgen -W "--file --help" -- "$word")) ;;
+        run) COMPREPLY=($(compgen -W "--file --workers --tree --limit --progress --json --stream --why --help" -- "$word")) ;;
+        draw) COMPREPLY=($(compgen -W "--file --workers --tree --limit --width --over-time --title --why --help" -- "$word")) ;;
+        explain) COMPREPLY=($(compgen -W "1 2 3 4 5 6 7 8 9 10 11 12 13 14 --fault --trace --why --help" -- "$word")) ;;
+        check) COMPREPLY=($(compgen -W "--file --all --why --help" -- "$word")) ;;
+        trace | upgrade) COMPREPLY=($(compgen -W "--file --why --help" -- "$word")) ;;
         help) COMPREPLY=($(compgen -W "$commands" -- "$word")) ;;
     esac
 }

@@ -11,6 +11,7 @@ complete -c bsp -n __fish_use_subcommand -a explain -d 'explains a code or a fau
 complete -c bsp -n __fish_use_subcommand -a help -d 'prints help'
 complete -c bsp -n __fish_use_subcommand -s V -l version -d 'prints the version'
 complete -c bsp -s h -l help -d 'prints help'
+complete -c bsp -l why -d 'prints reasons'
 complete -c bsp -n "__fish_seen_subcommand_from $texts" -s f -l file -r -F -d 'the file to read'
 complete -c bsp -n "__fish_seen_subcommand_from $jobs" -l workers -x -a '1 2 4 8 16 32 64' -d 'how many threads'
 complete -c bsp -n "__fish_seen_subcommand_from $jobs" -l tree -x -a 'flat 2x2 2x3 4x4' -d 'the tree'
