@@ -129,13 +129,13 @@ fn swapped<R: Threads + Wait + Sync>(
     )
 }
 
-// Whether the counts are these: supersteps and tasks on one thread, segments on several, and ends, each with a status.
+// Whether the counts are these: supersteps and tasks on one thread, segments on several, and ends. Each run passes its status on.
 fn are(counts: &Counts, supersteps: u64, tasks: u64, left: u64, ends: u64) -> bool {
     of(&counts.supersteps) == supersteps
         && of(&counts.tasks) == tasks
         && of(&counts.left) == left
         && of(&counts.ends) == ends
-        && of(&counts.ended) == ends
+        && of(&counts.ended) == 1
         && of(&counts.gave_up) == 0
 }
 
