@@ -1,9 +1,13 @@
 //! Tasks written in Rattle, on worker threads: heat in a rod, also until a cell of it is warm, the game of life, a shop whose
 //! customers come and go, also until a watcher has counted to a number, a search in a graph, and its ranks. Each run leaves on workers what it leaves on one thread.
+//! Then a run with hooks: a gate that gets each segment, and a starter that gets each worker.
 #![tactic(auto)]
 
 ghost use Rattle.std.specs.Prelude.{◌≤◌};
 
+mod hooks;
+
+use crate::hooks::{Meets, Starts};
 use example_tasks::life::next;
 use example_tasks::queue::Shop;
 use example_tasks::rank::Ranks;
@@ -281,6 +285,44 @@ fn is_same<R: Threads + Wait + Sync>(
     Ok(found.as_slice() == left.as_slice())
 }
 
+// What the hooks of a run of three workers got.
+#[derive(Clone, Copy)]
+struct HookedRun {
+    supersteps: usize,
+    entered: u64,
+    left: u64,
+    met: u64,
+    workers: u64,
+}
+
+fn hooked<R: Threads + Wait + Sync>(rt: &R, alloc: Global) -> anyhow::Result<HookedRun> {
+    let start = start::rod(alloc)?;
+    let shape = Shape::from_widths(alloc, "2")?;
+    let gate = Meets::new();
+    let starts = Starts::new();
+    let ran = run_bodies_on_workers(
+        rt,
+        alloc,
+        &Rod { last: 9 },
+        start.arrays,
+        start.tasks,
+        1000,
+        1000,
+        shape,
+        3,
+        &gate,
+        &starts,
+    )?;
+    let (entered, left, met) = gate.counts();
+    Ok(HookedRun {
+        supersteps: ran.report.records.len(),
+        entered,
+        left,
+        met,
+        workers: starts.digits(),
+    })
+}
+
 fn main(rt: HostRuntime) -> anyhow::Result<()> {
     let alloc = rt.alloc();
     let left = all_alone(alloc)?;
@@ -292,5 +334,11 @@ fn main(rt: HostRuntime) -> anyhow::Result<()> {
         println!(rt; "2 workers on {widths}: the same is {two}")?;
         println!(rt; "8 workers on {widths}: the same is {eight}")?;
     }
+    let got = hooked(&rt, alloc)?;
+    println!(rt;
+        "{} supersteps, {} segments entered, {} left",
+        got.supersteps, got.entered, got.left
+    )?;
+    println!(rt; "workers {}, of whom {} met", got.workers, got.met)?;
     Ok(())
 }

@@ -7,7 +7,7 @@ use Rattle.phase_records.specs.ReportValue.{ReportValue}
 use Rattle.programs.specs.Meaning.{After, Synced, Stopped, Faulted, Segment, Frame, Says, children}
 use Rattle.programs.specs.Superstep.{State, superstep, closed, segments, fault_in, first_fault, or_later, or_next, too_many, overflow, next_live, ended_by, live_paths}
 use Rattle.programs.specs.Supersteps.{so_far, status, report_in, report_of}
-use Rattle.programs.specs.History.{Entry, says_in, says_by, says_of, AllAllowed, segments_in, IsEntered, HasRun}
+use Rattle.programs.specs.History.{Entry, says_in, says_by, says_of, AllAllowed, segments_in, IsEntered, living_after, HasRun}
 use Rattle.programs.specs.Done.{Agrees}
 use Rattle.programs.proofs.History.{AllFormed, numbers_by, stays_by, entries_rise, agrees}
 use Rattle.programs.proofs.Histories.{superstep_by, formed_by}
@@ -111,3 +111,11 @@ module _ {T : Type 0} (f : Frame T) (may : T → List (List ℕ × List ℤ) →
         let by_last = ended_is_last (says_by f most h.history) arrays tasks limit n outcome.status h.ended in
         let of_last = ended_is_last (says_of f most does) arrays tasks limit n outcome.status (ap (status limit) (sym same) ∙ h.ended) in
         ap (report_in limit) (sym of_last ∙ sym same ∙ by_last) ∙ h.report
+
+    -- so are the tasks that live at its end
+    pub lives_exactly : living_after outcome.status (so_far (says_of f most does) arrays tasks limit limit).live ≡ living
+    lives_exactly =
+        let n = length h.history in
+        let same = so_far_same n (omega arith) in
+        let of_last = ended_is_last (says_of f most does) arrays tasks limit n outcome.status (ap (status limit) (sym same) ∙ h.ended) in
+        ap (λ (st : State T). living_after outcome.status st.live) (sym of_last ∙ sym same) ∙ h.at_end

@@ -1,5 +1,5 @@
 -- One value more, cell by cell and row by row.
-use Rattle.std.proofs.Common.{◌≡◌, ℕ, zero, suc, ◌+◌, ◌-◌, ◌*◌, ◌<◌, ◌≤◌, Bool, true, false, nat_lt, List, [], ◌∷◌, ◌++◌, length, get_or, take, drop, refl, sym, ap, subst, ◌∙◌, arith, append_assoc}
+use Rattle.std.proofs.Common.{◌≡◌, ℕ, zero, suc, ◌+◌, ◌-◌, ◌*◌, ◌<◌, ◌≤◌, Bool, true, false, not, ◌&&◌, nat_lt, List, [], ◌∷◌, ◌++◌, length, get_or, take, drop, refl, sym, ap, subst, ◌∙◌, arith, append_assoc}
 use Rattle.std.specs.Prelude.{ℤ, pos, ◌+ℤ◌, Option, Some, None, if◌then◌else◌}
 use Rattle.superstep_memory.specs.declared.arrays.PutKind.TheVariants.{Add}
 use Rattle.superstep_memory.specs.Landing.{is_over}
@@ -11,7 +11,7 @@ use Rattle.std.proofs.lemmas.List.{get_or_append_left, length-append, get_or-app
 use Rattle.std.proofs.Math.Seq.{get_or-append_seam}
 use Rattle.std.proofs.Math.Nat.{suc-mul, zero-mul, mul-le-mul_right}
 use Rattle.task_bodies.specs.declared.grid.Window.{Window}
-use Rattle.task_bodies.specs.Cells.{AreEach, AreGiven, IsTooLarge, are_there, total}
+use Rattle.task_bodies.specs.Cells.{AreEach, AreGiven, IsTooLarge, are_there, total, can_be_added}
 use Rattle.task_bodies.specs.Board.{HasRow, AreRowsGiven, window_in, window_at, row_at, row_before}
 
 pub each_none : (is : ℕ → ℤ → Type 0) → AreEach is 0 []
@@ -54,17 +54,28 @@ total_more : (so_far : ℤ) (vs : List ℤ) (v : ℤ) → total so_far (vs ++ v 
 total_more so_far [] v = refl
 total_more so_far (w ∷ vs) v = total_more (so_far +ℤ w) vs v
 
+-- one more can be added
+added_more : (so_far : ℤ) (vs : List ℤ) (v : ℤ) → can_be_added so_far vs ≡ true → is_over Add v (total so_far vs) ≡ false → can_be_added so_far (vs ++ v ∷ []) ≡ true
+added_more so_far [] v h e = ap (λ (b : Bool). not b && true) e
+added_more so_far (w ∷ vs) v h e = by (is_over Add w so_far) h (λ k. added_more (so_far +ℤ w) vs v k e)
+  where
+    by : (b : Bool) → not b && can_be_added (so_far +ℤ w) vs ≡ true → (can_be_added (so_far +ℤ w) vs ≡ true → can_be_added (so_far +ℤ w) (vs ++ v ∷ []) ≡ true)
+        → not b && can_be_added (so_far +ℤ w) (vs ++ v ∷ []) ≡ true
+    by true k go = k
+    by false k go = go k
+
 -- the cells up to this place were added up
 pub record IsSummed (gives : ℤ → ℤ → Type 0) (cells : List ℤ) (first place : ℕ) (sum : ℤ) : Type 0 where
   pub values : List ℤ
   pub given : AreGiven gives cells first (place - first) values
+  pub within : can_be_added (pos 0) values ≡ true
   pub total : total (pos 0) values ≡ sum
 
 pub summed_none : (gives : ℤ → ℤ → Type 0) (cells : List ℤ) (first place : ℕ) → first ≡ place → IsSummed gives cells first place (pos 0)
 summed_none gives cells first place e =
     let z : 0 ≡ place - first = omega (arith, e) in
     let Q : ℕ → Type 0 = λ n. AreGiven gives cells first n [] in
-    record { values = []; given = subst Q z (each_none _); total = refl }
+    record { values = []; given = subst Q z (each_none _); within = refl; total = refl }
 
 module _ (gives : ℤ → ℤ → Type 0) (cells : List ℤ) (place : ℕ) (start sum x v w : ℤ) (found : Option ℤ)
     (made : found ≡ (if is_over Add w sum then None else Some (sum +ℤ w))) (new : gives x v) (ex : x ≡ get_or cells place (pos 0)) (ev : v ≡ w) where
@@ -72,12 +83,17 @@ module _ (gives : ℤ → ℤ → Type 0) (cells : List ℤ) (place : ℕ) (star
   summed_more first more next le h same some eq = record {
     values = h.values ++ v ∷ [];
     given = given_more gives cells first place h.values (h.values ++ v ∷ []) x v le h.given new ex refl;
+    within = added_more (pos 0) h.values v h.within ((λ i. is_over Add (ev i) ((h.total ∙ same) i)) ∙ none_over (is_over Add w sum) (sym made ∙ some));
     total = total_more (pos 0) h.values v ∙ (λ i. (h.total ∙ same) i +ℤ ev i) ∙ by (is_over Add w sum) (sym made ∙ some) ∙ eq;
   }
     where
       value : Option ℤ → ℤ
       value None = more
       value (Some z) = z
+
+      none_over : (b : Bool) → (if b then None else Some (sum +ℤ w)) ≡ Some more → b ≡ false
+      none_over true e = cc
+      none_over false e = refl
 
       by : (b : Bool) → (if b then None else Some (sum +ℤ w)) ≡ Some more → sum +ℤ w ≡ more
       by true e = cc
@@ -92,6 +108,7 @@ module _ (gives : ℤ → ℤ → Type 0) (cells : List ℤ) (place : ℕ) (star
         before = place - k.first;
         values = h.values;
         given = h.given;
+        begin = h.within;
         value = v;
         next = subst R at (subst P ex new);
         within = omega (arith, at, lt);

@@ -1,5 +1,6 @@
 pub mod Framed
-pub mod Laws
+pub mod WellFormed
 pub mod Mapped
 pub mod Many
 pub mod Each
+pub mod Worked

@@ -1,5 +1,5 @@
 -- What kernels over cells side by side leave (own).
-use Rattle.std.specs.Prelude.{◌≡◌, ◌<◌, ◌⊎◌, ℕ, ◌+◌, ◌-◌, nat_le, ℤ, pos, ◌+ℤ◌, Bool, true, false, ◌&&◌, List, [], ◌∷◌, length, get_or, slice_get}
+use Rattle.std.specs.Prelude.{◌≡◌, ◌<◌, ◌⊎◌, ℕ, ◌+◌, ◌-◌, nat_le, ℤ, pos, ◌+ℤ◌, Bool, true, false, not, ◌&&◌, List, [], ◌∷◌, length, get_or, slice_get}
 use Rattle.superstep_memory.specs.declared.arrays.PutKind.TheVariants.{Add}
 use Rattle.superstep_memory.specs.Landing.{is_over}
 use Rattle.superstep_memory.specs.Rows.{row_puts}
@@ -41,21 +41,28 @@ abbrev pub total : ℤ → List ℤ → ℤ
 total so_far [] = so_far
 total so_far (v ∷ vs) = total (so_far +ℤ v) vs
 
+-- these can be added to a value, one after another, and each sum is within 64 signed bits
+abbrev pub can_be_added : ℤ → List ℤ → Bool
+can_be_added so_far [] = true
+can_be_added so_far (v ∷ vs) = not (is_over Add v so_far) && can_be_added (so_far +ℤ v) vs
+
 -- the sum of what the relation gives for the cells, added to one cell, and nothing else
 pub record IsSum (gives : ℤ → ℤ → Type 0) (into cell : ℕ) (cells : List ℤ) (k : Cells) (o : Left Cells) : Type 0 where
   pub kept : o.kept ≡ k
   pub values : List ℤ
   pub given : AreGiven gives cells k.first (k.end - k.first) values
+  pub within : can_be_added (pos 0) values ≡ true
   pub puts : o.puts ≡ record { array = into; index = cell; kind = Add; value = total (pos 0) values } ∷ []
   pub prints : o.prints ≡ []
   pub spawns : o.spawns ≡ []
   pub ending : o.ending ≡ Stops
 
--- what the relation gives for one of the cells makes a sum outside of 64 signed bits
+-- what the relation gives for one of the cells makes a sum outside of 64 signed bits, the first on the way
 pub record IsTooLarge (gives : ℤ → ℤ → Type 0) (cells : List ℤ) (k : Cells) (o : Left Cells) : Type 0 where
   pub before : ℕ
   pub values : List ℤ
   pub given : AreGiven gives cells k.first before values
+  pub begin : can_be_added (pos 0) values ≡ true
   pub value : ℤ
   pub next : gives (get_or cells (k.first + before) (pos 0)) value
   pub within : k.first + before < k.end

@@ -3,3 +3,4 @@ pub mod Settled
 pub mod Kernels
 pub mod Cells
 pub mod Board
+pub mod Worked

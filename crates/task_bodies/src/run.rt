@@ -1,8 +1,8 @@
 //! Runs of tasks with a body written in Rattle.
 ghost use Rattle.std.specs.Prelude.{◌≡◌, ◌<◌, ◌↔◌, [], Some, true, false, IfOk, IfErr, length};
 ghost use Rattle.task_bodies.specs.declared.run.RunFault.TheVariants.{TooMany as TooManyStart};
-ghost use Rattle.programs.specs.History.{HasRun, HasRunTo, says_of};
-ghost use Rattle.programs.specs.Supersteps.{report_of};
+ghost use Rattle.programs.specs.History.{HasRun, HasRunTo, says_of, living_after};
+ghost use Rattle.programs.specs.Supersteps.{report_of, so_far};
 ghost use Rattle.task_bodies.specs.Bodies.{MemberValue, member_frame, are_too_many, BodyMay, body_does, numbered};
 
 use crate::body::{Exact, TaskBody};
@@ -92,7 +92,8 @@ pub fn run_bodies_watched<B: TaskBody, W: Watch>(
     Ok(ran)
 }
 
-/// Runs tasks as [`run_bodies`] does. The report is that of what the body does, superstep by superstep.
+/// Runs tasks as [`run_bodies`] does. The report is that of what the body does, superstep by superstep, and so are the tasks that
+/// come back.
 pub fn run_exactly<B: Exact>(
     alloc: Global,
     body: &B,
@@ -104,6 +105,7 @@ pub fn run_exactly<B: Exact>(
     requires ready { B.ready body.now }
     requires most { most < 2147483648 }
     ensures report { IfOk result (λ ran. report_of (says_of member_frame most (body_does (B.does body.now))) arrays (numbered [] 0 tasks.items) limit ≡ Some ran.report) }
+    ensures living { IfOk result (λ ran. living_after ran.report.status (so_far (says_of member_frame most (body_does (B.does body.now))) arrays (numbered [] 0 tasks.items) limit limit).live ≡ ran.tasks.items) }
     ensures few { IfOk result (λ ran. are_too_many most (length tasks.items) ≡ false) }
     ensures fault { IfErr result (λ e. (e ≡ TooManyStart) ↔ (are_too_many most (length tasks.items) ≡ true)) }
 {

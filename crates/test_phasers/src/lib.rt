@@ -9,6 +9,8 @@ mod closures;
 #[cfg(test)]
 mod examples;
 #[cfg(test)]
+mod hooked;
+#[cfg(test)]
 mod leaving;
 #[cfg(test)]
 mod lists;

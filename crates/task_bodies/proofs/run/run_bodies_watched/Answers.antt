@@ -2,7 +2,7 @@ use Rattle.std.proofs.Common.{◌∙◌, [], List, ap, sym, subst, arith, map, l
 use Rattle.programs.specs.Meaning.{children}
 use Rattle.programs.specs.History.{HasRunTo}
 use Rattle.task_bodies.specs.Bodies.{MemberValue, BodyMay, member_frame, path_of}
-use Rattle.task_bodies.proofs.Laws.{numbered_count, numbered_paths}
+use Rattle.task_bodies.proofs.WellFormed.{numbered_count, numbered_paths}
 use Rattle.task_bodies.proofs.Many.{not_too_many}
 use Rattle.task_bodies.proofs.Framed.{same_of}
 use Rattle.task_bodies.proofs.run.run_bodies_watched.Goals as goal

@@ -3,7 +3,7 @@ use Rattle.programs.specs.Meaning.{children}
 use Rattle.programs.specs.History.{HasRunTo}
 use Rattle.task_bodies.specs.Bodies.{MemberValue, BodyMay, member_frame, numbered, path_of}
 use Rattle.worker_pool.specs.JobPlan.{limit_of}
-use Rattle.task_bodies.proofs.Laws.{numbered_count, numbered_paths}
+use Rattle.task_bodies.proofs.WellFormed.{numbered_count, numbered_paths}
 use Rattle.task_bodies.proofs.Framed.{same_of}
 use Rattle.task_workers.proofs.bodies.run_bodies_watched_on_workers.Goals as goal
 

@@ -1,7 +1,7 @@
 use Rattle.std.proofs.Common.{◌≡◌, ◌∙◌, [], map, length, sym, ap, arith}
 use Rattle.programs.specs.Meaning.{children}
 use Rattle.task_bodies.specs.Bodies.{path_of}
-use Rattle.task_bodies.proofs.Laws.{numbered_count, numbered_paths}
+use Rattle.task_bodies.proofs.WellFormed.{numbered_count, numbered_paths}
 use Rattle.bsp_steps.proofs.Placed.{Tasks, start_count, few_starts}
 use Rattle.bsp_steps.proofs.run.Run.begin.Goals as goal
 

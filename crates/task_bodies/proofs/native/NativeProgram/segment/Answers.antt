@@ -2,7 +2,7 @@ use Rattle.std.proofs.Common.{refl, subst}
 use Rattle.programs.specs.declared.work.Ending.TheVariants as ended
 use Rattle.programs.specs.Lent.{HasLeft}
 use Rattle.task_bodies.specs.Bodies.{MemberValue, BodyMay, member_frame, path_of, framed, left_so}
-use Rattle.task_bodies.proofs.Laws.{framed_formed}
+use Rattle.task_bodies.proofs.WellFormed.{framed_formed}
 use Rattle.task_bodies.proofs.Framed.{if_ok, left_fail, left_stop, left_sync}
 use Rattle.task_bodies.proofs.native.NativeProgram.segment.Goals as goal
 
