@@ -11,7 +11,7 @@ const LOOKS: u32 = 10_000_000;
 
 /// Counts segments. The first start task waits in superstep 0 until the second has come, so two threads have to run them.
 #[derive(Drop)]
-pub struct Meets {
+pub(crate) struct Meets {
     entered: AtomicU64,
     left: AtomicU64,
     came: AtomicU64,
@@ -20,7 +20,7 @@ pub struct Meets {
 
 impl Meets {
     /// Nobody has come yet.
-    pub fn new() -> Self {
+    pub(crate) fn new() -> Self {
         Meets {
             entered: AtomicU64::new(0),
             left: AtomicU64::new(0),
@@ -30,7 +30,7 @@ impl Meets {
     }
 
     /// How many segments were entered and left, and 1 if the two first tasks ran at the same time.
-    pub fn counts(&self) -> (u64, u64, u64) {
+    pub(crate) fn counts(&self) -> (u64, u64, u64) {
         (
             self.entered.load(Ordering::SeqCst),
             self.left.load(Ordering::SeqCst),
@@ -68,20 +68,20 @@ impl Gate for Meets {
 
 /// Starts all workers, and notes their numbers as digits, each one more.
 #[derive(Drop)]
-pub struct Starts {
+pub(crate) struct Starts {
     digits: AtomicU64,
 }
 
 impl Starts {
     /// No worker has been started yet.
-    pub fn new() -> Self {
+    pub(crate) fn new() -> Self {
         Starts {
             digits: AtomicU64::new(0),
         }
     }
 
     /// The numbers of the workers, as digits.
-    pub fn digits(&self) -> u64 {
+    pub(crate) fn digits(&self) -> u64 {
         self.digits.load(Ordering::SeqCst)
     }
 }
