@@ -127,8 +127,7 @@ module _ (x : ℤ) where
           let Q : List ℤ → Type 0 = λ vs. get_or vs 1 (pos 0) ≡ pos 1 in
           let one = subst P e (h.given.each 0 (omega arith)) in
           let two = subst Q e (h.given.each 1 (omega arith)) in
-          let all : h.values ≡ x ∷ pos 1 ∷ [] = e ∙ (λ i. one i ∷ two i ∷ []) in
-          (
+          let all : h.values ≡ x ∷ pos 1 ∷ [] = e ∙ (λ i. one i ∷ two i ∷ []) in (
             ap (can_be_added (pos 0)) (sym all) ∙ h.within,
             λ i. record {
               kept = h.kept i;

@@ -23,6 +23,7 @@ set_to array index value = record { array = array; index = index; kind = Set; va
 -- paths of seven and of eight numbers
 abbrev pub seven : List ℕ
 seven = 0 ∷ 1 ∷ 2 ∷ 3 ∷ 4 ∷ 5 ∷ 6 ∷ []
+
 abbrev pub eight : List ℕ
 eight = 0 ∷ 1 ∷ 2 ∷ 3 ∷ 4 ∷ 5 ∷ 6 ∷ 7 ∷ []
 
