@@ -7,9 +7,10 @@ ghost use Rattle.tier_calls.specs.ArrivesWith.{OnlySplit};
 ghost use Rattle.tier_calls.specs.Polls as polls;
 ghost use Rattle.tier_calls.specs.Splits.{SplitAt};
 ghost use Rattle.tier_calls.specs.Waited.{PollAllWaited};
-ghost use Rattle.tier_table.specs.GroupsAtLast.{ArrivesAllAtLast, ArrivesWithAtLast, AwaitsAll, MeetsAll, tokens_arrived};
+ghost use Rattle.tier_table.specs.GroupsAtLast.{ArrivesAllAtLast, ArrivesWithAtLast, AwaitsAll, MeetsAll, HasEndedAll, tokens_arrived};
+ghost use Rattle.tier_table.specs.AtLast.{HasEndedWait};
 ghost use Rattle.tier_table.specs.Beginning.{AreAtLeaves, HaveRoom};
-ghost use Rattle.tier_table.specs.GroupMembersAtLast.{JoinsAllAtLast, LeavesAllAtLast, RegistersAllAtLast, tree_registered};
+ghost use Rattle.tier_table.specs.GroupMembersAtLast.{JoinsAllAtLast, LeavesAllAtLast, RegistersAllAtLast, HasEndedJoining, HasEndedLeaving, HasEndedRegistering, tree_registered};
 ghost use Rattle.tier_shape.specs.Leaves.{leaves_of};
 ghost use Rattle.tier_shape.specs.Preferred.{leaf_at};
 ghost use Rattle.phasers.specs.Together.{BeginsIn, BeginsNotIn, JoinsNot, LeavesSome, group_arrived, group_joined, group_left, group_registered};
@@ -175,7 +176,8 @@ impl<'a, A: OnAdvance> Guest<'a, A> {
     pub fn register_all<R: Wait>(self, rt: &R, tier: u16, members: u32) -> JoinedParties<'a, A>
         requires tier { tier < length self.tree.key.shape }
         requires members { 0 < members }
-        ensures { RegistersAllAtLast TRIES self.entry.tree tier members (group_registered result) }
+        ensures answer { RegistersAllAtLast TRIES self.entry.tree tier members (group_registered result) }
+        ensures ended { (phase : ℕ) → self.entry.view.end_seen ≡ Some phase → HasEndedRegistering (group_registered result) }
     {
         let Guest {
             shared,
@@ -191,7 +193,8 @@ impl<'a, A: OnAdvance> Guest<'a, A> {
     /// with an unarrived member brings others by [`Parties::bring_all`].
     pub fn join_all<R: Wait>(self, rt: &R, number: usize, members: u32) -> JoinedParties<'a, A>
         requires members { 0 < members }
-        ensures { RegistersAllAtLast TRIES self.entry.tree (leaf_at (leaves_of self.entry.tree.key.shape) number) members (group_registered result) }
+        ensures answer { RegistersAllAtLast TRIES self.entry.tree (leaf_at (leaves_of self.entry.tree.key.shape) number) members (group_registered result) }
+        ensures ended { (phase : ℕ) → self.entry.view.end_seen ≡ Some phase → HasEndedRegistering (group_registered result) }
     {
         let tier = self.shared.leaf(number);
         self.register_all(rt, tier, members)
@@ -348,7 +351,8 @@ impl<'a, A: OnAdvance> Parties<'a, A> {
 
     /// Lets all members arrive, as Java's `arrive` by each of them. Never returns `Full`.
     pub fn arrive_all<R: Wait>(self, rt: &R) -> PartiesArrived<'a, A>
-        ensures { ArrivesAllAtLast TRIES self.entry (group_arrived result) }
+        ensures answer { ArrivesAllAtLast TRIES self.entry (group_arrived result) }
+        ensures ended { (phase : ℕ) → self.entry.view.end_seen ≡ Some phase → HasEndedAll (group_arrived result) }
     {
         let Parties {
             shared,
@@ -363,7 +367,8 @@ impl<'a, A: OnAdvance> Parties<'a, A> {
     pub fn arrive_with<R: Wait>(self, rt: &R, joining: u32, leaving: u32) -> PartiesArrived<'a, A>
         requires few { leaving ≤ length self.tokens }
         requires come { leaving < joining + length self.tokens }
-        ensures { ArrivesWithAtLast TRIES joining leaving self.entry (group_arrived result) }
+        ensures answer { ArrivesWithAtLast TRIES joining leaving self.entry (group_arrived result) }
+        ensures ended { (phase : ℕ) → self.entry.view.end_seen ≡ Some phase → HasEndedAll (group_arrived result) }
     {
         let Parties {
             shared,
@@ -378,7 +383,8 @@ impl<'a, A: OnAdvance> Parties<'a, A> {
     /// has ended. Returns `Passed` only after an advance of the tree that found every member of every party arrived in the
     /// members' phase.
     pub fn await_advance<R: Wait>(&mut self, rt: &R) -> AwaitedAdvance
-        ensures { AwaitsAll self.old self.new result }
+        ensures answer { AwaitsAll self.old self.new result }
+        ensures ended { (phase : ℕ) → self.old.view.end_seen ≡ Some phase → HasEndedWait result }
     {
         let shared = self.shared;
         await_advance_all(&shared.tiers, rt, &mut self.group)
@@ -399,7 +405,8 @@ impl<'a, A: OnAdvance> Parties<'a, A> {
     /// [`Parties::await_advance`]: `Passed` only after an advance of the tree that found every member of every party arrived
     /// in the members' phase.
     pub fn meet_all<R: Wait>(self, rt: &R) -> (Parties<'a, A>, AwaitedAdvance)
-        ensures { MeetsAll TRIES self.entry result.0 result.1 }
+        ensures answer { MeetsAll TRIES self.entry result.0 result.1 }
+        ensures ended { (phase : ℕ) → self.entry.view.end_seen ≡ Some phase → HasEndedWait result.1 }
     {
         let Parties {
             shared,
@@ -412,7 +419,8 @@ impl<'a, A: OnAdvance> Parties<'a, A> {
 
     /// Registers `n` new members at the tier of these, who have not arrived. The new members belong to these parties.
     pub fn bring_all<R: Wait>(self, rt: &R, n: u32) -> PartiesBrought<'a, A>
-        ensures { JoinsAllAtLast TRIES n self.entry (group_joined result) }
+        ensures answer { JoinsAllAtLast TRIES n self.entry (group_joined result) }
+        ensures ended { (phase : ℕ) → self.entry.view.end_seen ≡ Some phase → HasEndedJoining (group_joined result) }
     {
         let Parties {
             shared,
@@ -451,7 +459,8 @@ impl<'a, A: OnAdvance> Parties<'a, A> {
 
     /// Lets all members leave, as Java's `arriveAndDeregister` by each of them, by one exchange.
     pub fn leave_all<R: Wait>(self, rt: &R) -> PartiesLeft<'a, A>
-        ensures { LeavesAllAtLast TRIES self.entry (group_left result) }
+        ensures answer { LeavesAllAtLast TRIES self.entry (group_left result) }
+        ensures ended { (phase : ℕ) → self.entry.view.end_seen ≡ Some phase → HasEndedLeaving (group_left result) }
     {
         let Parties {
             shared,

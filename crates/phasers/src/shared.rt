@@ -12,10 +12,10 @@ ghost use Rattle.tier_calls.specs.InPlace as in_place;
 ghost use Rattle.tier_shape.specs.Leaves.{leaves_of};
 ghost use Rattle.tier_shape.specs.Preferred.{leaf_at};
 ghost use Rattle.tier_steps.specs.declared.view.Passage.TheVariants.{Arrival, Departure};
-ghost use Rattle.tier_table.specs.AtLast.{token_counted, ArrivesAtLast, LedAtLast, HasEndedArrival, PassedBy};
+ghost use Rattle.tier_table.specs.AtLast.{token_counted, ArrivesAtLast, LedAtLast, HasEndedArrival, HasEndedWait, PassedBy};
 ghost use Rattle.tier_calls.specs.ArrivesWith.{OnlySplit};
-ghost use Rattle.tier_table.specs.GroupsAtLast.{ArrivesAllAtLast, ArrivesWithAtLast, MeetsAll, tokens_arrived};
-ghost use Rattle.tier_table.specs.GroupMembersAtLast.{LeavesAllAtLast, tree_left};
+ghost use Rattle.tier_table.specs.GroupsAtLast.{ArrivesAllAtLast, ArrivesWithAtLast, MeetsAll, HasEndedAll, tokens_arrived};
+ghost use Rattle.tier_table.specs.GroupMembersAtLast.{LeavesAllAtLast, HasEndedLeaving, tree_left};
 
 use advance_rule::{EndPlan, StoredAdvance};
 use std::alloc::{AllocError, Global};
@@ -184,6 +184,7 @@ impl<A: OnAdvance> SharedTree<A> {
         requires own { group.tree ≡ self.now }
         ensures tree { (tokens_arrived result).tree ≡ group.tree }
         ensures answer { ArrivesAllAtLast TRIES group result }
+        ensures ended { (phase : ℕ) → group.view.end_seen ≡ Some phase → HasEndedAll result }
     {
         let rule = StoredAdvance::new(|phase: u32, count: u32| self.ends(phase, count), self.plan);
         arrive_all_wait(&self.tiers, rt, group, &rule)
@@ -204,6 +205,7 @@ impl<A: OnAdvance> SharedTree<A> {
         ensures door { OnlySplit door.old door.new }
         ensures tree { (tokens_arrived result).tree ≡ group.tree }
         ensures answer { ArrivesWithAtLast TRIES joining leaving group result }
+        ensures ended { (phase : ℕ) → group.view.end_seen ≡ Some phase → HasEndedAll result }
     {
         let rule = StoredAdvance::new(|phase: u32, count: u32| self.ends(phase, count), self.plan);
         arrive_with_wait(&self.tiers, rt, door, group, joining, leaving, &rule)
@@ -214,6 +216,7 @@ impl<A: OnAdvance> SharedTree<A> {
         requires own { group.tree ≡ self.now }
         ensures tree { result.0.tree ≡ group.tree }
         ensures answer { MeetsAll TRIES group result.0 result.1 }
+        ensures ended { (phase : ℕ) → group.view.end_seen ≡ Some phase → HasEndedWait result.1 }
     {
         let rule = StoredAdvance::new(|phase: u32, count: u32| self.ends(phase, count), self.plan);
         meet_all_wait(&self.tiers, rt, group, &rule)
@@ -224,6 +227,7 @@ impl<A: OnAdvance> SharedTree<A> {
         requires own { group.tree ≡ self.now }
         ensures tree { tree_left result ≡ group.tree }
         ensures answer { LeavesAllAtLast TRIES group result }
+        ensures ended { (phase : ℕ) → group.view.end_seen ≡ Some phase → HasEndedLeaving result }
     {
         let rule = StoredAdvance::new(|phase: u32, count: u32| self.ends(phase, count), self.plan);
         leave_all_wait(&self.tiers, rt, group, &rule)

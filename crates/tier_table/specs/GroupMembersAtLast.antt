@@ -82,3 +82,16 @@ tree_registered (group_registered.Partly group parties) = group.tree
 tree_registered (group_registered.PartlyEnded group shown) = group.tree
 tree_registered (group_registered.Full door parties) = door.tree
 tree_registered (group_registered.Ended door shown) = door.tree
+
+-- the answer says that the tree has ended
+abbrev pub HasEndedJoining : GroupJoined → Type 0
+HasEndedJoining (group_joined.Ended new shown) = Unit {0}
+HasEndedJoining _ = ⊥
+
+abbrev pub HasEndedLeaving : GroupLeft → Type 0
+HasEndedLeaving (group_left.Ended new shown) = Unit {0}
+HasEndedLeaving _ = ⊥
+
+abbrev pub HasEndedRegistering : GroupRegistered → Type 0
+HasEndedRegistering (group_registered.Ended door shown) = Unit {0}
+HasEndedRegistering _ = ⊥

@@ -108,3 +108,8 @@ MeetsAfter (group_arrived.Ended mid shown) new answer = (new ≡ mid) × (answer
 -- an arrival of all members, and then a wait
 abbrev pub MeetsAll : ℕ → GroupHeld → GroupHeld → AwaitedAdvance → Type 0
 MeetsAll tries old new answer = (arrival : GroupArrived) × ArrivesAllAtLast tries old arrival × MeetsAfter arrival new answer
+
+-- the answer of an arrival says that the tree has ended
+abbrev pub HasEndedAll : GroupArrived → Type 0
+HasEndedAll (group_arrived.Ended new shown) = Unit {0}
+HasEndedAll _ = ⊥

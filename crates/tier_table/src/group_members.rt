@@ -11,7 +11,7 @@ ghost use Rattle.tier_calls.specs.LeavesAll as leaves_all;
 ghost use Rattle.tier_calls.specs.RegistersAll.{RegistersAll};
 ghost use Rattle.tier_calls.specs.RegistersAll as registers_all;
 ghost use Rattle.tier_table.specs.GroupsAtLast.{HaveLookedOn};
-ghost use Rattle.tier_table.specs.GroupMembersAtLast.{JoinsAllAtLast, LeavesAllAtLast, OthersJoin, RegistersAllAtLast, tokens_joined, tree_left, tree_registered};
+ghost use Rattle.tier_table.specs.GroupMembersAtLast.{JoinsAllAtLast, LeavesAllAtLast, OthersJoin, RegistersAllAtLast, HasEndedJoining, HasEndedLeaving, HasEndedRegistering, tokens_joined, tree_left, tree_registered};
 
 use crate::groups::Group;
 use crate::tree::Tree;
@@ -74,6 +74,7 @@ fn join_all_once(tiers: &Tiers, door: &mut Door, group: Group, n: u32) -> Result
     ensures one { group.view.size ≡ 1 }
     ensures door { OnlySplit door.old door.new }
     ensures answer { MatchResult result (λ a. JoinsAllAtLast TRIES n group a) (λ next. HaveLookedOn group next) }
+    ensures ended { (phase : ℕ) → group.view.end_seen ≡ Some phase → MatchResult result HasEndedJoining (λ next. ⊥) }
 {
     // For the prover: each token has one member.
     let _ = group.size();
@@ -98,6 +99,7 @@ pub fn join_all_wait<R: Wait>(
     ensures door { OnlySplit door.old door.new }
     ensures tree { (tokens_joined result).tree ≡ group.tree }
     ensures answer { JoinsAllAtLast TRIES n group result }
+    ensures ended { (phase : ℕ) → group.view.end_seen ≡ Some phase → HasEndedJoining result }
 {
     let mut group = group;
     for _ in rt.forever() {
@@ -122,6 +124,7 @@ fn leave_all_once<R: Wait, F: Fn(u32, u32) -> bool>(
     requires plan { rule.now.plan ≡ tiers.now.key.plan }
     ensures one { group.view.size ≡ 1 }
     ensures answer { MatchResult result (λ a. LeavesAllAtLast TRIES group a) (λ next. HaveLookedOn group next) }
+    ensures ended { (phase : ℕ) → group.view.end_seen ≡ Some phase → MatchResult result HasEndedLeaving (λ next. ⊥) }
 {
     // For the prover: each token has one member.
     let _ = group.size();
@@ -155,6 +158,7 @@ pub fn leave_all_wait<R: Wait, F: Fn(u32, u32) -> bool>(
     requires plan { rule.now.plan ≡ tiers.now.key.plan }
     ensures tree { tree_left result ≡ group.tree }
     ensures answer { LeavesAllAtLast TRIES group result }
+    ensures ended { (phase : ℕ) → group.view.end_seen ≡ Some phase → HasEndedLeaving result }
 {
     let mut group = group;
     for _ in rt.forever() {
@@ -197,6 +201,7 @@ pub fn register_all_wait<R: Wait>(
     requires some { 0 < n }
     ensures tree { tree_registered result ≡ tiers.now }
     ensures answer { RegistersAllAtLast TRIES tiers.now tier n result }
+    ensures ended { (phase : ℕ) → door.view.end_seen ≡ Some phase → HasEndedRegistering result }
 {
     match register_wait(tiers, rt, door, tier, 1) {
         RegisteredAtLast::Joined(crew, phase) => {
@@ -235,6 +240,7 @@ impl<F: Fn(u32, u32) -> bool> Tree<F> {
         ensures door { OnlySplit door.old door.new }
         ensures tree { (tokens_joined result).tree ≡ group.tree }
         ensures answer { JoinsAllAtLast TRIES n group result }
+        ensures ended { (phase : ℕ) → group.view.end_seen ≡ Some phase → HasEndedJoining result }
     {
         join_all_wait(&self.tiers, rt, door, group, n)
     }
@@ -265,6 +271,7 @@ impl<F: Fn(u32, u32) -> bool> Tree<F> {
         requires some { 0 < n }
         ensures tree { tree_registered result ≡ self.now.tree }
         ensures answer { RegistersAllAtLast TRIES self.now.tree tier n result }
+        ensures ended { (phase : ℕ) → door.view.end_seen ≡ Some phase → HasEndedRegistering result }
     {
         register_all_wait(&self.tiers, rt, door, tier, n)
     }
@@ -286,6 +293,7 @@ impl<F: Fn(u32, u32) -> bool> Tree<F> {
         requires rule { Answers (F.pre self.now.rule.closure) (F.post self.now.rule.closure) (end_ends_at self.now.rule.plan) }
         ensures tree { tree_left result ≡ group.tree }
         ensures answer { LeavesAllAtLast TRIES group result }
+        ensures ended { (phase : ℕ) → group.view.end_seen ≡ Some phase → HasEndedLeaving result }
     {
         leave_all_wait(&self.tiers, rt, group, &self.rule)
     }

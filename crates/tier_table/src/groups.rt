@@ -11,7 +11,8 @@ ghost use Rattle.tier_calls.specs.Finishes.{IsBeside, Finishes};
 ghost use Rattle.tier_calls.specs.Polls as polls;
 ghost use Rattle.tier_calls.specs.Splits.{SplitAt, AreTogether, Together};
 ghost use Rattle.tier_calls.specs.Waited.{PollAllWaited};
-ghost use Rattle.tier_table.specs.GroupsAtLast.{HaveLookedOn, FinishesAtLast, ArrivesAllAtLast, ArrivesWithAtLast, AwaitsAfter, AwaitsAll, MeetsAll, tokens_arrived};
+ghost use Rattle.tier_table.specs.GroupsAtLast.{HaveLookedOn, FinishesAtLast, ArrivesAllAtLast, ArrivesWithAtLast, AwaitsAfter, AwaitsAll, MeetsAll, HasEndedAll, tokens_arrived};
+ghost use Rattle.tier_table.specs.AtLast.{HasEndedWait};
 
 use crate::tree::Tree;
 use crate::waiting::{ArrivedAtLast, AwaitedAdvance, resume_wait};
@@ -78,6 +79,7 @@ fn arrive_all_once<R: Wait, F: Fn(u32, u32) -> bool>(
     requires plan { rule.now.plan ≡ tiers.now.key.plan }
     ensures one { group.view.size ≡ 1 }
     ensures answer { MatchResult result (λ a. ArrivesAllAtLast TRIES group a) (λ next. HaveLookedOn group next) }
+    ensures ended { (phase : ℕ) → group.view.end_seen ≡ Some phase → MatchResult result HasEndedAll (λ next. ⊥) }
 {
     // For the prover: each token has one member.
     let _ = group.size();
@@ -106,6 +108,7 @@ pub fn arrive_all_wait<R: Wait, F: Fn(u32, u32) -> bool>(
     requires plan { rule.now.plan ≡ tiers.now.key.plan }
     ensures tree { (tokens_arrived result).tree ≡ group.tree }
     ensures answer { ArrivesAllAtLast TRIES group result }
+    ensures ended { (phase : ℕ) → group.view.end_seen ≡ Some phase → HasEndedAll result }
 {
     let mut group = group;
     for _ in rt.forever() {
@@ -136,6 +139,7 @@ fn arrive_with_once<R: Wait, F: Fn(u32, u32) -> bool>(
     ensures one { group.view.size ≡ 1 }
     ensures door { OnlySplit door.old door.new }
     ensures answer { MatchResult result (λ a. ArrivesWithAtLast TRIES joining leaving group a) (λ next. HaveLookedOn group next) }
+    ensures ended { (phase : ℕ) → group.view.end_seen ≡ Some phase → MatchResult result HasEndedAll (λ next. ⊥) }
 {
     // For the prover: each token has one member.
     let _ = group.size();
@@ -171,6 +175,7 @@ pub fn arrive_with_wait<R: Wait, F: Fn(u32, u32) -> bool>(
     ensures door { OnlySplit door.old door.new }
     ensures tree { (tokens_arrived result).tree ≡ group.tree }
     ensures answer { ArrivesWithAtLast TRIES joining leaving group result }
+    ensures ended { (phase : ℕ) → group.view.end_seen ≡ Some phase → HasEndedAll result }
 {
     let mut group = group;
     for _ in rt.forever() {
@@ -189,6 +194,7 @@ pub fn await_advance_all<R: Wait>(tiers: &Tiers, rt: &R, group: &mut Group) -> A
     requires own { group.old.tree ≡ tiers.now }
     ensures tree { group.new.tree ≡ group.old.tree }
     ensures answer { AwaitsAll group.old group.new result }
+    ensures ended { (phase : ℕ) → group.old.view.end_seen ≡ Some phase → HasEndedWait result }
 {
     // For the prover: each token has one member.
     let _ = group.size();
@@ -232,6 +238,7 @@ pub fn meet_all_wait<R: Wait, F: Fn(u32, u32) -> bool>(
     requires plan { rule.now.plan ≡ tiers.now.key.plan }
     ensures tree { result.0.tree ≡ group.tree }
     ensures answer { MeetsAll TRIES group result.0 result.1 }
+    ensures ended { (phase : ℕ) → group.view.end_seen ≡ Some phase → HasEndedWait result.1 }
 {
     match arrive_all_wait(tiers, rt, group, rule) {
         GroupArrived::Done(group, phase, _) => await_after(tiers, rt, group, phase),
@@ -262,6 +269,7 @@ impl<F: Fn(u32, u32) -> bool> Tree<F> {
         requires rule { Answers (F.pre self.now.rule.closure) (F.post self.now.rule.closure) (end_ends_at self.now.rule.plan) }
         ensures tree { (tokens_arrived result).tree ≡ group.tree }
         ensures answer { ArrivesAllAtLast TRIES group result }
+        ensures ended { (phase : ℕ) → group.view.end_seen ≡ Some phase → HasEndedAll result }
     {
         arrive_all_wait(&self.tiers, rt, group, &self.rule)
     }
@@ -305,6 +313,7 @@ impl<F: Fn(u32, u32) -> bool> Tree<F> {
         ensures door { OnlySplit door.old door.new }
         ensures tree { (tokens_arrived result).tree ≡ group.tree }
         ensures answer { ArrivesWithAtLast TRIES joining leaving group result }
+        ensures ended { (phase : ℕ) → group.view.end_seen ≡ Some phase → HasEndedAll result }
     {
         arrive_with_wait(&self.tiers, rt, door, group, joining, leaving, &self.rule)
     }
@@ -341,6 +350,7 @@ impl<F: Fn(u32, u32) -> bool> Tree<F> {
         requires own { group.old.tree ≡ self.now.tree }
         ensures tree { group.new.tree ≡ group.old.tree }
         ensures answer { AwaitsAll group.old group.new result }
+        ensures ended { (phase : ℕ) → group.old.view.end_seen ≡ Some phase → HasEndedWait result }
     {
         await_advance_all(&self.tiers, rt, group)
     }
@@ -352,6 +362,7 @@ impl<F: Fn(u32, u32) -> bool> Tree<F> {
         requires rule { Answers (F.pre self.now.rule.closure) (F.post self.now.rule.closure) (end_ends_at self.now.rule.plan) }
         ensures tree { result.0.tree ≡ group.tree }
         ensures answer { MeetsAll TRIES group result.0 result.1 }
+        ensures ended { (phase : ℕ) → group.view.end_seen ≡ Some phase → HasEndedWait result.1 }
     {
         meet_all_wait(&self.tiers, rt, group, &self.rule)
     }

@@ -4,7 +4,7 @@ use Rattle.tier_table.proofs.GroupsLasting.{before_more, before_tree, before_lon
 use Rattle.tier_table.proofs.groups.arrive_with_wait.Goals as goal
 
 pub loop-init : goal.loop-init
-loop-init g c = (tt, tt, inl refl, split_first c.args.door.now)
+loop-init g c = (tt, tt, inl refl, split_first c.args.door.now, λ p e. e)
 
 pub arrive_with_once-requires-clause-own : goal.arrive_with_once-requires-clause-own
 arrive_with_once-requires-clause-own g c = (c.loop.invariant.3.tree ∙ c.requires.own.0, before_tree c.loop.invariant.2 ∙ c.requires.own.1)
@@ -19,7 +19,7 @@ pub arrive_with_once-requires-clause-rule : goal.arrive_with_once-requires-claus
 arrive_with_once-requires-clause-rule g c = c.requires.rule
 
 pub loop-preserved : goal.loop-preserved
-loop-preserved g c = (tt, tt, inr (before_more (let a = c.arrive_with_once.ensures.one in omega arith) c.loop.invariant.2 c.in-Err.ensures.answer), split_then c.loop.invariant.3 c.arrive_with_once.ensures.door)
+loop-preserved g c = (tt, tt, inr (before_more (let a = c.arrive_with_once.ensures.one in omega arith) c.loop.invariant.2 c.in-Err.ensures.answer), split_then c.loop.invariant.3 c.arrive_with_once.ensures.door, λ p e. absurd (c.in-Err.ensures.ended p (c.loop.invariant.4 p e)))
 
 pub loop-preserved-derived : goal.loop-preserved-derived
 loop-preserved-derived g c = (tt, tt)
@@ -35,3 +35,6 @@ unreachable-requires g c = false≢true c.in-None.ensures.steps
 
 pub returns-in-Ok-clause-tree : goal.returns-in-Ok-clause-tree
 returns-in-Ok-clause-tree g c = with_tree 16 c.args.joining c.args.leaving c.loop.group c.in-Ok.answer c.in-Ok.ensures.answer ∙ before_tree c.loop.invariant.2
+
+pub returns-in-Ok-clause-ended : goal.returns-in-Ok-clause-ended
+returns-in-Ok-clause-ended g c = λ p e. c.in-Ok.ensures.ended p (c.loop.invariant.4 p e)

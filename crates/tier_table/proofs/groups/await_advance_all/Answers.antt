@@ -4,7 +4,7 @@ use Rattle.tier_table.proofs.GroupsLasting.{waited_first, waited_more}
 use Rattle.tier_table.proofs.groups.await_advance_all.Goals as goal
 
 pub loop-init : goal.loop-init
-loop-init g c = (tt, tt, waited_first c.args.group.now)
+loop-init g c = (tt, tt, waited_first c.args.group.now, λ p e. e)
 
 pub poll_all-requires : goal.poll_all-requires
 poll_all-requires g c = record { own = c.loop.invariant.2.tree ∙ c.requires.own }
@@ -13,7 +13,7 @@ pub loop-preserved : goal.loop-preserved
 loop-preserved g c =
     let told = c.in-Waiting.ensures.answer in
     let kept = c.loop.invariant.2 in
-    (tt, tt, waited_more 1 (kept.view.size ∙ c.size.ensures.one) kept told.0 told.1 told.3 told.4)
+    (tt, tt, waited_more 1 (kept.view.size ∙ c.size.ensures.one) kept told.0 told.1 told.3 told.4, λ p e. absurd (c.in-Waiting.ensures.ended p (c.loop.invariant.3 p e)))
 
 pub loop-preserved-derived : goal.loop-preserved-derived
 loop-preserved-derived g c = (tt, tt)
@@ -38,3 +38,12 @@ returns-in-Here-clause-tree g c = c.in-Here.ensures.answer.0 ∙ c.loop.invarian
 
 pub returns-in-Ended-clause-tree : goal.returns-in-Ended-clause-tree
 returns-in-Ended-clause-tree g c = c.in-Ended.ensures.answer.0 ∙ c.loop.invariant.2.tree
+
+pub returns-in-Passed-clause-ended : goal.returns-in-Passed-clause-ended
+returns-in-Passed-clause-ended g c = λ p e. absurd (c.in-Passed.ensures.ended p (c.loop.invariant.3 p e))
+
+pub returns-in-Here-clause-ended : goal.returns-in-Here-clause-ended
+returns-in-Here-clause-ended g c = λ p e. absurd (c.in-Here.ensures.ended p (c.loop.invariant.3 p e))
+
+pub returns-in-Ended-clause-ended : goal.returns-in-Ended-clause-ended
+returns-in-Ended-clause-ended g c = λ p e. tt
