@@ -114,6 +114,7 @@ fn all_arrive<'a, 'b, R: Wait + Abort>(rt: &R, parties: HookedAll<'a, 'b>) -> Ho
 
 // One joins, two leave, and the others arrive.
 fn some_change<'a, 'b, R: Wait + Abort>(rt: &R, parties: HookedAll<'a, 'b>) -> HookedAll<'a, 'b> {
+    assert!(rt; parties.size() == 4);
     match parties.arrive_with(rt, 1, 2) {
         PartiesArrived::Done { parties, led, .. } => {
             assert!(rt; led);
