@@ -143,11 +143,17 @@ pub fn do_range<P: Program>(
 {
     work.prints.clear();
     work.spawns.clear();
+    // A copy, which stays in registers or on the stack while tasks change.
+    let own = StepScene {
+        program: scene.program,
+        arrays: scene.arrays,
+        step: scene.step,
+    };
     let mut place = first;
     let mut logged = work.puts.len();
     while place < end {
         let task = &mut tasks[place];
-        let told = do_one(alloc, scene, task, &mut logged, work, deeds, prints)?;
+        let told = do_one(alloc, &own, task, &mut logged, work, deeds, prints)?;
         match told {
             Some(code) => {
                 let path = task_path(task);
