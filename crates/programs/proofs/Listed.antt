@@ -6,7 +6,7 @@ use Rattle.programs.specs.InPlace.{one_left, left_in, spawned_in, maker, kept, l
 use Rattle.programs.proofs.InPlace.{living_last}
 use Rattle.programs.specs.DeedsView.{behind, deeds_with, spawned_by, stopped_by, made_by, deeds_in, IsInside}
 use Rattle.programs.specs.declared.deeds.Deeds.TheInside.{Inside}
-use Rattle.programs.specs.declared.deeds.Deed.{Deed}
+use Rattle.programs.specs.declared.deed_list.Deed.{Deed}
 
 module _ {A : Type 0} where
   pub take_front : (n : ℕ) (xs ys : List A) → n ≤ length xs → take n (xs ++ ys) ≡ take n xs
@@ -133,15 +133,15 @@ module _ {S : Type 0} where
 
   -- what is counted of deeds
   pub record Counts (i : Inside S) (ds : List (DeedValue S)) : Type 0 where
-    pub count : length i.each.items ≡ length ds
+    pub count : length i.each ≡ length ds
     pub stopped : i.stopped ≡ left_in ds
     pub spawned : length i.spawns.items ≡ spawned_in ds
 
   pub counts : (i : Inside S) (ds : List (DeedValue S)) → IsInside i → ds ≡ deeds_in i → Counts i ds
   counts i ds h e = record {
-    count = sym (ap length e ∙ count_told i.each.items i.spawns.items);
-    stopped = h.stopped ∙ sym (ap left_in e ∙ stopped_told i.each.items i.spawns.items);
-    spawned = sym (ap spawned_in e ∙ spawned_told i.each.items i.spawns.items h.spawned);
+    count = sym (ap length e ∙ count_told i.each i.spawns.items);
+    stopped = h.stopped ∙ sym (ap left_in e ∙ stopped_told i.each i.spawns.items);
+    spawned = sym (ap spawned_in e ∙ spawned_told i.each i.spawns.items h.spawned);
   }
 
   -- the last task and its deed, with the tasks that it spawned

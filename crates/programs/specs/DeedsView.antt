@@ -2,7 +2,7 @@
 use Rattle.std.specs.Prelude.{◌≡◌, ℕ, zero, suc, ◌+◌, List, [], ◌∷◌, length, take}
 use Rattle.programs.specs.DeedValue.{DeedValue}
 use Rattle.programs.specs.InPlace.{one_left}
-use Rattle.programs.specs.declared.deeds.Deed.{Deed}
+use Rattle.programs.specs.declared.deed_list.Deed.{Deed}
 use Rattle.programs.specs.declared.deeds.Deeds.TheInside.{Inside}
 
 -- all after the first n
@@ -35,9 +35,9 @@ made_by (d ∷ ds) = d.puts + made_by ds
 
 module _ {S : Type 0} where
   abbrev pub deeds_in : Inside S → List (DeedValue S)
-  deeds_in i = deeds_with i.each.items i.spawns.items
+  deeds_in i = deeds_with i.each i.spawns.items
 
   -- the tasks that were spawned are all there, and those that stopped are counted
   pub record IsInside (i : Inside S) : Type 0 where
-    pub spawned : spawned_by i.each.items ≡ length i.spawns.items
-    pub stopped : i.stopped ≡ stopped_by i.each.items
+    pub spawned : spawned_by i.each ≡ length i.spawns.items
+    pub stopped : i.stopped ≡ stopped_by i.each

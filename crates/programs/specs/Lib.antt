@@ -5,6 +5,7 @@ pub mod DeedValue
 pub mod Superstep
 pub mod Supersteps
 pub mod InPlace
+pub mod DeedLists
 pub mod DeedsView
 pub mod Regroup
 pub mod Course

@@ -10,26 +10,18 @@ ghost use Rattle.programs.specs.Changes.{change_of, change_in};
 ghost use Rattle.programs.specs.InPlace.{one_left, told_at, told_in, maker, kept, living_with, left_in, spawned_in, made_in};
 
 use crate::blame::{Blame, overflowed, task_path};
+use crate::deed_list::{Deed, DeedList, LastDeeds};
 use crate::program::OnPath;
 use phase_records::PhaseRecord;
 use std::alloc::{AllocError, Global};
 use std::marker::Model;
 use superstep_memory::path::{Path, is_before};
 
-// What a task did: whether it goes on, how many puts it made, which are its part of the log, and how many tasks it
-// spawned.
-#[derive(Clone, Copy)]
-struct Deed {
-    synced: bool,
-    puts: usize,
-    spawned: usize,
-}
-
 /// What live tasks did, one deed a task: whether it synced, and so goes on, how many puts it made, and the tasks that it
 /// spawned, in program order.
 #[derive(Drop)]
 pub struct Deeds<T> {
-    each: Vec<Deed>,
+    each: DeedList,
     spawns: Vec<T>,
     // How many tasks stopped.
     stopped: usize,
@@ -238,35 +230,36 @@ fn put_next<T: OnPath>(
     }
 }
 
-// The tasks that go on and those that they spawned, in path order; those after the bound wait. The lists of tasks, deeds and
+// The tasks that go on and those that they spawned, in path order; those after the bound wait. The lists of tasks and of
 // spawned tasks are read from their ends.
 fn put_in_order<T: OnPath>(
     tasks: &mut Vec<T>,
-    each: &mut Vec<Deed>,
+    each: LastDeeds<'_>,
     spawns: &mut Vec<T>,
     living: &mut Vec<T>,
     waiting: &mut Vec<T>,
     bound: &Option<Path>,
 )
-    requires same { length tasks.old.items ≡ length each.old.items }
-    requires all { spawned_by (reverse each.old.items) ≡ length spawns.old.items }
+    requires same { length tasks.old.items ≡ length each }
+    requires all { spawned_by each ≡ length spawns.old.items }
     requires none_yet { (living.old.items ≡ []) × (waiting.old.items ≡ []) }
-    requires room { length (living_with (reverse tasks.old.items) (deeds_with (reverse each.old.items) (reverse spawns.old.items))) ≤ vec_capacity living.old }
+    requires room { length (living_with (reverse tasks.old.items) (deeds_with each (reverse spawns.old.items))) ≤ vec_capacity living.old }
     requires wait { length spawns.old.items ≤ vec_capacity waiting.old }
     requires rising { is_rising (map T.path_of (reverse tasks.old.items)) ≡ true }
-    requires numbered { AreNumbered T.path_of (reverse tasks.old.items) (deeds_with (reverse each.old.items) (reverse spawns.old.items)) }
-    ensures living { living.new.items ++ reverse waiting.new.items ≡ in_path_order T.path_of (living_with (reverse tasks.old.items) (deeds_with (reverse each.old.items) (reverse spawns.old.items))) }
+    requires numbered { AreNumbered T.path_of (reverse tasks.old.items) (deeds_with each (reverse spawns.old.items)) }
+    ensures living { living.new.items ++ reverse waiting.new.items ≡ in_path_order T.path_of (living_with (reverse tasks.old.items) (deeds_with each.entry (reverse spawns.old.items))) }
     ensures strays { AreStrays T.path_of (option_map (λ p. p.items) bound.now) (reverse waiting.new.items) }
     ensures within { AreWithin T.path_of (option_map (λ p. p.items) bound.now) (reverse tasks.old.items) → AreWithin T.path_of (option_map (λ p. p.items) bound.now) living.new.items }
     ensures tasks { tasks.new.items ≡ [] }
-    ensures each { each.new.items ≡ [] }
     ensures spawns { spawns.new.items ≡ [] }
 {
-    while let Some(deed) = each.pop() {
+    let mut rest = each;
+    while let Some((deed, after)) = rest.split_first() {
         match tasks.pop() {
             Some(task) => put_next(living, waiting, task, deed, spawns, tasks, bound),
             None => unreachable!(),
         }
+        rest = after;
     }
     move_within(living, waiting, bound);
 }
@@ -288,17 +281,20 @@ fn with_one(stopped: usize, synced: bool) -> usize
     if synced { stopped } else { stopped + 1 }
 }
 
-// Moves tasks to the end of others.
+// Moves tasks to the end of others. There is room for them.
 #[inline(always)]
-fn take_all<T: OnPath>(all: &mut Vec<T>, spawns: &mut Vec<T>) -> Result<(), AllocError>
-    ensures items { OnOk result (all.new.items ≡ all.old.items ++ spawns.old.items) }
-    ensures none_left { OnOk result (spawns.new.items ≡ []) }
-    ensures memory { OnErr result ((all.new.items ≡ all.old.items) × (spawns.new.items ≡ spawns.old.items)) }
+fn take_reserved<T: OnPath>(all: &mut Vec<T>, spawns: &mut Vec<T>)
+    requires { vec_len all.old + vec_len spawns.old ≤ vec_capacity all.old }
+    ensures items { all.new.items ≡ all.old.items ++ spawns.old.items }
+    ensures none_left { spawns.new.items ≡ [] }
 {
     if spawns.is_empty() {
-        return Ok(());
+        return;
     }
-    all.append(spawns)
+    match all.append(spawns) {
+        Ok(()) => {}
+        Err(_) => unreachable!(),
+    }
 }
 
 impl<T: OnPath> Deeds<T> {
@@ -307,7 +303,7 @@ impl<T: OnPath> Deeds<T> {
         ensures { result ≡ [] }
     {
         Deeds {
-            each: Vec::new(alloc),
+            each: DeedList::new(alloc),
             spawns: Vec::new(alloc),
             stopped: 0,
         }
@@ -328,14 +324,18 @@ impl<T: OnPath> Deeds<T> {
         ensures deeds { OnOk result (self.new ≡ self.old ++ record { synced = synced; puts = puts; spawns = spawns.old.items } ∷ []) }
         ensures moved { OnOk result (spawns.new.items ≡ []) }
     {
+        if synced && spawns.is_empty() {
+            self.each.push_going(puts)?;
+            return Ok(());
+        }
         let spawned = spawns.len();
-        self.each.reserve(1)?;
-        take_all(&mut self.spawns, spawns)?;
-        self.each.push_reserved(Deed {
+        self.spawns.reserve(spawned)?;
+        self.each.push(Deed {
             synced,
             puts,
             spawned,
-        });
+        })?;
+        take_reserved(&mut self.spawns, spawns);
         self.stopped = with_one(self.stopped, synced);
         Ok(())
     }
@@ -345,7 +345,7 @@ impl<T: OnPath> Deeds<T> {
         ensures { result ≡ option_map told_at (maker T.path_of tasks.now self.now place) }
     {
         let mut left = place;
-        let mut rest = self.each.as_slice();
+        let mut rest = self.each.all();
         let mut others = tasks;
         while let Some((deed, after)) = rest.split_first() {
             let Some((task, behind)) = others.split_first() else {
@@ -434,16 +434,16 @@ impl<T: OnPath> Deeds<T> {
     {
         room.reserve(count, self.spawns.len())?;
         tasks.reverse();
-        self.each.reverse();
         self.spawns.reverse();
         put_in_order(
             tasks,
-            &mut self.each,
+            self.each.all(),
             &mut self.spawns,
             &mut room.living,
             &mut room.waiting,
             bound,
         );
+        self.each.clear();
         self.stopped = 0;
         std::mem::swap(&mut room.living, tasks);
         Ok(())
@@ -475,13 +475,14 @@ fn paths_in<T: OnPath>(alloc: Global, tasks: &[T]) -> Result<Vec<Path>, AllocErr
 // What each task did to the list of tasks.
 fn changes_of<T: OnPath>(
     alloc: Global,
-    each: &[Deed],
+    each: LastDeeds<'_>,
+    count: usize,
     spawns: &[T],
 ) -> Result<Vec<Change>, AllocError>
-    requires { spawned_by each.now ≡ length spawns.now }
-    ensures { IfOk result (λ changes. map change_of changes.items ≡ map (change_in T.path_of) (deeds_with each.now spawns.now)) }
+    requires { spawned_by each ≡ length spawns.now }
+    ensures { IfOk result (λ changes. map change_of changes.items ≡ map (change_in T.path_of) (deeds_with each.entry spawns.now)) }
 {
-    let mut changes = Vec::with_capacity(alloc, each.len())?;
+    let mut changes = Vec::with_capacity(alloc, count)?;
     let mut rest = each;
     let mut others = spawns;
     while let Some((deed, after)) = rest.split_first() {
@@ -498,8 +499,8 @@ fn changes_of<T: OnPath>(
 }
 
 // How many puts were made, unless that number is too large to be kept.
-fn count_puts(each: &[Deed]) -> Option<usize>
-    ensures { IfSome result (λ count. count ≡ made_by each.now) }
+fn count_puts(each: LastDeeds<'_>) -> Option<usize>
+    ensures { IfSome result (λ count. count ≡ made_by each.entry) }
 {
     let mut count: usize = 0;
     let mut rest = each;
@@ -522,7 +523,7 @@ impl<T: OnPath> Deeds<T> {
     pub fn changes(&self, alloc: Global) -> Result<Vec<Change>, AllocError>
         ensures { IfOk result (λ changes. map change_of changes.items ≡ map (change_in T.path_of) self.now) }
     {
-        changes_of(alloc, &self.each, &self.spawns)
+        changes_of(alloc, self.each.all(), self.each.len(), &self.spawns)
     }
 
     /// How many tasks stopped.
@@ -543,7 +544,7 @@ impl<T: OnPath> Deeds<T> {
     pub fn put_count(&self) -> Option<usize>
         ensures { IfSome result (λ count. count ≡ made_in self.now) }
     {
-        count_puts(&self.each)
+        count_puts(self.each.all())
     }
 
     /// How many tasks did something.
@@ -559,12 +560,9 @@ impl<T: OnPath> Deeds<T> {
         ensures none_left { OnOk result (others.new ≡ []) }
         ensures memory { OnErr result ((self.new ≡ self.old) × (others.new ≡ others.old)) }
     {
-        self.each.reserve(others.each.len())?;
-        take_all(&mut self.spawns, &mut others.spawns)?;
-        match self.each.append(&mut others.each) {
-            Ok(()) => {}
-            Err(_) => unreachable!(),
-        }
+        self.spawns.reserve(others.spawns.len())?;
+        self.each.append(&mut others.each)?;
+        take_reserved(&mut self.spawns, &mut others.spawns);
         self.stopped += others.stopped;
         others.stopped = 0;
         Ok(())

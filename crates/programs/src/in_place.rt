@@ -1,5 +1,5 @@
 //! What live tasks do in a superstep, each in its place.
-ghost use Rattle.std.specs.Prelude.{◌≡◌, ◌≤◌, ◌++◌, ◌∷◌, [], None, IfOk, OnOk, length, map};
+ghost use Rattle.std.specs.Prelude.{◌≡◌, ◌≤◌, ◌+◌, ◌++◌, ◌∷◌, [], None, IfOk, OnOk, length, map};
 ghost use Rattle.std.specs.Option.{option_map};
 ghost use Rattle.programs.specs.Superstep.{print_of};
 ghost use Rattle.programs.specs.InPlace.{at_path};
@@ -68,35 +68,50 @@ fn keep<T: OnPath>(
     deeds.push(synced, puts, &mut work.spawns)
 }
 
+// How many puts a task has made: those that the log holds beyond what was noted. Notes how many it holds.
+#[inline(always)]
+fn made<T>(work: &Work<T>, logged: &mut usize) -> usize
+    requires more { logged.old ≤ length work.now.puts }
+    ensures made { result + logged.old ≡ length work.now.puts }
+    ensures logged { logged.new ≡ length work.now.puts }
+{
+    let before = *logged;
+    *logged = work.puts.len();
+    *logged - before
+}
+
 // Does the segment of a task, which goes on in its place, and keeps what it did after what others did: its puts in `work`,
-// its prints and its deed; the buffers are empty again. Or returns the code of its fault; then nothing was printed, and what
-// else `work`, the deeds and the task hold means nothing, except the task's path.
+// which held `logged` before and holds so many then, its prints and its deed; the buffers are empty again. Or returns the code
+// of its fault; then nothing was printed, and what else `work`, the deeds and the task hold means nothing, except the task's
+// path.
 #[inline(always)]
 fn do_one<P: Program>(
     alloc: Global,
     scene: &StepScene<'_, P>,
     task: &mut P::Task,
+    logged: &mut usize,
     work: &mut Work<P::Task>,
     deeds: &mut Deeds<P::Task>,
     prints: &mut Vec<Print>,
 ) -> Result<Option<u8>, AllocError>
     requires ready { P.ready scene.now.program.now }
+    requires logged { logged.old ≡ length work.old.puts }
     requires none_printed { work.old.prints.items ≡ [] }
     requires none_spawned { work.old.spawns.items ≡ [] }
     ensures told { IfOk result (λ fault. let p = scene.now.program.now in
         HasDoneOne (P.frame p) (P.may p) (P.meant p) P.Task.path_of scene.now.arrays.now scene.now.step (option_map (at_path (P.Task.path_of task.new)) fault) task.old task.new
         work.old.puts work.new.puts deeds.old deeds.new prints.old.items prints.new.items) }
     ensures emptied { IfOk result (λ fault. fault ≡ None → (work.new.prints.items ≡ []) × (work.new.spawns.items ≡ [])) }
+    ensures logged { IfOk result (λ fault. fault ≡ None → logged.new ≡ length work.new.puts) }
 {
-    let before = work.puts.len();
     match do_task(alloc, scene, task, work)? {
         Ending::Stays => {
-            let puts = work.puts.len() - before;
+            let puts = made(work, logged);
             keep(scene.step, task, true, puts, work, deeds, prints)?;
             Ok(None)
         }
         Ending::Stops => {
-            let puts = work.puts.len() - before;
+            let puts = made(work, logged);
             keep(scene.step, task, false, puts, work, deeds, prints)?;
             Ok(None)
         }
@@ -128,10 +143,17 @@ pub fn do_range<P: Program>(
 {
     work.prints.clear();
     work.spawns.clear();
+    // A copy, which stays in registers or on the stack while tasks change.
+    let own = StepScene {
+        program: scene.program,
+        arrays: scene.arrays,
+        step: scene.step,
+    };
     let mut place = first;
+    let mut logged = work.puts.len();
     while place < end {
         let task = &mut tasks[place];
-        let told = do_one(alloc, scene, task, work, deeds, prints)?;
+        let told = do_one(alloc, &own, task, &mut logged, work, deeds, prints)?;
         match told {
             Some(code) => {
                 let path = task_path(task);

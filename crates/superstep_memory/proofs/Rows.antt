@@ -1,8 +1,9 @@
 -- Rows of puts.
-use Rattle.std.proofs.Common.{◌≡◌, true, ℕ, zero, suc, ◌≤◌, List, [], ◌∷◌, length, Some, None, slice_get, slice_set, map, refl, sym, ap, ◌∙◌, arith}
+use Rattle.std.proofs.Common.{◌≡◌, true, ℕ, zero, suc, ◌≤◌, List, [], ◌∷◌, ◌++◌, length, length-append, append_assoc, Some, None, slice_get, slice_set, map, refl, sym, ap, ◌∙◌, arith}
 use Rattle.std.specs.Prelude.{ℤ}
 use Rattle.std.specs.List.{AllByRecursion, list_all}
 use Rattle.std.proofs.lemmas.List.{set_past}
+use Rattle.std.proofs.Math.Seq.{set-append_seam}
 use Rattle.std.specs.Map.{values_of}
 use Rattle.indexmap.specs.IndexMap.{set_value_at}
 use Rattle.superstep_memory.specs.declared.arrays.PutKind.TheVariants.{Set}
@@ -70,6 +71,20 @@ row_past cells first [] le = refl
 row_past cells first (v ∷ vs) le =
     let e : slice_set cells first v ≡ cells = set_past cells first v le in
     ap (λ (cs : List ℤ). row_set cs (suc first) vs) e ∙ row_past cells (suc first) vs (omega (arith, le))
+
+-- a row in place of as many cells
+pub row_within : (front cells back vs : List ℤ) → length cells ≡ length vs → row_set (front ++ (cells ++ back)) (length front) vs ≡ front ++ (vs ++ back)
+row_within front [] back [] l = refl
+row_within front [] back (v ∷ vs) l = absurd (omega (arith, l))
+row_within front (c ∷ cells) back [] l = absurd (omega (arith, l))
+row_within front (c ∷ cells) back (v ∷ vs) l =
+    ap (λ (cs : List ℤ). row_set cs (suc (length front)) vs) (set-append_seam front c (cells ++ back) v ∙ sym (append_assoc front (v ∷ []) (cells ++ back)))
+    ∙ ap (λ (n : ℕ). row_set ((front ++ v ∷ []) ++ (cells ++ back)) n vs) (sym one_more)
+    ∙ row_within (front ++ v ∷ []) cells back vs (omega (arith, l))
+    ∙ append_assoc front (v ∷ []) (vs ++ back)
+  where
+    one_more : length (front ++ v ∷ []) ≡ suc (length front)
+    one_more = let n = length-append front (v ∷ []) in omega (arith, n)
 
 -- ---- landing
 

@@ -255,13 +255,9 @@ fn write_within(cells: &mut [i64], first: usize, values: &[i64])
     requires { first + length values.now ≤ length cells.old }
     ensures { cells.new ≡ row_set cells.old first values.now }
 {
-    let mut place = first;
-    let mut rest = values;
-    while let Some((value, after)) = rest.split_first() {
-        cells[place] = *value;
-        place += 1;
-        rest = after;
-    }
+    let (_, rest) = cells.split_at_mut(first);
+    let (those, _) = rest.split_at_mut(values.len());
+    those.copy_from_slice(values);
 }
 
 // Writes values into cells side by side. Those past the end are left out.

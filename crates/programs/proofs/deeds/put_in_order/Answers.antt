@@ -18,12 +18,12 @@ loop-deed-preserved g c =
     let v = c.loop-deed.invariant in
     let d = c.in-Some.deed in
     let u = c.in-Some-pop.task in
-    let us = reverse c.pop-in-Some.new.self.items in
-    let es = reverse c.pop.new.self.items in
+    let us = reverse c.pop.new.self.items in
+    let es = c.in-Some.after in
     let ss = reverse c.loop-deed.spawns.items in
-    let end = in_path_order q (living_with (reverse c.args.tasks.now.items) (deeds_with (reverse c.args.each.now.items) (reverse c.args.spawns.now.items))) in
-    let tasks : reverse c.loop-deed.tasks.items ≡ u ∷ us = ap reverse c.in-Some-pop.ensures.items ∙ reverse_last c.pop-in-Some.new.self.items u in
-    let each : reverse c.loop-deed.each.items ≡ d ∷ es = ap reverse c.in-Some.ensures.items ∙ reverse_last c.pop.new.self.items d in
+    let end = in_path_order q (living_with (reverse c.args.tasks.now.items) (deeds_with c.args.each (reverse c.args.spawns.now.items))) in
+    let tasks : reverse c.loop-deed.tasks.items ≡ u ∷ us = ap reverse c.in-Some-pop.ensures.items ∙ reverse_last c.pop.new.self.items u in
+    let each : c.loop-deed.rest ≡ d ∷ es = c.in-Some.ensures in
     let left : reverse c.put_next.new.spawns.items ≡ behind d.spawned ss = c.put_next.ensures.rest in
     let total : d.spawned + spawned_by es ≡ length c.loop-deed.spawns.items = ap spawned_by (sym each) ∙ v.all in
     let long = length-reverse c.loop-deed.spawns.items in
@@ -31,7 +31,7 @@ loop-deed-preserved g c =
     let taken = take_length d.spawned ss (omega (arith, total, long)) in
     let shorter : length c.put_next.new.spawns.items ≡ length (behind d.spawned ss) = sym (length-reverse c.put_next.new.spawns.items) ∙ ap length left in
     let living = living_with us (deeds_with es (behind d.spawned ss)) in
-    let many : length (living_with (reverse c.loop-deed.tasks.items) (deeds_with (reverse c.loop-deed.each.items) ss)) ≡ length ((kept d.synced u ++ take d.spawned ss) ++ living) =
+    let many : length (living_with (reverse c.loop-deed.tasks.items) (deeds_with c.loop-deed.rest ss)) ≡ length ((kept d.synced u ++ take d.spawned ss) ++ living) =
     (λ i. length (living_with (tasks i) (deeds_with (each i) ss))) in
     let split = length-append (kept d.synced u ++ take d.spawned ss) living in
     let parts = length-append (kept d.synced u) (take d.spawned ss) in
@@ -43,7 +43,7 @@ loop-deed-preserved g c =
     subst (λ (xs : List g.row.T.Denot). HasPut q bound u d.synced (reverse xs) (take d.spawned ss) c.loop-deed.living.items c.put_next.new.living.items (reverse c.loop-deed.waiting.items) (reverse c.put_next.new.waiting.items))
     c.deref.ensures.value c.put_next.ensures.put in
     record {
-      same = omega (arith, v.same, c.in-Some-pop.ensures.cases, c.in-Some.ensures.cases);
+      same = let l = ap length each in omega (arith, v.same, c.in-Some-pop.ensures.cases, l);
       all = omega (arith, total, rest, long, shorter);
       along =
           subst (λ (xs : List g.row.T.Denot). IsAlong q end c.put_next.new.living.items (reverse c.put_next.new.waiting.items) us (deeds_with es xs)) (sym left)
@@ -63,9 +63,9 @@ returns-clause-living g c =
     let q = g.T.OnPath.path_of in
     let v = c.loop-deed.invariant in
     let bound = option_map (λ p. p.items) c.args.bound.now in
-    let end = in_path_order q (living_with (reverse c.args.tasks.now.items) (deeds_with (reverse c.args.each.now.items) (reverse c.args.spawns.now.items))) in
-    let ds = deeds_with (reverse c.loop-deed.each.items) (reverse c.loop-deed.spawns.items) in
-    let none = reverse_none c.loop-deed.tasks.items (omega (arith, v.same, c.in_default.ensures.cases)) in
+    let end = in_path_order q (living_with (reverse c.args.tasks.now.items) (deeds_with c.args.each (reverse c.args.spawns.now.items))) in
+    let ds = deeds_with c.loop-deed.rest (reverse c.loop-deed.spawns.items) in
+    let none = reverse_none c.loop-deed.tasks.items (omega (arith, v.same, ap length c.in_default.ensures)) in
     ends_apart q bound end c.loop-deed.living.items (reverse c.loop-deed.waiting.items) c.move_within.new.living.items (reverse c.move_within.new.waiting.items) ds
     (subst (λ (xs : List g.row.T.Denot). IsAlong q end c.loop-deed.living.items (reverse c.loop-deed.waiting.items) xs ds) none v.along) c.move_within.ensures.moved
 
@@ -74,9 +74,9 @@ returns-clause-strays g c =
     let q = g.T.OnPath.path_of in
     let v = c.loop-deed.invariant in
     let bound = option_map (λ p. p.items) c.args.bound.now in
-    let end = in_path_order q (living_with (reverse c.args.tasks.now.items) (deeds_with (reverse c.args.each.now.items) (reverse c.args.spawns.now.items))) in
-    let ds = deeds_with (reverse c.loop-deed.each.items) (reverse c.loop-deed.spawns.items) in
-    let none = reverse_none c.loop-deed.tasks.items (omega (arith, v.same, c.in_default.ensures.cases)) in
+    let end = in_path_order q (living_with (reverse c.args.tasks.now.items) (deeds_with c.args.each (reverse c.args.spawns.now.items))) in
+    let ds = deeds_with c.loop-deed.rest (reverse c.loop-deed.spawns.items) in
+    let none = reverse_none c.loop-deed.tasks.items (omega (arith, v.same, ap length c.in_default.ensures)) in
     outside q bound end c.loop-deed.living.items (reverse c.loop-deed.waiting.items) c.move_within.new.living.items (reverse c.move_within.new.waiting.items) ds
     (subst (λ (xs : List g.row.T.Denot). IsAlong q end c.loop-deed.living.items (reverse c.loop-deed.waiting.items) xs ds) none v.along) c.move_within.ensures.moved c.move_within.ensures.rest
 

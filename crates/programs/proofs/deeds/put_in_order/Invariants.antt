@@ -10,16 +10,16 @@ use Rattle.programs.proofs.deeds.put_in_order.Given as goal
 
 abbrev pub invariant-loop-deed : goal.invariant-loop-deed
 invariant-loop-deed g l = record {
-  same : length l.tasks.items ≡ length l.each.items;
-  all : spawned_by (reverse l.each.items) ≡ length l.spawns.items;
+  same : length l.tasks.items ≡ length l.rest;
+  all : spawned_by l.rest ≡ length l.spawns.items;
   along : IsAlong g.T.OnPath.path_of
-      (in_path_order g.T.OnPath.path_of (living_with (reverse l.fn.tasks.items) (deeds_with (reverse l.fn.each.items) (reverse l.fn.spawns.items))))
-      l.living.items (reverse l.waiting.items) (reverse l.tasks.items) (deeds_with (reverse l.each.items) (reverse l.spawns.items));
+      (in_path_order g.T.OnPath.path_of (living_with (reverse l.fn.tasks.items) (deeds_with l.fn.each (reverse l.fn.spawns.items))))
+      l.living.items (reverse l.waiting.items) (reverse l.tasks.items) (deeds_with l.rest (reverse l.spawns.items));
   within : AreWithin g.T.OnPath.path_of (option_map (λ p. p.items) l.fn.bound) (reverse l.fn.tasks.items)
       → AreWithin g.T.OnPath.path_of (option_map (λ p. p.items) l.fn.bound) l.living.items × AreWithin g.T.OnPath.path_of (option_map (λ p. p.items) l.fn.bound) (reverse l.tasks.items);
-  room : vec_len l.living + vec_len l.waiting + length (living_with (reverse l.tasks.items) (deeds_with (reverse l.each.items) (reverse l.spawns.items))) ≤ vec_capacity l.living;
+  room : vec_len l.living + vec_len l.waiting + length (living_with (reverse l.tasks.items) (deeds_with l.rest (reverse l.spawns.items))) ≤ vec_capacity l.living;
   wait : vec_len l.waiting + length l.spawns.items ≤ vec_capacity l.waiting;
 }
 
 abbrev pub decreases-loop-deed : goal.decreases-loop-deed
-decreases-loop-deed g l = length l.each.items
+decreases-loop-deed g l = length l.rest

@@ -19,7 +19,7 @@ returns-in_ok-keep-in-Stops-clause-told g c =
       formed = h.formed;
       told = λ s.
           kept_one (reads s meant path) false _ h.left _ c.args.task.now c.do_task.new.task c.args.work.now c.do_task.new.work _ _ _ _ _ done.0 done.1 done.2 told.log
-          (omega (arith, c.len-in-Stops.ensures, c.len-before.ensures)) told.deeds told.prints;
+          (omega (arith, c.made-puts-in-Stops.ensures.made, c.requires.logged)) told.deeds told.prints;
     }
 
 pub returns-in_ok-keep-in-Stays-clause-told : goal.returns-in_ok-keep-in-Stays-clause-told
@@ -36,7 +36,7 @@ returns-in_ok-keep-in-Stays-clause-told g c =
       formed = h.formed;
       told = λ s.
           kept_one (reads s meant path) true _ h.left _ c.args.task.now c.do_task.new.task c.args.work.now c.do_task.new.work _ _ _ _ _ done.0 done.1 done.2 told.log
-          (omega (arith, c.len.ensures, c.len-before.ensures)) told.deeds told.prints;
+          (omega (arith, c.made-puts.ensures.made, c.requires.logged)) told.deeds told.prints;
     }
 
 pub returns-in-Fails-clause-told : goal.returns-in-Fails-clause-told

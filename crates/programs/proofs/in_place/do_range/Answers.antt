@@ -26,6 +26,7 @@ loop-place-init g c =
           c.args.tasks.now.items c.args.deeds.now c.args.prints.now.items (omega (arith, c.requires.rises, c.requires.within));
       count = refl;
       below = c.requires.rises;
+      logged = c.len-logged.ensures;
       prints = c.clear.ensures.items;
       spawns = c.clear-2.ensures.items;
     }
@@ -44,6 +45,7 @@ loop-place-preserved g c =
           (ap (option_map (at_path (g.P.Task.OnPath.path_of c.do_one.new.task))) c.in-None.is);
       count = length-set c.loop-place.tasks.items c.loop-place.place c.do_one.new.task ∙ c.loop-place.invariant.count;
       below = omega (arith, c.loop-place-test.true);
+      logged = c.in_ok-told.ensures.logged c.in-None.is;
       prints = (c.in_ok-told.ensures.emptied c.in-None.is).0;
       spawns = (c.in_ok-told.ensures.emptied c.in-None.is).1;
     }

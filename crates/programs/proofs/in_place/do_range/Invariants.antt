@@ -8,6 +8,7 @@ invariant-loop-place g l = record {
       l.scene.arrays.now l.scene.step l.first l.place l.fn.work.puts l.work.puts l.fn.tasks.items l.tasks.items l.fn.deeds l.deeds l.fn.prints.items l.prints.items;
   count : length l.tasks.items ≡ length l.fn.tasks.items;
   below : l.place ≤ l.end;
+  logged : l.logged ≡ length l.work.puts;
   prints : l.work.prints.items ≡ [];
   spawns : l.work.spawns.items ≡ [];
 }

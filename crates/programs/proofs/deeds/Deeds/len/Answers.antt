@@ -5,4 +5,4 @@ use Rattle.programs.proofs.deeds.Deeds.len.Goals as goal
 pub returns : goal.returns
 returns g c =
     let k = counts c.self.inside c.args.self.now c.self.invariant (sym c.self.view_is) in
-    omega (arith, k.count, c.len.ensures, c.self.inside.each.ok.0)
+    omega (arith, k.count, c.len.ensures)

@@ -11,6 +11,6 @@ same_number (Some k) m n e h = h ∙ e
 
 pub returns : goal.returns
 returns g c =
-    let e = ap made_by c.deref.ensures.value in
-    same_number c.count_puts.result (made_by c.deref.result.now) (made_in c.args.self.now)
-    (e ∙ sym (made_told c.self.inside.each.items c.self.inside.spawns.items) ∙ ap made_in c.self.view_is) c.count_puts.ensures
+    let e = ap made_by c.all.ensures in
+    same_number c.count_puts.result (made_by c.all.result) (made_in c.args.self.now)
+    (e ∙ sym (made_told c.self.inside.each c.self.inside.spawns.items) ∙ ap made_in c.self.view_is) c.count_puts.ensures

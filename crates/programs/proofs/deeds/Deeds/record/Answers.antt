@@ -6,7 +6,7 @@ use Rattle.programs.proofs.deeds.Deeds.record.Goals as goal
 pub overflow_cast-left : goal.overflow_cast-left
 overflow_cast-left g c =
     let k = counts c.self.inside c.args.self.now c.self.invariant (sym c.self.view_is) in
-    let l = few_stopped c.self.inside.each.items in
+    let l = few_stopped c.self.inside.each in
     omega (arith, k.count, l, c.self.invariant.stopped, c.requires)
 
 pub overflow_cast-count : goal.overflow_cast-count
