@@ -84,10 +84,12 @@ pub settles_joined : (arrays : List (List ℕ × List ℤ)) (d : Deed) (t u : Ta
     → u ≡ went t d.spawns t.kept
     → Settles arrays d t u old new e e
 settles_joined arrays d t u old new e is puts none printed nobody spawned task =
-    subst (λ (r : Option ℕ). IsSettled r t u (written d t.kept.place) old new e e) (sym is)
-    (refl, record {
-      puts = puts;
-      prints = printed ∙ (λ i. none i ++ d.prints.now);
-      spawns = spawned ∙ (λ i. nobody i ++ numbered t.path t.begun (all_spawned t.kept.place 0 d.spawns));
-      task = task ∙ ap (λ (n : ℕ). went t n t.kept) (sym (spawned_count t.kept.place 0 d.spawns));
-    })
+    subst (λ (r : Option ℕ). IsSettled r t u (written d t.kept.place) old new e e) (sym is) (
+      refl,
+      record {
+        puts = puts;
+        prints = printed ∙ (λ i. none i ++ d.prints.now);
+        spawns = spawned ∙ (λ i. nobody i ++ numbered t.path t.begun (all_spawned t.kept.place 0 d.spawns));
+        task = task ∙ ap (λ (n : ℕ). went t n t.kept) (sym (spawned_count t.kept.place 0 d.spawns));
+      },
+    )

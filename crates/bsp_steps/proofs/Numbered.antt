@@ -26,7 +26,7 @@ new_task path origin = record { path = path; begun = 0; kept = origin }
 
 pub next_child : (path : List ℕ) (begun place number count : ℕ) → number < count
     → numbered path (begun + number) (all_spawned place number (count - number))
-      ≡ new_task (path ++ (begun + number) ∷ []) (spawned_at place number) ∷ numbered path (begun + (number + 1)) (all_spawned place (number + 1) (count - (number + 1)))
+    ≡ new_task (path ++ (begun + number) ∷ []) (spawned_at place number) ∷ numbered path (begun + (number + 1)) (all_spawned place (number + 1) (count - (number + 1)))
 next_child path begun place number count lt =
     let up : suc (begun + number) ≡ begun + (number + 1) = omega arith in
     ap (numbered path (begun + number)) (next_spawned place number count lt)
