@@ -9,6 +9,7 @@ int main(void) {
     struct bsp_out outs[4] = {{0}};
     struct bsp_deed deeds[4];
     struct bsp_cells ring;
+
     int32_t status = bsp_steps_open(arrays, 1, 4, 4, 1000, &run);
     for (uint32_t step = 0; status == BSP_STEPS_DONE; step++) {
         bsp_steps_cells(&run, 0, &ring);
@@ -20,6 +21,7 @@ int main(void) {
         }
         status = bsp_steps_close(deeds, 4, &run);
     }
+
     if (status != BSP_STEPS_ENDED || bsp_steps_cells(&run, 0, &ring)) return 1;
     for (uint32_t i = 0; i < 4; i++) printf("%d ", (int)ring.at[i]);
     puts("");

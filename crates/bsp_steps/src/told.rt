@@ -1,9 +1,11 @@
 //! The program of a superstep of which C has told what each live task left.
-ghost use Rattle.std.specs.Prelude.{◌≡◌, [], IfOk, length, refl};
+ghost use Rattle.std.specs.Prelude.{◌≡◌, ◌++◌, [], true, IfOk, length, refl};
+ghost use Rattle.std.specs.List.{list_all};
+ghost use Rattle.superstep_memory.specs.Cells.{is_cell};
 ghost use Rattle.programs.specs.Lent.{IsLeft};
 ghost use Rattle.task_bodies.specs.Bodies.{member_frame, path_of, framed, refused};
 ghost use Rattle.task_bodies.specs.Settled.{IsSettled};
-ghost use Rattle.bsp_steps.specs.Given.{TaskValue, put_given, written, left_by};
+ghost use Rattle.bsp_steps.specs.Given.{TaskValue, put_given, puts_given, written, left_by};
 ghost use Rattle.bsp_steps.specs.Runs.{AsTold};
 
 use crate::given::{Deed, PutGiven};
@@ -16,7 +18,7 @@ use programs::program::{Program, TaskLoop};
 use programs::work::{Ending, Work};
 use std::alloc::{AllocError, Global};
 use superstep_memory::arrays::{Arrays, Put, PutKind};
-use superstep_memory::puts::AsPut;
+use superstep_memory::puts::Puts;
 
 /// The program of a superstep's tasks, which leave what was told of them, the deed at the place of each.
 #[derive(Clone, Copy)]
@@ -25,23 +27,39 @@ pub struct Told<'a> {
     pub deeds: &'a [Deed<'a>],
 }
 
-impl AsPut for PutGiven {
-    ghost put_of = { λ p. put_given p };
-
-    #[inline(always)]
-    fn put(&self) -> Put {
-        let kind = if self.adds == 0 {
-            PutKind::Set
-        } else {
-            PutKind::Add
-        };
-        Put {
-            array: self.array,
-            index: self.index,
-            kind,
-            value: self.value,
-        }
+// A put, as it was told.
+#[inline(always)]
+fn put_of(put: &PutGiven) -> Put
+    ensures { result ≡ put_given put.now }
+{
+    let kind = if put.adds == 0 {
+        PutKind::Set
+    } else {
+        PutKind::Add
+    };
+    Put {
+        array: put.array,
+        index: put.index,
+        kind,
+        value: put.value,
     }
+}
+
+// Appends puts, and returns whether the cell of each exists.
+fn put_each(arrays: &Arrays, given: &[PutGiven], puts: &mut Puts) -> Result<bool, AllocError>
+    ensures all { IfOk result (λ all. all ≡ list_all (is_cell arrays.now) (puts_given given.now)) }
+    ensures put { IfOk result (λ all. all ≡ true → puts.new ≡ puts.old ++ puts_given given.now) }
+{
+    let mut rest = given;
+    while let Some((next, after)) = rest.split_first() {
+        let put = put_of(next);
+        if !arrays.has_cell(put) {
+            return Ok(false);
+        }
+        puts.put(put)?;
+        rest = after;
+    }
+    Ok(true)
 }
 
 // Writes what a deed says that its task wrote, and returns how the task ends: so, or by a fault.
@@ -57,7 +75,7 @@ fn settle(
     ensures { IfOk result (λ e. let o = written deed.now task.old.kept.place in
         IsSettled (refused arrays.now task.old.path task.old.begun o.puts (length o.spawns)) task.old task.new o work.old work.new ended e) }
 {
-    if !work.puts.put_each(arrays, deed.puts)? {
+    if !put_each(arrays, deed.puts, &mut work.puts)? {
         return Ok(Ending::Fails(3));
     }
     if let Some(code) = task.refuse(deed.spawns) {

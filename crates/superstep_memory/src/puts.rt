@@ -1,13 +1,10 @@
 //! Puts in order, some of them in rows.
-ghost use Rattle.std.specs.Prelude.{◌≡◌, ◌≤◌, ◌+◌, ◌++◌, ◌∷◌, ◌↔◌, List, [], None, true, IsTrue, IsSome, IfOk, OnOk, OnErr, length, map, ◌&&◌};
+ghost use Rattle.std.specs.Prelude.{◌≡◌, ◌≤◌, ◌+◌, ◌++◌, ◌∷◌, ◌↔◌, [], None, true, IsTrue, IsSome, IfOk, OnOk, OnErr, length, ◌&&◌};
 ghost use Rattle.std.specs.List.{list_all};
-ghost use Rattle.std.specs.Vec.{vec_len, vec_capacity};
-ghost use Rattle.superstep_memory.specs.declared.arrays.Put.{Put as PutValue};
-ghost use Rattle.superstep_memory.specs.declared.lots.Row.{Row as RowValue};
 ghost use Rattle.superstep_memory.specs.Cells.{is_cell};
 ghost use Rattle.superstep_memory.specs.Landing.{landed, over_in, is_set};
 ghost use Rattle.superstep_memory.specs.Rows.{row_puts};
-ghost use Rattle.superstep_memory.specs.Lots.{puts_in, puts_of, rows_after, rows_among};
+ghost use Rattle.superstep_memory.specs.Lots.{puts_of, rows_after};
 
 use crate::arrays::{Arrays, Put, PutKind};
 use crate::lots::{Lot, Row};
@@ -66,38 +63,6 @@ fn add_more(more: usize, others: usize) -> Result<usize, AllocError>
         return Err(AllocError);
     }
     Ok(more + others)
-}
-
-/// What says a put in a form of its own (own).
-pub trait AsPut {
-    /// The put.
-    ghost put_of: { Self → PutValue };
-
-    /// The put.
-    fn put(&self) -> Put
-        ensures { result ≡ put_of self.now };
-}
-
-// Appends puts, for which there is room, and notes whether one adds. Returns whether the cell of each exists.
-#[inline(always)]
-fn push_each<P: AsPut>(arrays: &Arrays, told: &[P], lots: &mut Vec<Lot>, sets: &mut bool) -> bool
-    requires room { vec_len lots.old + length told.now ≤ vec_capacity lots.old }
-    ensures all { result ≡ list_all (is_cell arrays.now) (map P.put_of told.now) }
-    ensures puts { (rows : List RowValue) → length rows ≡ rows_among lots.old.items
-        → (puts_in lots.new.items rows ≡ puts_in lots.old.items rows ++ map P.put_of told.now) × (length rows ≡ rows_among lots.new.items) }
-    ensures count { length lots.new.items ≡ length lots.old.items + length told.now }
-    ensures sets { sets.new ≡ (sets.old && list_all is_set (map P.put_of told.now)) }
-{
-    let mut all = true;
-    let mut rest = told;
-    while let Some((next, after)) = rest.split_first() {
-        let put = next.put();
-        all = both(all, arrays.has_cell(put));
-        lots.push_reserved(Lot::one(put));
-        note_kind(sets, put);
-        rest = after;
-    }
-    all
 }
 
 // Whether both hold.
@@ -175,24 +140,6 @@ impl Puts {
         self.lots.push(Lot::one(put))?;
         note_kind(&mut self.sets, put);
         Ok(())
-    }
-
-    /// Appends the puts that these say. Returns whether the cell of each exists. It makes room once, and so takes less time than a call
-    /// for each put.
-    pub fn put_each<P: AsPut>(&mut self, arrays: &Arrays, told: &[P]) -> Result<bool, AllocError>
-        ensures all { IfOk result (λ all. all ≡ list_all (is_cell arrays.now) (map P.put_of told.now)) }
-        ensures added { OnOk result (self.new ≡ self.old ++ map P.put_of told.now) }
-        ensures memory { OnErr result (self.new ≡ self.old) }
-    {
-        self.lots.reserve(told.len())?;
-        let none = Vec::new(*self.lots.allocator());
-        // The compiler keeps the length of a local vector in a register.
-        let mut lots = mem::replace(&mut self.lots, none);
-        let mut sets = self.sets;
-        let all = push_each(arrays, told, &mut lots, &mut sets);
-        self.lots = lots;
-        self.sets = sets;
-        Ok(all)
     }
 
     /// Appends a row: these values for cells side by side, beginning with the cell `first`. Each sets its cell.
