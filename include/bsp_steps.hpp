@@ -8,6 +8,7 @@
 #include <condition_variable>
 #include <exception>
 #include <functional>
+#include <memory>
 #include <mutex>
 #include <new>
 #include <stdexcept>
@@ -106,13 +107,15 @@ public:
 private:
     struct task {
         Kept kept;
-        out left;
+        std::unique_ptr<out> left;
         ending ends;
         std::exception_ptr thrown;
-        explicit task(Kept &&it) : kept(std::move(it)), ends(ending::goes_on) {}
+        task(Kept &&it, std::unique_ptr<out> leaves) : kept(std::move(it)), left(std::move(leaves)), ends(ending::goes_on) {}
     };
     bsp_steps slot_{};
     std::vector<task> tasks_;
+    // What tasks left that stopped: for others, so that an `out` that was kept too long is there as long as the run.
+    std::vector<std::unique_ptr<out>> spare_;
     std::size_t arrays_;
     bool over_;
 
@@ -122,15 +125,16 @@ private:
     }
 
     template <class Body> static void segment(task &it, const view &seen, Body &body) noexcept {
-        it.left.puts_.clear(), it.left.prints_.clear(), it.left.spawned_.clear();
+        out &left = *it.left;
+        left.puts_.clear(), left.prints_.clear(), left.spawned_.clear();
         it.thrown = nullptr;
-        it.left.runs_ = true;
+        left.runs_ = true;
         try {
-            it.ends = body(it.kept, seen, it.left);
+            it.ends = body(it.kept, seen, left);
         } catch (...) {
             it.thrown = std::current_exception();
         }
-        it.left.runs_ = false;
+        left.runs_ = false;
     }
 
     // Threads that take a round when told.
@@ -188,23 +192,29 @@ private:
         }
     };
 
-    // What the next live tasks keep, by their origins.
+    std::unique_ptr<out> room() {
+        if (spare_.empty()) return std::make_unique<out>();
+        std::unique_ptr<out> it = std::move(spare_.back());
+        spare_.pop_back();
+        return it;
+    }
+
+    // What the next live tasks keep, by their origins. Each task that goes on takes its `out` along.
     void carry_over() {
         bsp_look look;
         done(bsp_steps_look(&slot_, &look));
+        std::vector<out *> left;
+        for (auto &it : tasks_) left.push_back(it.left.get());
         std::vector<task> next;
         next.reserve(look.live);
         for (std::size_t i = 0; i < look.live; i++) {
             bsp_origin from;
             done(bsp_steps_origin(&slot_, i, &from));
-            task &old = tasks_[from.place];
-            next.emplace_back(std::move(from.spawned ? old.left.spawned_[from.number] : old.kept));
+            if (from.spawned) next.emplace_back(std::move(left[from.place]->spawned_[from.number]), room());
+            else next.emplace_back(std::move(tasks_[from.place].kept), std::move(tasks_[from.place].left));
         }
-        // Each task that goes on takes its buffers along.
-        for (std::size_t i = 0; i < next.size() && i < tasks_.size(); i++) {
-            std::swap(next[i].left.puts_, tasks_[i].left.puts_);
-            std::swap(next[i].left.prints_, tasks_[i].left.prints_);
-        }
+        for (auto &it : tasks_)
+            if (it.left) spare_.push_back(std::move(it.left));
         tasks_ = std::move(next);
     }
 
@@ -220,8 +230,9 @@ private:
         std::vector<bsp_deed> deeds;
         for (auto &it : tasks_) {
             if (it.thrown) std::rethrow_exception(it.thrown);
-            deeds.push_back({it.left.puts_.data(), it.left.puts_.size(), it.left.prints_.data(), it.left.prints_.size(),
-                             static_cast<std::uint16_t>(it.left.spawned_.size()), static_cast<std::uint8_t>(it.ends)});
+            const out &left = *it.left;
+            deeds.push_back({left.puts_.data(), left.puts_.size(), left.prints_.data(), left.prints_.size(),
+                             static_cast<std::uint16_t>(left.spawned_.size()), static_cast<std::uint8_t>(it.ends)});
         }
         std::int32_t status = bsp_steps_close(deeds.data(), deeds.size(), &slot_);
         if (status > BSP_STEPS_LIMIT) done(status);
@@ -237,7 +248,7 @@ public:
         for (auto &it : arrays) given.push_back({reinterpret_cast<const std::uint8_t *>(it.name.data()), it.name.size(), it.cells.data(), it.cells.size()});
         if (starts.size() > 65535) throw steps_refused(BSP_STEPS_TASKS);
         tasks_.reserve(starts.size());
-        for (auto &it : starts) tasks_.emplace_back(std::move(it));
+        for (auto &it : starts) tasks_.emplace_back(std::move(it), room());
         done(bsp_steps_open(given.data(), given.size(), static_cast<std::uint32_t>(starts.size()), most, limit, &slot_));
     }
     steps(const steps &) = delete;

@@ -58,6 +58,23 @@ int misused() {
         wrong++;
     } catch (const std::logic_error &) {
     }
+    // A task that comes puts by the `out` of one that went, and of one that goes on.
+    shop others({{"a", {1, 2}}}, {{true, 1}, {true, 2}}, 9, 9);
+    std::vector<shop::out *> early;
+    int refused = 0;
+    std::int32_t ended = others.run([&](role &self, const shop::view &seen, shop::out &out) {
+        for (shop::out *it : early) {
+            try {
+                if (it != &out) it->put(0, 0, 9);
+            } catch (const std::logic_error &) {
+                refused++;
+            }
+        }
+        if (seen.step() == 0) early.push_back(&out);
+        if (seen.step() == 0 && self.number == 1) out.spawn({false, 3});
+        return self.number == 1 || seen.step() == 3 ? bsp::ending::stops : bsp::ending::goes_on;
+    });
+    wrong += ended != BSP_STEPS_ENDED || refused < 5 || others[0][0] != 1;
     shop failing({{"a", {1, 2}}}, {{true, 1}}, 1, 9);
     wrong += failing.run([](role &, const shop::view &, shop::out &out) { return out.put(0, 0, 7), bsp::fails(20); }) != BSP_STEPS_FAULT;
     try {

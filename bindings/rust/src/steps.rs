@@ -197,6 +197,59 @@ impl<K: Send> Task<K> {
 /// assert_eq!(run.run(&Swap, 2), Err(bsp::StepsError::Over));
 /// # Ok::<(), bsp::StepsError>(())
 /// ```
+///
+/// What a run lends can't be used too long. Cells end where the run goes on:
+///
+/// ```compile_fail,E0499
+/// # struct Stops;
+/// # impl bsp::TaskBody for Stops {
+/// #     type Kept = ();
+/// #     fn run(&self, _: &mut (), _: &bsp::View<'_>, _: &mut bsp::Out<()>) -> bsp::Ending { bsp::Ending::Stops }
+/// # }
+/// let mut run = bsp::Steps::new(&[("a", &[10])], vec![()], 1, 1000)?;
+/// let cells = run.cells(0);
+/// run.run(&Stops, 1)?;
+/// assert_eq!(cells, Some(&[10][..]));
+/// # Ok::<(), bsp::StepsError>(())
+/// ```
+///
+/// and where it is dropped:
+///
+/// ```compile_fail,E0505
+/// let mut run = bsp::Steps::new(&[("a", &[10])], vec![()], 1, 1000)?;
+/// let cells = run.cells(0);
+/// drop(run);
+/// assert_eq!(cells, Some(&[10][..]));
+/// # Ok::<(), bsp::StepsError>(())
+/// ```
+///
+/// A task's `out` and its view end with its segment, so that nothing can be put in another superstep:
+///
+/// ```compile_fail
+/// struct Keeps;
+///
+/// impl bsp::TaskBody for Keeps {
+///     type Kept = Option<&'static [i64]>;
+///
+///     fn run(&self, own: &mut Self::Kept, view: &bsp::View<'_>, _: &mut bsp::Out<Self::Kept>) -> bsp::Ending {
+///         *own = Some(view.cells(0));
+///         bsp::Ending::GoesOn
+///     }
+/// }
+/// ```
+///
+/// ```compile_fail,E0521
+/// struct Keeps(std::sync::Mutex<Vec<&'static mut bsp::Out<()>>>);
+///
+/// impl bsp::TaskBody for Keeps {
+///     type Kept = ();
+///
+///     fn run(&self, _: &mut (), _: &bsp::View<'_>, out: &mut bsp::Out<()>) -> bsp::Ending {
+///         self.0.lock().unwrap().push(out);
+///         bsp::Ending::GoesOn
+///     }
+/// }
+/// ```
 pub struct Steps<K> {
     slot: sys::Slot,
     tasks: Vec<Task<K>>,

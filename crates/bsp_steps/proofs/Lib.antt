@@ -1,4 +1,5 @@
 pub mod Held
+pub mod Left
 pub mod Numbered
 pub mod Placed
 pub mod TaskLaws

@@ -12,6 +12,10 @@ use Rattle.bsp_steps.specs.declared.given.PutGiven.{PutGiven}
 use Rattle.bsp_steps.specs.declared.given.Deed.{Deed}
 use Rattle.bsp_steps.specs.declared.given.Origin.{Origin}
 
+-- a live task keeps where it comes from
+abbrev pub TaskValue : Type 0
+TaskValue = MemberValue Origin
+
 -- an array, by name and cells
 abbrev pub array_given : ArrayGiven → List ℕ × List ℤ
 array_given a = (a.name.now, a.cells.now)

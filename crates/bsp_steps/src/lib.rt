@@ -4,8 +4,8 @@
 //! # Where things are
 //!
 //! * `lib.rt`: the exported calls; `specs/Calls.antt`, `specs/Runs.antt`: what they give.
-//! * `given.rt`: what C gives (`specs/Given.antt`); `told.rt`: the program of a superstep that was told; `open.rt`: arrays;
-//!   `run.rt`: a run whose supersteps are told; `laws.rt`: what a close means for each task.
+//! * `given.rt`: what C gives (`specs/Given.antt`); `task.rt`: a live task; `told.rt`: the program of a superstep that was told;
+//!   `open.rt`: arrays; `run.rt`: a run whose supersteps are told; `laws.rt`: what a close means for each task.
 //! * `state.rt`, `slot.rt`, `handle.rt`, `loose.rt`: what C holds. The unsafe code is in `handle/lend.rt` and `loose.rt`.
 #![tactic(auto)]
 
@@ -29,6 +29,7 @@ mod open;
 mod run;
 mod slot;
 mod state;
+mod task;
 mod told;
 
 pub use laws::{each_task_has_its_place, tasks_leave_what_was_told};
@@ -202,7 +203,7 @@ pub extern "C" fn bsp_steps_origin(slot: &mut Slot, task: usize, origin: &mut Or
     let state = slot.handle.get();
     match state.run.tasks().get(task) {
         Some(found) => {
-            *origin = *found.kept();
+            *origin = found.origin();
             DONE
         }
         None => NONE,

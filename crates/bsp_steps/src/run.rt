@@ -7,7 +7,8 @@ ghost use Rattle.phase_records.specs.StatusSeen.{status_seen};
 ghost use Rattle.bsp_steps.specs.Given.{Fit, is_ending, placed_from, start_origins};
 ghost use Rattle.bsp_steps.specs.Runs.{closing};
 
-use crate::given::{Deed, Origin};
+use crate::given::Deed;
+use crate::task::{Task, start_tasks};
 use crate::told::Told;
 use phase_records::{JobStatus, PhaseRecord, Print, text_of_parts};
 use programs::blame::Blame;
@@ -15,8 +16,6 @@ use programs::steps::Steps;
 use std::alloc::{AllocError, Global};
 use std::marker::Model;
 use superstep_memory::arrays::Arrays;
-use task_bodies::Native;
-use task_bodies::member::{Member, starts};
 
 /// The call was done; of a close: the run goes on.
 pub const DONE: i32 = 0;
@@ -39,9 +38,6 @@ pub const UNFIT: i32 = 11;
 /// The run is over.
 pub const OVER: i32 = 12;
 
-/// A live task.
-pub type Task = Member<Origin>;
-
 /// A run whose supersteps are told.
 #[derive(Drop)]
 pub struct Run {
@@ -62,23 +58,6 @@ impl Model for Run {
     ghost invariant = { λ r. AreOrdered member_frame r.steps.tasks };
 }
 
-// The origins of so many start tasks.
-fn start_each(alloc: Global, count: u32) -> Result<Vec<Origin>, AllocError>
-    ensures { IfOk result (λ starts. starts.items ≡ start_origins 0 count) }
-{
-    let mut starts = Vec::new(alloc);
-    let mut place: u32 = 0;
-    while place < count {
-        starts.push(Origin {
-            place: place as usize,
-            number: 0,
-            spawned: false,
-        })?;
-        place += 1;
-    }
-    Ok(starts)
-}
-
 // Tells each task its place.
 fn place_each(tasks: &mut Vec<Task>)
     ensures placed { tasks.new.items ≡ placed_from 0 tasks.old.items }
@@ -86,11 +65,7 @@ fn place_each(tasks: &mut Vec<Task>)
 {
     let mut place = 0;
     while place < tasks.len() {
-        tasks[place].keep(Origin {
-            place,
-            number: 0,
-            spawned: false,
-        });
+        tasks[place].stay(place);
         place += 1;
     }
 }
@@ -165,7 +140,7 @@ impl Run {
         tasks: Vec<Task>,
         most: u32,
         limit: u32,
-        _program: &Native<'_, Told<'_>>,
+        _program: &Told<'_>,
     ) -> Run
         requires most { most < 2 ^ 31 }
         requires few { length tasks.items ≤ most }
@@ -173,7 +148,7 @@ impl Run {
         ensures { result ≡ begun arrays tasks.items most limit }
     {
         Run {
-            steps: Steps::new::<Native<'_, Told<'_>>>(alloc, arrays, tasks, most, limit),
+            steps: Steps::new::<Told<'_>>(alloc, arrays, tasks, most, limit),
             room: Vec::new(alloc),
         }
     }
@@ -189,11 +164,9 @@ impl Run {
         requires few { refused_starts count most ≡ false }
         ensures { IfOk result (λ run. run ≡ begun arrays (numbered [] 0 (start_origins 0 count)) most limit) }
     {
-        let origins = start_each(alloc, count)?;
-        let tasks = starts(alloc, origins)?;
+        let tasks = start_tasks(alloc, count)?;
         let told = Told { deeds: &[] };
-        let program = Native { body: &told };
-        Ok(Run::begin_with(alloc, arrays, tasks, most, limit, &program))
+        Ok(Run::begin_with(alloc, arrays, tasks, most, limit, &told))
     }
 
     // Tells each live task its place.
@@ -212,9 +185,7 @@ impl Run {
         ensures { Takes self.old self.new deeds.now result }
     {
         self.place();
-        let told = Told { deeds };
-        let program = Native { body: &told };
-        let taken = self.steps.step(alloc, &program);
+        let taken = self.steps.step(alloc, &Told { deeds });
         told_as(taken)
     }
 

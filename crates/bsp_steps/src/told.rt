@@ -1,117 +1,162 @@
 //! The program of a superstep of which C has told what each live task left.
-ghost use Rattle.std.specs.Prelude.{◌≡◌, ◌+◌, ◌++◌, ◌∷◌, [], IfOk, OnOk, length, ℕ};
-ghost use Rattle.task_bodies.specs.Bodies.{nothing, left_so};
-ghost use Rattle.bsp_steps.specs.Given.{put_given, puts_given, all_spawned, written, left_by, told_of};
+ghost use Rattle.std.specs.Prelude.{◌≡◌, ◌++◌, [], true, IfOk, length, refl};
+ghost use Rattle.std.specs.List.{list_all};
+ghost use Rattle.superstep_memory.specs.Cells.{is_cell};
+ghost use Rattle.programs.specs.Lent.{IsLeft};
+ghost use Rattle.task_bodies.specs.Bodies.{member_frame, path_of, framed, refused};
+ghost use Rattle.task_bodies.specs.Settled.{IsSettled};
+ghost use Rattle.bsp_steps.specs.Given.{TaskValue, put_given, puts_given, written, left_by};
+ghost use Rattle.bsp_steps.specs.Runs.{AsTold};
 
-use crate::given::{Deed, Origin, PutGiven};
+use crate::given::{Deed, PutGiven};
+use crate::task::Task;
+use phase_records::Print;
+use programs::blame::Blame;
+use programs::deeds::Deeds;
+use programs::in_place::{StepScene, do_range};
+use programs::program::{Program, TaskLoop};
+use programs::work::{Ending, Work};
 use std::alloc::{AllocError, Global};
-use task_bodies::body::{Ending, Out, TaskBody, View};
+use superstep_memory::arrays::{Arrays, Put, PutKind};
+use superstep_memory::puts::Puts;
 
-/// The body of a superstep's tasks, which leave what was told of them, the deed at the place of each.
+/// The program of a superstep's tasks, which leave what was told of them, the deed at the place of each.
 #[derive(Clone, Copy)]
 pub struct Told<'a> {
     /// What was told, a deed for each live task, in order.
     pub deeds: &'a [Deed<'a>],
 }
 
-// Appends a put.
+// A put, as it was told.
 #[inline(always)]
-fn put_one(out: &mut Out<Origin>, put: &PutGiven) -> Result<(), AllocError>
-    ensures { OnOk result (out.new ≡ record out.old { puts = out.old.puts ++ put_given put.now ∷ [] }) }
+fn put_of(put: &PutGiven) -> Put
+    ensures { result ≡ put_given put.now }
 {
-    if put.adds == 0 {
-        out.put(put.array, put.index, put.value)
+    let kind = if put.adds == 0 {
+        PutKind::Set
     } else {
-        out.add(put.array, put.index, put.value)
+        PutKind::Add
+    };
+    Put {
+        array: put.array,
+        index: put.index,
+        kind,
+        value: put.value,
     }
 }
 
-// Appends puts.
-fn put_each(out: &mut Out<Origin>, puts: &[PutGiven]) -> Result<(), AllocError>
-    ensures { OnOk result (out.new ≡ record out.old { puts = out.old.puts ++ puts_given puts.now }) }
+// Appends puts, and returns whether the cell of each exists.
+fn put_each(arrays: &Arrays, given: &[PutGiven], puts: &mut Puts) -> Result<bool, AllocError>
+    ensures all { IfOk result (λ all. all ≡ list_all (is_cell arrays.now) (puts_given given.now)) }
+    ensures put { IfOk result (λ all. all ≡ true → puts.new ≡ puts.old ++ puts_given given.now) }
 {
-    let mut rest = puts;
-    while let Some((put, after)) = rest.split_first() {
-        put_one(out, put)?;
+    let mut rest = given;
+    while let Some((next, after)) = rest.split_first() {
+        let put = put_of(next);
+        if !arrays.has_cell(put) {
+            return Ok(false);
+        }
+        puts.put(put)?;
         rest = after;
     }
-    Ok(())
+    Ok(true)
 }
 
-// Appends prints.
-fn print_each(out: &mut Out<Origin>, prints: &[i64]) -> Result<(), AllocError>
-    ensures { OnOk result (out.new ≡ record out.old { prints = out.old.prints ++ prints.now }) }
+// Writes what a deed says that its task wrote, and returns how the task ends: so, or by a fault.
+fn settle(
+    deed: &Deed<'_>,
+    task: &mut Task,
+    arrays: &Arrays,
+    work: &mut Work<Task>,
+    ended: Ending,
+) -> Result<Ending, AllocError>
+    requires none_printed { work.old.prints.items ≡ [] }
+    requires none_spawned { work.old.spawns.items ≡ [] }
+    ensures { IfOk result (λ e. let o = written deed.now task.old.kept.place in
+        IsSettled (refused arrays.now task.old.path task.old.begun o.puts (length o.spawns)) task.old task.new o work.old work.new ended e) }
 {
-    let mut rest = prints;
-    while let Some((value, after)) = rest.split_first() {
-        out.print(*value)?;
-        rest = after;
+    if !put_each(arrays, deed.puts, &mut work.puts)? {
+        return Ok(Ending::Fails(3));
     }
-    Ok(())
-}
-
-// Spawns so many tasks.
-fn spawn_each(out: &mut Out<Origin>, place: usize, count: u16) -> Result<(), AllocError>
-    ensures { OnOk result (out.new ≡ record out.old { spawns = out.old.spawns ++ all_spawned place 0 count }) }
-{
-    let mut number: u16 = 0;
-    while number < count {
-        out.spawn(Origin {
-            place,
-            number,
-            spawned: true,
-        })?;
-        number += 1;
+    if let Some(code) = task.refuse(deed.spawns) {
+        return Ok(Ending::Fails(code));
     }
-    Ok(())
-}
-
-// Writes what a deed says of the task at this place.
-fn write(deed: &Deed<'_>, place: usize, out: &mut Out<Origin>) -> Result<(), AllocError>
-    requires { out.old ≡ nothing }
-    ensures { OnOk result (out.new ≡ written deed.now place) }
-{
-    put_each(out, deed.puts)?;
-    print_each(out, deed.prints)?;
-    spawn_each(out, place, deed.spawns)
+    work.prints.extend_from_slice(deed.prints)?;
+    task.spawn(deed.spawns, &mut work.spawns)?;
+    Ok(ended)
 }
 
 // Does what a deed says of a task.
-fn act(deed: &Deed<'_>, kept: &mut Origin, out: &mut Out<Origin>) -> Result<Ending, AllocError>
-    requires { out.old ≡ nothing }
-    ensures { IfOk result (λ e. left_so e kept.new out.new ≡ left_by deed.now kept.old) }
+fn act(
+    deed: &Deed<'_>,
+    task: &mut Task,
+    arrays: &Arrays,
+    work: &mut Work<Task>,
+) -> Result<Ending, AllocError>
+    requires none_printed { work.old.prints.items ≡ [] }
+    requires none_spawned { work.old.spawns.items ≡ [] }
+    ensures { IfOk result (λ e. IsLeft (λ (t : TaskValue). t) path_of e task.old task.new work.old work.new (framed arrays.now task.old (left_by deed.now task.old.kept))) }
 {
     if deed.ending == 0 {
-        write(deed, kept.place, out)?;
-        *kept = Origin {
-            place: kept.place,
-            number: 0,
-            spawned: false,
-        };
-        return Ok(Ending::Syncs);
+        let place = task.origin().place;
+        task.stay(place);
+        return settle(deed, task, arrays, work, Ending::Stays);
     }
     if deed.ending == 1 {
-        write(deed, kept.place, out)?;
-        return Ok(Ending::Stops);
+        return settle(deed, task, arrays, work, Ending::Stops);
     }
     Ok(Ending::Fails(deed.ending))
 }
 
-impl<'a> TaskBody for Told<'a> {
-    type Kept = Origin;
+impl<'a> Program for Told<'a> {
+    type Task = Task;
 
-    ghost may = { λ s path arrays step k o. o ≡ told_of s.deeds.now k };
+    ghost Meant = { TaskValue };
 
-    fn run(
+    ghost meant = { λ p t. t };
+
+    ghost frame = { λ p. member_frame };
+
+    ghost may = { λ p t arrays step g. AsTold p.deeds.now t arrays step g };
+
+    ghost ready = { λ p. Unit {0} };
+
+    #[inline(always)]
+    fn segment(
         &self,
         _alloc: Global,
-        kept: &mut Origin,
-        _view: &View<'_>,
-        out: &mut Out<Origin>,
+        task: &mut Task,
+        arrays: &Arrays,
+        _step: u32,
+        work: &mut Work<Task>,
     ) -> Result<Ending, AllocError> {
-        match self.deeds.get(kept.place) {
-            Some(deed) => act(deed, kept, out),
+        match self.deeds.get(task.origin().place) {
+            Some(deed) => act(deed, task, arrays, work),
             None => Ok(Ending::Stops),
         }
+    }
+
+    ghost keeps_paths = { λ p t. refl };
+}
+
+impl<'a> TaskLoop for Told<'a> {
+    fn segments(
+        &self,
+        alloc: Global,
+        arrays: &Arrays,
+        step: u32,
+        tasks: &mut Vec<Task>,
+        first: usize,
+        end: usize,
+        work: &mut Work<Task>,
+        deeds: &mut Deeds<Task>,
+        prints: &mut Vec<Print>,
+    ) -> Result<Option<Blame>, AllocError> {
+        let scene = StepScene {
+            program: self,
+            arrays,
+            step,
+        };
+        do_range(alloc, &scene, tasks, first, end, work, deeds, prints)
     }
 }

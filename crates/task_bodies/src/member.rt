@@ -44,13 +44,6 @@ impl<K: Drop> Member<K> {
     {
         &self.kept
     }
-
-    /// Lets it keep this.
-    pub fn keep(&mut self, kept: K)
-        ensures { self.new ≡ record self.old { kept = kept } }
-    {
-        self.kept = kept;
-    }
 }
 
 /// Numbers the tasks that a task spawns.

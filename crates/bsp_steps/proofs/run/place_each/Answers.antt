@@ -14,11 +14,11 @@ loop-place-preserved c =
     let up : n + 1 ≡ suc n = omega arith in
     record {
       placed =
-          (λ i. placed_after (up i) 0 (slice_set ts n (c.keep.ensures i)))
+          (λ i. placed_after (up i) 0 (slice_set ts n (c.stay.ensures i)))
           ∙ placed_next n 0 n ts t (omega arith) below c.index_mut.ensures.value
           ∙ c.loop-place.invariant.placed;
-      count = length-set ts n c.keep.new.self ∙ c.loop-place.invariant.count;
-      within = let l = length-set ts n c.keep.new.self in omega (arith, below, l);
+      count = length-set ts n c.stay.new.self ∙ c.loop-place.invariant.count;
+      within = let l = length-set ts n c.stay.new.self in omega (arith, below, l);
     }
 
 pub returns-clause-placed : goal.returns-clause-placed

@@ -1,9 +1,14 @@
 use Rattle.std.proofs.Common.{◌≡◌, ◌++◌, length}
+use Rattle.std.specs.List.{list_all}
+use Rattle.superstep_memory.specs.Cells.{is_cell}
 use Rattle.bsp_steps.specs.Given.{puts_given}
 use Rattle.bsp_steps.proofs.told.put_each.Given as goal
 
-abbrev pub invariant-loop-put : goal.invariant-loop-put
-invariant-loop-put l = record l.out { puts = l.out.puts ++ puts_given l.rest } ≡ record l.fn.out { puts = l.fn.out.puts ++ puts_given l.fn.puts }
+abbrev pub invariant-loop-next : goal.invariant-loop-next
+invariant-loop-next l = record {
+  all : list_all (is_cell l.arrays) (puts_given l.rest) ≡ list_all (is_cell l.fn.arrays) (puts_given l.fn.given);
+  put : l.puts ++ puts_given l.rest ≡ l.fn.puts ++ puts_given l.fn.given;
+}
 
-abbrev pub decreases-loop-put : goal.decreases-loop-put
-decreases-loop-put l = length l.rest
+abbrev pub decreases-loop-next : goal.decreases-loop-next
+decreases-loop-next l = length l.rest
