@@ -7,3 +7,4 @@ pub mod Segments
 pub mod Leaves
 pub mod Signs
 pub mod QueueView
+pub mod Outboxes

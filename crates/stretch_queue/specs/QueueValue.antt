@@ -1,5 +1,5 @@
 -- The queue of a run, as contracts see it, and what its type keeps (own).
-use Rattle.std.specs.Prelude.{◌≡◌, ◌==◌, ◌||◌, ◌&&◌, ℕ, Bool, true, false, not, List, [], length, slice_get, Option, None, Some, IfSome, is_some}
+use Rattle.std.specs.Prelude.{◌≡◌, ◌||◌, nat_lt, ℕ, Bool, true, false, List, [], ◌∷◌, slice_get, Option, None, Some, IfSome, is_some}
 use Rattle.std.specs.Option.{unwrap_or}
 use Rattle.atomic_table.specs.Seated.{TableId}
 use Rattle.program_stretches.specs.StretchesValue.{StretchesValue, status_in}
@@ -25,6 +25,11 @@ AreNew l = (l.stretches.out ≡ []) × (l.stops.out ≡ [])
 abbrev pub AreNamed : TableId → TableId → Lists → Type 0
 AreNamed passes stops l = (l.stretches.name ≡ passes) × (l.stops.name ≡ stops)
 
+-- the first of these numbers is below this one
+abbrev pub begins_below : List ℕ → ℕ → Bool
+begins_below [] end = false
+begins_below (n ∷ ns) end = nat_lt n end
+
 module _ {Q S : Type 0} where
   -- the first refusal stays
   abbrev pub refused_by : QueueValue Q S → Refused → QueueValue Q S
@@ -33,10 +38,6 @@ module _ {Q S : Type 0} where
   -- workers stop: the run has ended, or is refused
   abbrev pub is_over : QueueValue Q S → Bool
   is_over b = is_some b.first || has_ended_in b.stretches b.stopped
-
-  -- a worker has to wait: nothing is ready, and workers don't stop
-  abbrev pub is_idle : QueueValue Q S → Bool
-  is_idle b = (length b.ready == 0) && not (is_over b)
 
   pub record IsQueue (kept : StretchesValue Q S → Bool → Type 0) (mark : TableId) (workers : ℕ) (passes stops : TableId) (lists : Lists) (b : QueueValue Q S) : Type 0 where
     pub of_mark : b.stretches.name ≡ mark

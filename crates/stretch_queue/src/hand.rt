@@ -225,9 +225,23 @@ impl<'p, P: TaskLoop, L: Lines, J: Running> HeldStretch<'p, P, L, J> {
     }
 }
 
+impl<'p, P: Program, L: Lines, J: Running> HeldStretch<'p, P, L, J> {
+    /// Gives the stretch up. Its tasks are lost.
+    pub fn give_up(self) {
+        let HeldStretch { stretch, .. } = self;
+        stretch.give_up();
+    }
+}
+
 impl<'p, P: Program, J: Running> RanStretch<'p, P, J> {
     ghost use Rattle.std.specs.Prelude.{◌≡◌, true};
     ghost use Rattle.stretch_queue.specs.HandedOut.{IsFor};
+
+    /// Gives the stretch up. Its tasks are lost.
+    pub fn give_up(self) {
+        let RanStretch { stretch, .. } = self;
+        stretch.give_up();
+    }
 
     /// The stretch, its pass, the members of its tasks, and how many tasks came and left.
     pub fn into_parts(self) -> (Stretch<'p, P>, Pass<()>, Tokens<J>, Moves)

@@ -7,10 +7,10 @@ ghost use Rattle.stretch_queue.specs.declared.fault.Reason.TheVariants as reason
 ghost use Rattle.stretch_queue.specs.declared.fault.Refused.TheVariants as refused;
 
 use crate::fault::{Reason, Refused};
-use crate::hand::{HeldStretch, RanStretch};
+use crate::hand::HeldStretch;
 use crate::hook::{Closed, Hook};
 use crate::led::Led;
-use crate::moves::Moves;
+use crate::outbox::{Arrived, DoneStretch};
 use crate::running::Running;
 use crate::tokens::Tokens;
 use pass_list::list::{Pass, PassList};
@@ -38,30 +38,6 @@ pub struct Stopped<J: Running> {
     ghost own: { (pass.name ≡ J.stops) × (is_some pass.held ≡ true) },
 }
 
-/// The members of the tasks of a stretch that was delivered.
-#[derive(Drop)]
-pub struct Delivered<J: Running> {
-    /// The number of the stretch.
-    pub number: usize,
-    /// Its superstep.
-    pub step: u32,
-    /// The members, which haven't arrived in this superstep.
-    pub tokens: Tokens<J>,
-    /// How many tasks came and left.
-    pub moves: Moves,
-}
-
-/// The members of the tasks of a stretch after they have arrived, or left.
-#[derive(Drop)]
-pub struct Arrived<J: Running> {
-    /// The number of the stretch.
-    pub number: usize,
-    /// Its superstep.
-    pub step: u32,
-    /// The members that are left.
-    pub tokens: Tokens<J>,
-}
-
 /// All members of a run after tasks have moved between stretches. They have to be cut anew for the next stretches.
 #[derive(Drop)]
 pub struct Recut<J: Running> {
@@ -69,15 +45,6 @@ pub struct Recut<J: Running> {
     pub tokens: Vec<Tokens<J>>,
     /// How many tasks each of the next stretches has.
     pub sizes: Vec<usize>,
-}
-
-/// What a worker does next.
-#[derive(Drop)]
-pub enum Next<'p, P: TaskLoop, H: Hook<P>, J: Running> {
-    /// Run the segments of this stretch.
-    Run(HeldStretch<'p, P, H::Lines, J>),
-    /// Stop.
-    Stop(Stopped<J>),
 }
 
 /// The effect of handing back the members of a stretch.
@@ -227,9 +194,9 @@ fn list_ready<J: Running>(
 }
 
 impl<'t, 'p, P: TaskLoop, H: Hook<P>, J: Running> Queue<'t, 'p, P, H, J> {
-    ghost use Rattle.std.specs.Prelude.{◌≡◌, ◌≢◌, [], None, Some, Err, true, false, is_some, IfOk, IfSome, IfErr, Ok, OnOk, OnErr, length};
+    ghost use Rattle.std.specs.Prelude.{◌≡◌, ◌≢◌, ◌<◌, ◌&&◌, ◌∷◌, [], None, Some, Err, true, false, not, is_some, IfOk, IfSome, IfErr, MatchOption, Ok, OnOk, OnErr, length};
     ghost use Rattle.stretch_parts.specs.Parts.{covers, reading_of};
-    ghost use Rattle.stretch_queue.specs.QueueValue.{AreNew, AreNamed, refused_by, is_over, is_idle};
+    ghost use Rattle.stretch_queue.specs.QueueValue.{AreNew, AreNamed, refused_by, is_over, begins_below};
     ghost use Rattle.program_stretches.specs.Closing.{Accepts};
     ghost use Rattle.program_stretches.specs.StretchesValue.{with_slot, status_in};
     ghost use Rattle.stretch_queue.specs.Hooked.{bare, AreNext};
@@ -279,11 +246,25 @@ impl<'t, 'p, P: TaskLoop, H: Hook<P>, J: Running> Queue<'t, 'p, P, H, J> {
         self.first.is_some() || self.stretches.has_ended() || self.stopped
     }
 
-    /// Returns true if a worker has to wait: no stretch is ready, and workers needn't stop.
-    pub fn is_idle(&self) -> bool
-        ensures { result ≡ is_idle self.now }
+    /// Returns the number of supersteps taken so far.
+    pub fn step(&self) -> u32
+        ensures { result ≡ self.now.stretches.step }
     {
-        self.ready.is_empty() && !self.is_over()
+        self.stretches.step()
+    }
+
+    /// Returns the number of stretches of live tasks.
+    pub fn len(&self) -> usize
+        ensures { result ≡ length self.now.stretches.parts }
+    {
+        self.stretches.len()
+    }
+
+    /// Returns the number of stretches that are ready.
+    pub fn ready_len(&self) -> usize
+        ensures { result ≡ length self.now.ready }
+    {
+        self.ready.len()
     }
 
     // Issues the pass of a worker that stops.
@@ -313,6 +294,7 @@ impl<'t, 'p, P: TaskLoop, H: Hook<P>, J: Running> Queue<'t, 'p, P, H, J> {
     fn hand_out(&mut self, number: usize) -> Result<HeldStretch<'p, P, H::Lines, J>, Reason>
         requires running { is_over self.old ≡ false }
         ensures same { (self.new.first ≡ self.old.first) × (self.new.ready ≡ self.old.ready) }
+        ensures of { IfOk result (λ held. (held.number ≡ number) × (held.step ≡ self.old.stretches.step) × (held.part.done ≡ false)) }
     {
         let Some(tokens) = self.take_tokens(number) else {
             return Err(Reason::Internal);
@@ -331,21 +313,49 @@ impl<'t, 'p, P: TaskLoop, H: Hook<P>, J: Running> Queue<'t, 'p, P, H, J> {
         Ok(HeldStretch::new(stretch, pass, tokens, lines))
     }
 
-    /// Hands out the first ready stretch, or returns `Stop` if workers must stop. The caller ensures that the worker needn't
-    /// wait. If it fails, workers must stop: the run is refused for that reason.
-    pub fn next(&mut self) -> Result<Next<'p, P, H, J>, Reason>
-        requires idle { is_idle self.old ≡ false }
+    /// Returns the pass of a worker that stops, if workers must stop.
+    pub fn stop_if_over(&mut self) -> Option<Stopped<J>>
+        ensures over { is_some result ≡ is_over self.old }
+        ensures same { self.new ≡ self.old }
+    {
+        if self.is_over() {
+            Some(self.stop())
+        } else {
+            None
+        }
+    }
+
+    // Removes the number of the first ready stretch, if it is below `end`, and returns it.
+    fn pop_below(&mut self, end: usize) -> Option<usize>
+        ensures first { MatchOption result (self.new ≡ self.old) (λ number. (number < end) × (self.old ≡ record self.new { ready = number ∷ self.new.ready })) }
+        ensures some { is_some result ≡ begins_below self.old.ready end }
+    {
+        match self.ready.front() {
+            Some(number) if *number < end => self.ready.pop_front(),
+            Some(_) | None => None,
+        }
+    }
+
+    /// Hands out the first ready stretch if its number is below `end`. Returns `None` if it isn't, if none is ready, or if workers must
+    /// stop. If it fails, workers must stop: the run is refused for that reason.
+    pub fn next_below(
+        &mut self,
+        end: usize,
+    ) -> Result<Option<HeldStretch<'p, P, H::Lines, J>>, Reason>
+        ensures of { IfOk result (λ held. IfSome held (λ h. (h.number < end) × (h.step ≡ self.old.stretches.step) × (h.part.done ≡ false) × (self.old.ready ≡ h.number ∷ self.new.ready))) }
+        ensures some { IfOk result (λ held. is_some held ≡ (not (is_over self.old) && begins_below self.old.ready end)) }
+        ensures none { result ≡ Ok None → self.new ≡ self.old }
         ensures noted { IfErr result (λ reason. self.new.first ≡ Some (refusal_of reason)) }
         ensures unrefused { OnOk result (self.new.first ≡ self.old.first) }
     {
         if self.is_over() {
-            return Ok(Next::Stop(self.stop()));
+            return Ok(None);
         }
-        let Some(number) = self.ready.pop_front() else {
-            unreachable!()
+        let Some(number) = self.pop_below(end) else {
+            return Ok(None);
         };
         match self.hand_out(number) {
-            Ok(held) => Ok(Next::Run(held)),
+            Ok(held) => Ok(Some(held)),
             Err(reason) => {
                 self.first = Some(reason.refusal());
                 Err(reason)
@@ -362,28 +372,19 @@ impl<'t, 'p, P: TaskLoop, H: Hook<P>, J: Running> Queue<'t, 'p, P, H, J> {
         }
     }
 
-    /// Takes back a stretch whose segments have run. Returns the members of its tasks.
-    pub fn deliver(&mut self, ran: RanStretch<'p, P, J>) -> Delivered<J>
-        ensures taken { Accepts self.old.stretches ran.entry }
-        ensures added { self.new ≡ record self.old { stretches = with_slot self.old.stretches ran.entry.number (Some ran.entry.part) } }
-        ensures number { (result.number ≡ ran.entry.number) × (result.step ≡ ran.entry.step) }
+    /// Takes back a stretch whose segments have run.
+    pub fn accept(&mut self, done: DoneStretch<'p, P, J>)
+        ensures taken { Accepts self.old.stretches done.entry }
+        ensures added { self.new ≡ record self.old { stretches = with_slot self.old.stretches done.entry.number (Some done.entry.part) } }
     {
-        let (stretch, pass, tokens, moves) = ran.into_parts();
+        let (stretch, pass, size) = done.into_parts();
         self.lists.stretches.redeem(pass);
         let number = stretch.number();
-        let step = stretch.step();
-        let size = moves.size_after(stretch.len());
         match self.stretches.accept(stretch) {
             Ok(()) => {}
             Err(_) => unreachable!(),
         }
         self.note_size(number, size);
-        Delivered {
-            number,
-            step,
-            tokens,
-            moves,
-        }
     }
 
     /// Notes why the run is refused, unless something was noted before. From now on, workers must stop.
@@ -397,16 +398,10 @@ impl<'t, 'p, P: TaskLoop, H: Hook<P>, J: Running> Queue<'t, 'p, P, H, J> {
         self.stop()
     }
 
-    /// Notes why a worker can't go on, unless something was noted before. From now on, workers must stop.
-    pub fn note(&mut self, reason: Reason) -> Stopped<J>
-        ensures { self.new ≡ refused_by self.old (refusal_of reason) }
-    {
-        self.refuse(reason.refusal())
-    }
-
-    // Puts members into the place of their stretch.
-    fn put_tokens(&mut self, number: usize, tokens: Tokens<J>) -> Result<(), Reason>
+    /// Puts members that are back into the place of their stretch. Fails with `Internal` if there is no stretch of this number.
+    pub fn put_tokens(&mut self, number: usize, tokens: Tokens<J>) -> Result<(), Reason>
         ensures same { self.new ≡ self.old }
+        ensures internal { IfErr result (λ fault. fault ≡ reason.Internal) }
     {
         match self.tokens.get_mut(number) {
             Some(place) => {

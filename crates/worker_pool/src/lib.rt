@@ -3,12 +3,14 @@
 //! * `job`, `within`: a job on workers; `program`: any program. `run`, `start`: one run, from its first members at the tree to what it
 //!   leaves.
 //! * `work`: the loop of one worker.
-//! * `shared`: what all workers share: the queue of `stretch_queue` under a lock, and the tree without one.
+//! * `shared`: what all workers share: the queue of `stretch_queue` under a lock, and the tree without one; `lane`: the stretches of a
+//!   worker.
 //! * `tree`, `leaves`: the calls of the tree, and the leaves of its tasks.
 //! * `specs/JobPlan.antt`: when the tree of a run ends.
 #![tactic(auto)]
 
 mod job;
+mod lane;
 mod leaves;
 mod program;
 mod run;

@@ -1,5 +1,5 @@
 //! Runs the stretches of a program on worker threads.
-ghost use Rattle.std.specs.Prelude.{◌≡◌, ◌≤◌, ◌<◌, ℕ, true, false, [], None, IfOk, IfErr, length};
+ghost use Rattle.std.specs.Prelude.{◌≡◌, ◌≤◌, ◌<◌, ℕ, true, false, [], None, IfOk, IfErr, length, vec_len};
 ghost use Rattle.advance_rule.specs.Stored.{Answers};
 ghost use Rattle.advance_rule.specs.Action.{AnswersAction};
 ghost use Rattle.advance_rule.specs.Plan.{end_ends_at};
@@ -14,6 +14,7 @@ ghost use Rattle.worker_pool.specs.JobPlan.{limit_of, IsJobPlan};
 ghost use Rattle.worker_pool.specs.LeafTiers.{AreLeaves};
 ghost use Rattle.worker_pool.specs.Begun.{IsRuled, AreOf};
 
+use crate::lane::{Lane, lanes_for};
 use crate::leaves::{Leaves, leaves_in};
 use crate::shared::Shared;
 use crate::start::{Setup, start_all};
@@ -205,6 +206,7 @@ fn run_at<
     rt: &R,
     alloc: Global,
     queue: Queue<'t, 'p, P, H, J>,
+    lanes: Vec<Lane<'p, P, H, J>>,
     tree: WorkerTree<J, F>,
     door: Door,
     barrier: &CyclicGate<A>,
@@ -214,6 +216,7 @@ where
     P::Task: Send,
     H::Lines: Send,
     requires workers { (setup.workers ≡ J.workers) × (1 ≤ setup.workers) }
+    requires lanes { vec_len lanes ≡ setup.workers }
     requires tree { door.tree ≡ J.tree }
     requires rule { Answers (F.pre tree.phaser.rule.closure) (F.post tree.phaser.rule.closure) (end_ends_at tree.phaser.rule.plan) }
     requires action { AnswersAction (A.pre barrier.now.action.closure) (A.post barrier.now.action.closure) barrier.now.action.plan }
@@ -224,11 +227,15 @@ where
     let shared = Shared {
         queue: Mutex::new(queue),
         changed: Condvar::new(),
-        wakeups: AtomicU64::new(0),
+        published: AtomicU64::new(0),
         spins: spins_of(rt, setup.workers),
+        lanes,
         tree,
     };
-    let stopped = start_all(rt, alloc, &shared, &mut own, barrier, setup);
+    let stopped = match shared.begin(rt) {
+        Ok(()) => start_all(rt, alloc, &shared, &mut own, barrier, setup),
+        Err(reason) => shared.refuse(rt, reason.refusal()),
+    };
     shared.conclude(alloc, stopped)
 }
 
@@ -283,10 +290,14 @@ where
             return Err(reason.refusal());
         }
     };
+    let Ok(lanes) = lanes_for(alloc, setup.workers) else {
+        stretches.give_up();
+        return Err(Refused::Memory);
+    };
     let queue = Queue::new(alloc, stretches, hook, halted, lists, tokens);
     let action = StoredAction::new(do_nothing, None);
     let barrier = barrier_for(alloc, setup.workers, action);
-    run_at(rt, alloc, queue, tree, door, &barrier, setup)
+    run_at(rt, alloc, queue, lanes, tree, door, &barrier, setup)
 }
 
 /// Runs the stretches of a program on `workers` threads that synchronize at a tree of phasers of this `shape`, superstep by

@@ -1,31 +1,50 @@
 //! What the workers of a run share.
-ghost use Rattle.std.specs.Prelude.{IfOk, IfErr};
+ghost use Rattle.std.specs.Prelude.{◌≡◌, vec_len};
 
+use crate::lane::{Lane, end_of, take_of_fullest};
 use crate::tree::WorkerTree;
 use program_stretches::Left;
 use programs::program::TaskLoop;
 use std::alloc::Global;
 use std::hint::spin_loop;
 use std::sync::atomic::{AtomicU64, Ordering};
-use std::sync::{Condvar, Mutex, MutexGuard, Wait};
+use std::sync::{Condvar, Mutex, Wait};
 use stretch_queue::fault::{Reason, Refused};
-use stretch_queue::hand::RanStretch;
-use stretch_queue::hook::Hook;
-use stretch_queue::queue::{Arrived, Delivered, HandedBack, Next, Queue, Stopped};
+use stretch_queue::hand::{HeldStretch, RanStretch};
+use stretch_queue::hook::{Hook, Lines};
+use stretch_queue::led::Led;
+use stretch_queue::outbox::{Arrived, Delivered};
+use stretch_queue::queue::{HandedBack, Queue, Recut, Stopped};
 use stretch_queue::running::Running;
 use stretch_queue::tokens::OwnToken;
 
-/// The queue under a lock, and the tree without one. No call of the tree is made while the lock is held. A worker that
-/// waits for a ready stretch first spins, then sleeps until the queue has changed.
+// What is published once workers must stop.
+const OVER: u64 = u64::MAX;
+
+/// What a worker does next.
+#[derive(Drop)]
+pub(crate) enum Next<'p, P: TaskLoop, L: Lines, J: Running> {
+    /// Run the segments of this stretch.
+    Run(HeldStretch<'p, P, L, J>),
+    /// Stop.
+    Stop(Stopped<J>),
+}
+
+/// The queue under a lock, a lane for each worker, and the tree without a lock. Only a worker that closes a superstep takes the lock
+/// of the queue, one whose members come back after that, and one that stops. No call of the tree is made, and no segment
+/// runs, while it is held.
 #[derive(Drop)]
 pub(crate) struct Shared<'t, 'p, P: TaskLoop, H: Hook<P>, J: Running, F: Fn(u32, u32) -> bool> {
     pub(crate) queue: Mutex<Queue<'t, 'p, P, H, J>>,
     pub(crate) changed: Condvar,
-    // Counts wake-ups: stretches became ready, or workers must stop. It wraps around.
-    pub(crate) wakeups: AtomicU64,
+    // The superstep whose stretches were handed out last, or `OVER`. Written under the lock of the queue, once the inboxes are filled.
+    pub(crate) published: AtomicU64,
     // How often a worker looks at it before it sleeps.
     pub(crate) spins: u32,
+    // By the number of a worker.
+    pub(crate) lanes: Vec<Lane<'p, P, H, J>>,
     pub(crate) tree: WorkerTree<J, F>,
+    ghost own: { vec_len lanes ≡ J.workers },
 }
 
 impl<'t, 'p, P: TaskLoop, H: Hook<P>, J: Running, F: Fn(u32, u32) -> bool> Shared<
@@ -36,86 +55,172 @@ impl<'t, 'p, P: TaskLoop, H: Hook<P>, J: Running, F: Fn(u32, u32) -> bool> Share
     J,
     F,
 > {
-    ghost use Rattle.std.specs.Prelude.{IfOk, IfErr};
+    ghost use Rattle.std.specs.Prelude.{◌<◌, IfOk, IfErr};
     ghost use Rattle.advance_rule.specs.Stored.{Answers};
     ghost use Rattle.advance_rule.specs.Plan.{end_ends_at};
     ghost use Rattle.stretch_parts.specs.Parts.{reading_of};
     ghost use Rattle.stretch_queue.specs.Watched.{HasLeftKept};
     ghost use Rattle.stretch_queue.specs.Refusals.{IsOfWorkers};
 
-    /// Returns what a worker does next. Waits until a stretch is ready or workers stop.
-    pub(crate) fn next<R: Wait>(&self, rt: &R) -> Result<Next<'p, P, H, J>, Reason> {
-        let queue = self.queue.lock(rt);
-        let queue = if queue.is_idle() {
-            self.spin(rt, queue)
+    // Publishes the superstep of the stretches that were handed out, or that workers must stop, and wakes all that wait for it.
+    fn publish(&self, queue: &Queue<'t, 'p, P, H, J>) {
+        let word = if queue.is_over() {
+            OVER
         } else {
-            queue
+            u64::from(queue.step())
         };
-        let mut queue = self.changed.wait_while(rt, queue, |queue| queue.is_idle());
-        queue.next()
-    }
-
-    // Spins without the lock until the queue has changed, or for `spins` looks.
-    fn spin<'a, R: Wait>(
-        &'a self,
-        rt: &R,
-        queue: MutexGuard<'a, Queue<'t, 'p, P, H, J>>,
-    ) -> MutexGuard<'a, Queue<'t, 'p, P, H, J>> {
-        let seen = self.wakeups.load(Ordering::SeqCst);
-        drop(queue);
-        for _ in 0..self.spins {
-            if self.wakeups.load(Ordering::SeqCst) != seen {
-                break;
-            }
-            spin_loop();
-        }
-        self.queue.lock(rt)
-    }
-
-    // Wakes all workers that wait for the queue to change.
-    fn wake_all(&self) {
-        self.wakeups.fetch_add(1, Ordering::SeqCst);
+        self.published.store(word, Ordering::SeqCst);
         self.changed.notify_all();
     }
 
-    /// Delivers a stretch whose segments have run. Returns the members of its tasks.
-    pub(crate) fn deliver<R: Wait>(&self, rt: &R, ran: RanStretch<'p, P, J>) -> Delivered<J> {
-        self.queue.lock(rt).deliver(ran)
+    // Hands out the ready stretches, to each worker those of its range, and publishes their superstep.
+    fn hand_out<R: Wait>(&self, rt: &R, queue: &mut Queue<'t, 'p, P, H, J>) -> Result<(), Reason> {
+        let count = queue.len();
+        for k in 0..self.lanes.len() {
+            let end = end_of(count, k, self.lanes.len());
+            self.lanes[k].fill(rt, queue, end)?;
+        }
+        self.publish(queue);
+        Ok(())
     }
 
-    // Does what follows after members were handed back.
-    fn follow<R: Wait>(
+    /// Hands out the stretches of the first superstep.
+    pub(crate) fn begin<R: Wait>(&self, rt: &R) -> Result<(), Reason> {
+        let mut queue = self.queue.lock(rt);
+        self.hand_out(rt, &mut queue)
+    }
+
+    // Takes a stretch that is to be run, one of the worker's own if there is one.
+    fn take<R: Wait>(&self, rt: &R, worker: usize) -> Option<HeldStretch<'p, P, H::Lines, J>>
+        requires { worker < J.workers }
+    {
+        match self.lanes[worker].take_first(rt) {
+            Some(held) => Some(held),
+            None => take_of_fullest(rt, &self.lanes),
+        }
+    }
+
+    // Waits until something else than this is published.
+    fn wait<R: Wait>(&self, rt: &R, seen: u64) {
+        let published = &self.published;
+        for _ in 0..self.spins {
+            if published.load(Ordering::SeqCst) != seen {
+                return;
+            }
+            spin_loop();
+        }
+        let queue = self.queue.lock(rt);
+        let _queue = self.changed.wait_while(rt, queue, |_queue| {
+            published.load(Ordering::SeqCst) == seen
+        });
+    }
+
+    /// Returns what a worker does next. Waits until a stretch is to be run, or workers must stop.
+    pub(crate) fn next<R: Wait>(&self, rt: &R, worker: usize) -> Next<'p, P, H::Lines, J>
+        requires { worker < J.workers }
+    {
+        for _ in rt.forever() {
+            let seen = self.published.load(Ordering::SeqCst);
+            if seen == OVER {
+                if let Some(stopped) = self.queue.lock(rt).stop_if_over() {
+                    return Next::Stop(stopped);
+                }
+            }
+            if let Some(held) = self.take(rt, worker) {
+                return Next::Run(held);
+            }
+            self.wait(rt, seen);
+        }
+        unreachable!()
+    }
+
+    /// Delivers a stretch whose segments have run. Returns the members of its tasks.
+    pub(crate) fn deliver<R: Wait>(
         &self,
         rt: &R,
-        alloc: Global,
-        own: &mut OwnToken<J>,
-        effect: HandedBack<J>,
-    ) -> Result<(), Reason> {
-        match effect {
-            HandedBack::Unchanged => {}
-            HandedBack::Ready => self.wake_all(),
-            HandedBack::Ended => {
-                self.wake_all();
-                self.tree.force(rt, own);
-            }
-            HandedBack::Recut(recut) => {
-                let tokens = self.tree.cut_anew(alloc, recut)?;
-                self.queue.lock(rt).put_back(tokens)?;
-                self.wake_all();
-            }
+        worker: usize,
+        ran: RanStretch<'p, P, J>,
+    ) -> Result<Delivered<J>, Reason>
+        requires { worker < J.workers }
+    {
+        self.lanes[worker].deliver(rt, ran)
+    }
+
+    // Cuts all members anew for the next stretches, and hands these out.
+    fn cut_anew<R: Wait>(&self, rt: &R, alloc: Global, recut: Recut<J>) -> Result<(), Reason> {
+        let tokens = self.tree.cut_anew(alloc, recut)?;
+        let mut queue = self.queue.lock(rt);
+        queue.put_back(tokens)?;
+        self.hand_out(rt, &mut queue)
+    }
+
+    // Takes what all workers have delivered, and the members that are back. Members that come back after that are late.
+    fn collect<R: Wait>(&self, rt: &R, queue: &mut Queue<'t, 'p, P, H, J>) -> Result<(), Reason> {
+        let next = queue.step().saturating_add(1);
+        for lane in &self.lanes {
+            lane.empty(rt, queue, next)?;
         }
         Ok(())
     }
 
+    // Closes the superstep, in which these members came back last, and hands out the stretches of the next.
+    fn close<R: Wait>(
+        &self,
+        rt: &R,
+        alloc: Global,
+        own: &mut OwnToken<J>,
+        arrived: Arrived<J>,
+        led: Led<J>,
+    ) -> Result<(), Reason> {
+        let mut queue = self.queue.lock(rt);
+        self.collect(rt, &mut queue)?;
+        match queue.hand_back(alloc, arrived, Some(led))? {
+            HandedBack::Unchanged => Ok(()),
+            HandedBack::Ready => self.hand_out(rt, &mut queue),
+            HandedBack::Ended => {
+                self.publish(&queue);
+                drop(queue);
+                self.tree.force(rt, own);
+                Ok(())
+            }
+            HandedBack::Recut(recut) => {
+                drop(queue);
+                self.cut_anew(rt, alloc, recut)
+            }
+        }
+    }
+
+    // Hands back members that are late. Returns their stretch, if it is ready.
+    fn hand_back_late<R: Wait>(
+        &self,
+        rt: &R,
+        alloc: Global,
+        late: Arrived<J>,
+    ) -> Result<Option<HeldStretch<'p, P, H::Lines, J>>, Reason> {
+        let mut queue = self.queue.lock(rt);
+        match queue.hand_back(alloc, late, None)? {
+            HandedBack::Ready => queue.next_below(usize::MAX),
+            HandedBack::Recut(recut) => {
+                drop(queue);
+                self.cut_anew(rt, alloc, recut)?;
+                Ok(None)
+            }
+            HandedBack::Unchanged | HandedBack::Ended => Ok(None),
+        }
+    }
+
     /// Lets the members of a stretch that was delivered arrive: new ones join and arrive for the tasks that were spawned, those of
-    /// tasks that stopped leave. Hands back those that are left. If one of them advanced the tree, the superstep is closed.
+    /// tasks that stopped leave. Hands back those that are left. If one of them advanced the tree, closes the superstep. If it was
+    /// closed meanwhile, returns the stretch of these members in the next one, if it is ready: the worker runs it.
     pub(crate) fn arrive<R: Wait>(
         &self,
         rt: &R,
         alloc: Global,
         own: &mut OwnToken<J>,
+        worker: usize,
         delivered: Delivered<J>,
-    ) -> Result<(), Reason>
+    ) -> Result<Option<HeldStretch<'p, P, H::Lines, J>>, Reason>
+        requires worker { worker < J.workers }
         requires rule { Answers (F.pre self.now.tree.phaser.rule.closure) (F.post self.now.tree.phaser.rule.closure) (end_ends_at self.now.tree.phaser.rule.plan) }
     {
         let Delivered {
@@ -130,8 +235,24 @@ impl<'t, 'p, P: TaskLoop, H: Hook<P>, J: Running, F: Fn(u32, u32) -> bool> Share
             step,
             tokens,
         };
-        let effect = self.queue.lock(rt).hand_back(alloc, arrived, led)?;
-        self.follow(rt, alloc, own, effect)
+        if let Some(led) = led {
+            self.close(rt, alloc, own, arrived, led)?;
+            return Ok(None);
+        }
+        match self.lanes[worker].take_back(rt, arrived)? {
+            Some(late) => self.hand_back_late(rt, alloc, late),
+            None => Ok(None),
+        }
+    }
+
+    /// Notes why the run is refused, and stops all workers.
+    pub(crate) fn refuse<R: Wait>(&self, rt: &R, refused: Refused) -> Stopped<J>
+        requires { IsOfWorkers J.workers refused }
+    {
+        let mut queue = self.queue.lock(rt);
+        let stopped = queue.refuse(refused);
+        self.publish(&queue);
+        stopped
     }
 
     /// Notes why a worker can't go on, and stops all workers.
@@ -141,8 +262,7 @@ impl<'t, 'p, P: TaskLoop, H: Hook<P>, J: Running, F: Fn(u32, u32) -> bool> Share
         own: &mut OwnToken<J>,
         reason: Reason,
     ) -> Stopped<J> {
-        let stopped = self.queue.lock(rt).note(reason);
-        self.wake_all();
+        let stopped = self.refuse(rt, reason.refusal());
         self.tree.force(rt, own);
         stopped
     }
@@ -155,8 +275,9 @@ impl<'t, 'p, P: TaskLoop, H: Hook<P>, J: Running, F: Fn(u32, u32) -> bool> Share
         let Shared {
             queue,
             changed: _,
-            wakeups: _,
+            published: _,
             spins: _,
+            lanes: _,
             tree: _,
         } = self;
         queue.into_inner().conclude(alloc, stopped)

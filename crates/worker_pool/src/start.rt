@@ -46,7 +46,7 @@ fn call_off<
     requires refused { IsOfWorkers J.workers refused }
     requires action { AnswersAction (A.pre barrier.now.action.closure) (A.post barrier.now.action.closure) barrier.now.action.plan }
 {
-    let stopped = shared.queue.lock(rt).refuse(refused);
+    let stopped = shared.refuse(rt, refused);
     barrier.break_off(rt);
     stopped
 }
@@ -70,12 +70,13 @@ fn wait_and_work<
     k: u32,
     mut own: OwnToken<J>,
 ) -> Stopped<J>
+    requires worker { k < J.workers }
     requires rule { Answers (F.pre shared.now.tree.phaser.rule.closure) (F.post shared.now.tree.phaser.rule.closure) (end_ends_at shared.now.tree.phaser.rule.plan) }
     requires action { AnswersAction (A.pre barrier.now.action.closure) (A.post barrier.now.action.closure) barrier.now.action.plan }
 {
     match barrier.await_turn(rt, k) {
         Err(GateFault::Memory) => call_off(rt, shared, barrier, Refused::Memory),
-        Ok(_) | Err(_) => work(rt, alloc, shared, gate, &mut own),
+        Ok(_) | Err(_) => work(rt, alloc, shared, gate, &mut own, k as usize),
     }
 }
 

@@ -2,7 +2,7 @@ use Rattle.std.proofs.Common.{◌≡◌, ◌∙◌, refl, sym, ap, slice_get}
 use Rattle.stretch_queue.specs.HandedOut.{out_at}
 use Rattle.stretch_queue.proofs.HandedOut.{struck, found}
 use Rattle.stretch_queue.proofs.Queueing.{not_refused, delivered}
-use Rattle.stretch_queue.proofs.queue.Queue.deliver.Goals as goal
+use Rattle.stretch_queue.proofs.queue.Queue.accept.Goals as goal
 
 pub unreachable-requires : goal.unreachable-requires
 unreachable-requires g c =

@@ -1,0 +1,81 @@
+//! The stretches that a worker is to run.
+use crate::fault::Reason;
+use crate::hand::HeldStretch;
+use crate::hook::Lines;
+use crate::running::Running;
+use programs::program::Program;
+use std::alloc::Global;
+use std::collections::VecDeque;
+use std::marker::{Model, PhantomData};
+
+/// The stretches that a worker is to run in a superstep, in the order in which it takes them. Others take from the end.
+#[derive(Drop)]
+pub struct Inbox<'p, P: Program, L: Lines, J: Running> {
+    ready: VecDeque<HeldStretch<'p, P, L, J>>,
+    of: PhantomData<&'p P>,
+}
+
+impl<'p, P: Program, L: Lines, J: Running> Model for Inbox<'p, P, L, J> {
+    ghost use Rattle.std.specs.Prelude.{List};
+    ghost use Rattle.program_stretches.specs.StretchesValue.{StretchValue};
+
+    ghost Value = { List (StretchValue P P.Task) };
+
+    ghost view = { λ i. i.ready.items };
+
+    ghost invariant = { λ i. Unit {0} };
+}
+
+impl<'p, P: Program, L: Lines, J: Running> Inbox<'p, P, L, J> {
+    ghost use Rattle.std.specs.Prelude.{◌≡◌, ◌++◌, ◌∷◌, [], length, IfErr, OnOk, OnErr, MatchOption};
+    ghost use Rattle.stretch_queue.specs.declared.fault.Reason.TheVariants as reason;
+
+    /// Creates an inbox without stretches.
+    pub fn new(alloc: Global) -> Self
+        ensures { result ≡ [] }
+    {
+        Inbox {
+            ready: VecDeque::new(alloc),
+            of: PhantomData,
+        }
+    }
+
+    /// Returns the number of stretches.
+    pub fn len(&self) -> usize
+        ensures { result ≡ length self.now }
+    {
+        self.ready.len()
+    }
+
+    /// Appends a stretch. If memory runs out, the stretch is lost.
+    pub fn push(&mut self, held: HeldStretch<'p, P, L, J>) -> Result<(), Reason>
+        ensures added { OnOk result (self.new ≡ self.old ++ held.entry ∷ []) }
+        ensures unchanged { OnErr result (self.new ≡ self.old) }
+        ensures memory { IfErr result (λ fault. fault ≡ reason.Memory) }
+    {
+        match self.ready.reserve(1) {
+            Ok(()) => {
+                self.ready.push_back_reserved(held);
+                Ok(())
+            }
+            Err(_) => {
+                held.give_up();
+                Err(Reason::Memory)
+            }
+        }
+    }
+
+    /// Removes the first stretch and returns it.
+    pub fn pop_first(&mut self) -> Option<HeldStretch<'p, P, L, J>>
+        ensures { MatchOption result ((self.old ≡ []) × (self.new ≡ [])) (λ held. self.old ≡ held ∷ self.new) }
+    {
+        self.ready.pop_front()
+    }
+
+    /// Removes the last stretch and returns it.
+    pub fn pop_last(&mut self) -> Option<HeldStretch<'p, P, L, J>>
+        ensures { MatchOption result ((self.old ≡ []) × (self.new ≡ [])) (λ held. self.old ≡ self.new ++ held ∷ []) }
+    {
+        self.ready.pop_back()
+    }
+}
