@@ -1,9 +1,9 @@
 -- What is known of stretches that are out, as they go and come.
 use Rattle.std.specs.Prelude.{◌==◌, if◌then◌else◌, IfSome, IfOk, MatchOption, Result, Ok, Err}
 use Rattle.std.specs.Option.{option_map}
-use Rattle.std.proofs.Common.{◌≡◌, ◌≢◌, ◌⊎◌, inl, inr, ℕ, Bool, true, false, List, [], ◌∷◌, Option, Some, None, refl, sym, ap, ◌∙◌, subst, arith, ⊎_elim}
+use Rattle.std.proofs.Common.{◌≡◌, ◌≢◌, ◌⊎◌, ℕ, Bool, true, false, List, [], ◌∷◌, Option, Some, None, refl, sym, ap, ◌∙◌, subst, arith, ⊎_elim}
 use Rattle.pass_list.specs.declared.rule.Ticket.{Ticket}
-use Rattle.pass_list.specs.Passed.{PassValue, IsOut, without, ticket}
+use Rattle.pass_list.specs.Passed.{IsOut, without, ticket}
 use Rattle.stretch_queue.specs.HandedOut.{Each, AreApart, AreOut}
 
 pub not_both : (b : Bool) → b ≡ true → b ≡ false → ⊥

@@ -1,6 +1,6 @@
 -- What the type of a queue keeps, from call to call.
 use Rattle.std.specs.Prelude.{slice_get, ◌||◌, is_some, IfSome, ◌⊎◌}
-use Rattle.std.proofs.Common.{◌≡◌, ◌≢◌, ◌+◌, ℕ, Bool, true, false, List, [], ◌∷◌, length, Option, Some, None, refl, sym, ap, ◌∙◌, subst, ⊎_elim}
+use Rattle.std.proofs.Common.{◌≡◌, ℕ, Bool, true, false, List, [], ◌∷◌, Option, Some, None, refl, sym, ap, ◌∙◌, subst, ⊎_elim}
 use Rattle.atomic_table.specs.Seated.{TableId}
 use Rattle.pass_list.specs.declared.rule.Ticket.{Ticket}
 use Rattle.pass_list.specs.Passed.{IsOut, ticket, without}
@@ -17,8 +17,8 @@ use Rattle.stretch_queue.specs.HandedOut.{AreOut, out_at}
 use Rattle.stretch_queue.specs.Hooked.{bare, AreNext, Reopens, is_stopped}
 use Rattle.stretch_queue.specs.QueueValue.{QueueValue, IsQueue, AreNew, AreNamed, is_over}
 use Rattle.stretch_queue.specs.Refusals.{IsOfWorkers}
-use Rattle.stretch_queue.specs.Watched.{has_ended_in, can_leave_in}
-use Rattle.stretch_queue.proofs.HandedOut.{Struck, found, one_more, one_less, none_out, not_both}
+use Rattle.stretch_queue.specs.Watched.{has_ended_in}
+use Rattle.stretch_queue.proofs.HandedOut.{found, one_more, one_less, none_out, not_both}
 use Rattle.stretch_queue.proofs.Slots.{taken_out, taken_others, back_others, none_left}
 use Rattle.stretch_queue.proofs.Reopened.{next_leaves, next_none_out, reopened_leaves, reopened_none_out}
 

@@ -1,8 +1,8 @@
 -- The stretches of a run after a superstep was closed.
 use Rattle.std.specs.Prelude.{slice_get, is_some, ◌||◌, ◌&&◌, not}
-use Rattle.std.proofs.Common.{◌≡◌, ◌+◌, ℕ, Bool, true, false, [], length, None, Some, refl, sym, ap, ◌∙◌, arith}
-use Rattle.stretch_parts.specs.Parts.{AreFresh, covers, tasks_in}
-use Rattle.program_stretches.specs.StretchesValue.{StretchesValue, status_in, can_leave}
+use Rattle.std.proofs.Common.{◌≡◌, ◌+◌, ℕ, Bool, true, false, length, None, refl, ap, arith}
+use Rattle.stretch_parts.specs.Parts.{covers, tasks_in}
+use Rattle.program_stretches.specs.StretchesValue.{StretchesValue, status_in}
 use Rattle.program_stretches.proofs.Reopening.{fresh_covers}
 use Rattle.stretch_queue.specs.HandedOut.{out_at}
 use Rattle.stretch_queue.specs.Hooked.{AreNext, Reopens, is_stopped}

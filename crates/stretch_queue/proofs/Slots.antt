@@ -1,14 +1,11 @@
 -- Which stretches of a program are out, and which are ready.
-use Rattle.std.specs.Prelude.{slice_get, slice_set, ◌&&◌, ◌||◌, ◌==◌, not, is_some, IfOk, IfSome, OnErr, MatchOption}
-use Rattle.std.proofs.Common.{◌≡◌, ◌≢◌, ◌<◌, ◌⊎◌, inl, inr, ⊎_elim, ℕ, zero, suc, ◌+◌, Bool, true, false, List, [], ◌∷◌, map, length, Option, Some, None, Result, Ok, Err, refl, sym, ap, ◌∙◌, subst, arith}
-use Rattle.std.proofs.lemmas.List.{length-map}
+use Rattle.std.specs.Prelude.{slice_get, slice_set, ◌&&◌, ◌||◌, ◌==◌, not, is_some}
+use Rattle.std.proofs.Common.{◌≡◌, ◌≢◌, ◌<◌, ℕ, zero, suc, ◌+◌, Bool, true, false, List, [], ◌∷◌, length, Option, Some, None, refl, sym, ap, ◌∙◌, subst, arith}
 use Rattle.phase_records.specs.Status.{Status}
-use Rattle.programs.specs.InPlace.{left_in, spawned_in}
-use Rattle.programs.specs.Changes.{change_in}
 use Rattle.stretch_parts.specs.PartValue.{PartValue}
 use Rattle.stretch_parts.specs.Parts.{AreFresh, covers, is_done, tasks_in}
-use Rattle.program_stretches.specs.StretchesValue.{StretchesValue, StretchValue, with_slot, ready_at, tasks_at, living_at, faulted_at, status_in, status_for, is_at_limit, left_after, can_leave}
-use Rattle.program_stretches.specs.Closing.{AllStay, IsTaken, Accepts}
+use Rattle.program_stretches.specs.StretchesValue.{StretchesValue, StretchValue, with_slot, ready_at, status_in, status_for, is_at_limit, left_after, can_leave}
+use Rattle.program_stretches.specs.Closing.{IsTaken}
 use Rattle.program_stretches.proofs.Reopening.{fresh_covers}
 use Rattle.stretch_queue.specs.HandedOut.{out_at}
 

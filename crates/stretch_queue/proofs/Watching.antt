@@ -1,20 +1,17 @@
 -- Runs with a watcher, from superstep to superstep, and what they leave.
-use Rattle.std.specs.Prelude.{ℤ, ◌⊎◌, ◌||◌, ◌&&◌, not, if◌then◌else◌, is_some, nat_lt, nat_le, slice_get, Result, Ok, Err, IfOk, IfSome}
+use Rattle.std.specs.Prelude.{ℤ, ◌⊎◌, if◌then◌else◌, nat_lt, nat_le, Result, Ok, Err, IfOk, IfSome}
 use Rattle.std.proofs.Common.{◌≡◌, ◌<◌, ◌≤◌, ◌+◌, ℕ, zero, suc, Bool, true, false, List, [], ◌∷◌, map, length, Option, Some, None, refl, sym, ap, ◌∙◌, subst, arith, inl, inr, ⊎_elim}
 use Rattle.std.proofs.lemmas.Bool.Decides.{nat_tests}
 use Rattle.std.proofs.lemmas.List.{length-map}
 use Rattle.phase_records.specs.ReportValue.{ReportValue}
 use Rattle.phase_records.specs.Status.{Status, Ended, Fault, Limit}
-use Rattle.programs.specs.Meaning.{children}
 use Rattle.programs.specs.Superstep.{State}
 use Rattle.programs.specs.History.{OfState, HasRunTo}
-use Rattle.stretch_parts.specs.PartValue.{PartValue}
-use Rattle.stretch_parts.specs.Parts.{Reading, AreFresh, covers, tasks_in}
+use Rattle.stretch_parts.specs.Parts.{Reading}
 use Rattle.program_stretches.specs.Opening.{OpeningValue, live_of, states_by, Opens, AllOpen}
 use Rattle.program_stretches.specs.Reached.{with_before}
-use Rattle.program_stretches.specs.StretchesValue.{StretchesValue, status_for, status_in, can_leave, ready_at, tasks_at, with_slot}
-use Rattle.program_stretches.specs.Closing.{AllStay, CountsAs, HasLeftTo, HasLeft}
-use Rattle.program_stretches.proofs.Reopening.{fresh_covers}
+use Rattle.program_stretches.specs.StretchesValue.{StretchesValue, status_for, status_in}
+use Rattle.program_stretches.specs.Closing.{CountsAs, HasLeftTo, HasLeft}
 use Rattle.stretch_queue.proofs.HandedOut.{not_both}
 use Rattle.stretch_queue.specs.Hooked.{bare}
 use Rattle.stretch_queue.specs.Watched.{AllWent, AllWentBefore, IsOpened, IsWatched, HasLeftWatched, HasLeftKept, LeavesAs}

@@ -2,7 +2,7 @@
 use Rattle.std.specs.Prelude.{◌≡◌, ◌||◌, nat_lt, ℕ, Bool, true, false, List, [], ◌∷◌, slice_get, Option, None, Some, IfSome, is_some}
 use Rattle.std.specs.Option.{unwrap_or}
 use Rattle.atomic_table.specs.Seated.{TableId}
-use Rattle.program_stretches.specs.StretchesValue.{StretchesValue, status_in}
+use Rattle.program_stretches.specs.StretchesValue.{StretchesValue}
 use Rattle.stretch_queue.specs.declared.fault.Refused.{Refused}
 use Rattle.stretch_queue.specs.declared.queue.Lists.{Lists}
 use Rattle.stretch_queue.specs.HandedOut.{AreOut, out_at}

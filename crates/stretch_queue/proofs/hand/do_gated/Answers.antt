@@ -1,4 +1,4 @@
-use Rattle.std.proofs.Common.{◌≡◌, sym}
+use Rattle.std.proofs.Common.{sym}
 use Rattle.stretch_queue.proofs.hand.do_gated.Goals as goal
 
 pub leave_for-requires : goal.leave_for-requires

@@ -1,4 +1,4 @@
-use Rattle.std.proofs.Common.{◌≡◌, ◌<◌, ℕ, length}
+use Rattle.std.proofs.Common.{◌≡◌, ◌<◌, length}
 use Rattle.stretch_queue.specs.Leaves.{leaf_below}
 use Rattle.stretch_queue.proofs.moves.leaf_below.Given as goal
 

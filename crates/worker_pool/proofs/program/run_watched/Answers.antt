@@ -1,4 +1,4 @@
-use Rattle.std.proofs.Common.{◌≡◌, ◌∙◌, ◌++◌, [], map, ap, sym, subst}
+use Rattle.std.proofs.Common.{◌≡◌, ◌∙◌, ◌++◌, map, ap, sym, subst}
 use Rattle.programs.specs.History.{HasRunTo}
 use Rattle.program_stretches.specs.Opening.{OpeningValue, live_of}
 use Rattle.stretch_parts.specs.Parts.{reading_of}

@@ -1,4 +1,4 @@
-use Rattle.std.proofs.Common.{ℕ, length}
+use Rattle.std.proofs.Common.{length}
 use Rattle.worker_pool.specs.Begun.{AreOf}
 use Rattle.worker_pool.proofs.run.bundles_of.Given as goal
 

@@ -1,4 +1,4 @@
-use Rattle.std.proofs.Common.{◌≡◌, ◌∙◌, refl, sym, ap, slice_get}
+use Rattle.std.proofs.Common.{◌∙◌, refl, sym, ap, slice_get}
 use Rattle.stretch_queue.specs.HandedOut.{out_at}
 use Rattle.stretch_queue.proofs.HandedOut.{struck, found}
 use Rattle.stretch_queue.proofs.Queueing.{not_refused, delivered}

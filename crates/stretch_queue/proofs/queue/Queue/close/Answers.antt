@@ -1,4 +1,4 @@
-use Rattle.std.proofs.Common.{◌≡◌, ◌∙◌, refl, sym, ap}
+use Rattle.std.proofs.Common.{◌∙◌, sym, ap}
 use Rattle.stretch_queue.specs.Hooked.{is_stopped}
 use Rattle.stretch_queue.specs.QueueValue.{is_over}
 use Rattle.stretch_queue.proofs.Queueing.{closed, unclosed, not_stopped}

@@ -1,4 +1,3 @@
-use Rattle.std.proofs.Common.{◌≡◌}
 use Rattle.stretch_queue.proofs.HandedOut.{if_ok}
 use Rattle.stretch_queue.proofs.queue.Queue.conclude.Goals as goal
 

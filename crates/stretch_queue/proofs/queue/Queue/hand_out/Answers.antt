@@ -1,4 +1,4 @@
-use Rattle.std.proofs.Common.{◌≡◌, ◌∙◌, refl, ap}
+use Rattle.std.proofs.Common.{◌∙◌, refl, ap}
 use Rattle.stretch_queue.specs.QueueValue.{is_over}
 use Rattle.stretch_queue.proofs.HandedOut.{there_taken}
 use Rattle.stretch_queue.proofs.Queueing.{handed_out}

@@ -1,4 +1,4 @@
-use Rattle.std.proofs.Common.{ℕ, length}
+use Rattle.std.proofs.Common.{length}
 use Rattle.worker_pool.proofs.tree.WorkerTree.cut_anew.Given as goal
 
 abbrev pub invariant-loop-one : goal.invariant-loop-one
