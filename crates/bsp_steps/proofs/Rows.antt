@@ -1,14 +1,13 @@
 -- Puts that become rows.
-use Rattle.std.proofs.Common.{◌≡◌, ℕ, suc, ◌+◌, Bool, true, false, List, [], ◌∷◌, ◌++◌, ◌&&◌, length, refl, sym, ap, ◌∙◌, append_assoc, arith}
+use Rattle.std.proofs.Common.{◌≡◌, ℕ, suc, ◌+◌, Bool, true, false, List, [], ◌∷◌, ◌++◌, ◌&&◌, length, refl, ap, ◌∙◌, arith}
 use Rattle.std.specs.Prelude.{ℤ}
 use Rattle.std.specs.List.{list_all}
 use Rattle.std.proofs.lemmas.List.Folds.{list_all-append}
 use Rattle.superstep_memory.specs.declared.arrays.Put.{Put}
 use Rattle.superstep_memory.specs.declared.arrays.PutKind.TheVariants.{Set}
-use Rattle.superstep_memory.specs.Cells.{is_cell}
 use Rattle.superstep_memory.specs.Rows.{row_puts}
 use Rattle.bsp_steps.specs.declared.given.PutGiven.{PutGiven}
-use Rattle.bsp_steps.specs.Given.{put_given, puts_given}
+use Rattle.bsp_steps.specs.Given.{put_given}
 
 -- a put that sets
 abbrev pub set_at : ℕ → ℕ → ℤ → Put
