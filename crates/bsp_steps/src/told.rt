@@ -1,5 +1,5 @@
 //! The program of a superstep of which C has told what each live task left.
-ghost use Rattle.std.specs.Prelude.{◌≡◌, ◌≤◌, ◌++◌, [], true, IfOk, length, refl};
+ghost use Rattle.std.specs.Prelude.{◌≡◌, ◌≤◌, ◌++◌, [], true, IfOk, OnOk, length, refl};
 ghost use Rattle.std.specs.List.{list_all};
 ghost use Rattle.superstep_memory.specs.Cells.{is_cell};
 ghost use Rattle.superstep_memory.specs.Rows.{row_puts};
@@ -140,6 +140,14 @@ fn put_each(
     Ok(true)
 }
 
+// Appends what a deed says that its task printed.
+fn print_all(deed: &Deed<'_>, prints: &mut Vec<i64>) -> Result<(), AllocError>
+    ensures { OnOk result (prints.new.items ≡ prints.old.items ++ deed.now.prints.now) }
+{
+    prints.extend_from_slice(deed.prints)?;
+    Ok(())
+}
+
 // Writes what a deed says that its task wrote, and returns how the task ends: so, or by a fault.
 fn settle(
     alloc: Global,
@@ -160,7 +168,7 @@ fn settle(
     if let Some(code) = task.refuse(deed.spawns) {
         return Ok(Ending::Fails(code));
     }
-    work.prints.extend_from_slice(deed.prints)?;
+    print_all(deed, &mut work.prints)?;
     task.spawn(deed.spawns, &mut work.spawns)?;
     Ok(ended)
 }
