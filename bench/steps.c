@@ -1,7 +1,7 @@
 /* Supersteps told from C, beside plain C: steps puts | steps rod LAST THREADS
  *
  * By `puts`, prints how long a close with 100,000 puts takes beside a plain loop that checks all cells and then writes, and keeps what
- * the cells held: for puts that set and puts that add, in order and anywhere; the medians of 201 closes in turns. By `rod`, a rod of
+ * the cells held: for puts that set and puts that add, to cells in order and anywhere; the medians of 201 closes in turns. By `rod`, a rod of
  * 4096 cells cools in 46 blocks, up to superstep LAST: prints what bench/native_bench prints for it. */
 #include "bsp_steps.h"
 #include <pthread.h>
@@ -33,35 +33,38 @@ static struct bsp_put all[PUTS];
 static struct bsp_deed deeds[TASKS];
 
 /* The same in plain C: all cells exist, and no sum overflows, or nothing changes. */
-__attribute__((noinline)) static int plain(void) {
-    for (size_t i = 0; i < PUTS; i++)
-        if (all[i].array >= ARRAYS || all[i].index >= CELLS) return 3;
-    for (size_t i = 0; i < PUTS; i++) {
-        int64_t *cell = &cells[all[i].array][all[i].index];
+__attribute__((noinline)) static int plain(const struct bsp_cells *arrays, size_t count, const struct bsp_put *all, size_t puts) {
+    for (size_t i = 0; i < puts; i++)
+        if (all[i].array >= count || all[i].index >= arrays[all[i].array].len) return 3;
+    for (size_t i = 0; i < puts; i++) {
+        int64_t *cell = (int64_t *)arrays[all[i].array].at + all[i].index;
         olds[i] = *cell;
         if (!all[i].adds) *cell = all[i].value;
         else if (__builtin_add_overflow(*cell, all[i].value, cell)) {
-            for (size_t j = i + 1; j-- > 0;) cells[all[j].array][all[j].index] = olds[j];
+            for (size_t j = i + 1; j-- > 0;) ((int64_t *)arrays[all[j].array].at)[all[j].index] = olds[j];
             return 8;
         }
     }
     return 0;
 }
 
-static void close_beside_plain(const char *what, bool adds, bool anywhere) {
+/* `stride`: how far one put's cell is from the last one's; 0: anywhere. */
+static void close_beside_plain(const char *what, bool adds, uint32_t stride) {
     static double ours[TIMES], theirs[TIMES], ratios[TIMES];
     struct bsp_array given[ARRAYS];
+    struct bsp_cells mine[ARRAYS];
     struct bsp_steps run = {0};
     memset(cells, 0, sizeof cells);
     for (size_t i = 0; i < ARRAYS; i++) {
         struct bsp_array array = {(const uint8_t *)"abcd" + i, 1, cells[i], CELLS};
-        given[i] = array;
+        struct bsp_cells own = {cells[i], CELLS};
+        given[i] = array, mine[i] = own;
     }
     check(bsp_steps_open(given, ARRAYS, TASKS, TASKS, TIMES + 1, &run));
     uint64_t state = 88172645463325252u;
     for (size_t i = 0; i < PUTS; i++) {
         state ^= state << 13, state ^= state >> 7, state ^= state << 17;
-        uint32_t where = anywhere ? (uint32_t)(state % (ARRAYS * CELLS)) : (uint32_t)i * 2;
+        uint32_t where = stride ? (uint32_t)i * stride : (uint32_t)(state % (ARRAYS * CELLS));
         struct bsp_put put = {(uint16_t)(where / CELLS), adds, where % CELLS, (int64_t)(state & 1023)};
         all[i] = put;
     }
@@ -73,7 +76,7 @@ static void close_beside_plain(const char *what, bool adds, bool anywhere) {
         double first = now();
         check(bsp_steps_close(deeds, TASKS, &run));
         double second = now();
-        check(plain());
+        check(plain(mine, ARRAYS, all, PUTS));
         double third = now();
         ours[i] = second - first, theirs[i] = third - second, ratios[i] = ours[i] / theirs[i];
     }
@@ -159,9 +162,10 @@ int main(int count, char **words) {
         rod((uint32_t)strtoul(words[2], NULL, 10));
         return 0;
     }
-    close_beside_plain("set, in order", false, false);
-    close_beside_plain("set, anywhere", false, true);
-    close_beside_plain("add, in order", true, false);
-    close_beside_plain("add, anywhere", true, true);
+    close_beside_plain("set, side by side", false, 1);
+    close_beside_plain("set, every second cell", false, 2);
+    close_beside_plain("set, anywhere", false, 0);
+    close_beside_plain("add, side by side", true, 1);
+    close_beside_plain("add, anywhere", true, 0);
     return 0;
 }

@@ -207,7 +207,7 @@ static void reads(void) {
 }
 
 /* Random runs, each beside a model: what tasks are, and what lands. */
-enum { MODEL_TASKS = 40, MODEL_ROOM = 400, MODEL_CELLS = 6, MODEL_PUTS = 4 };
+enum { MODEL_TASKS = 40, MODEL_ROOM = 400, MODEL_CELLS = 24, MODEL_PUTS = 20 };
 
 struct model_task {
     uint16_t path[8];
@@ -300,11 +300,14 @@ static void same(struct bsp_steps *run) {
 }
 
 static void random_deed(struct bsp_deed *deed, struct bsp_put *puts, const int64_t *prints, bool calm) {
-    deed->puts = puts, deed->put_count = pick(MODEL_PUTS + 1), deed->prints = prints, deed->print_count = pick(3);
+    deed->puts = puts, deed->put_count = pick(pick(3) ? 5 : MODEL_PUTS + 1), deed->prints = prints, deed->print_count = pick(3);
     for (size_t k = 0; k < deed->put_count; k++) {
         int64_t value = (int64_t)pick(2000) - 1000;
         struct bsp_put put = {(uint16_t)pick(2), (uint16_t)pick(2), pick(MODEL_CELLS), pick(9) ? value : value * (INT64_MAX / 1001)};
         if (!calm && !pick(300)) put.index = MODEL_CELLS + pick(2) * 4000000000u;
+        /* often a row: the cell after the last one */
+        bool ends = k == 0 || puts[k - 1].index >= (uint32_t)MODEL_CELLS - (calm || pick(20) ? 1 : 0);
+        if (!ends && pick(20)) put.array = puts[k - 1].array, put.index = puts[k - 1].index + 1, put.adds = !pick(40);
         puts[k] = put;
     }
     deed->spawns = (uint16_t)(pick(4) ? 0 : 1 + pick(2));

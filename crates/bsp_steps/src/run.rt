@@ -1,10 +1,10 @@
 //! A run whose supersteps are told.
-ghost use Rattle.std.specs.Prelude.{◌≡◌, ◌↔◌, ◌++◌, ◌≤◌, [], IsTrue, IfOk, MatchResult, FitsSigned, length, pos};
+ghost use Rattle.std.specs.Prelude.{◌≡◌, ◌↔◌, IsTrue, MatchResult, FitsSigned, length, pos};
 ghost use Rattle.std.specs.Int.{w32};
 ghost use Rattle.std.specs.Option.{option_map};
 ghost use Rattle.std.specs.List.{list_all};
 ghost use Rattle.phase_records.specs.StatusSeen.{status_seen};
-ghost use Rattle.bsp_steps.specs.Given.{Fit, is_ending, placed_from, start_origins};
+ghost use Rattle.bsp_steps.specs.Given.{Fit, is_ending, placed_from};
 ghost use Rattle.bsp_steps.specs.Runs.{closing};
 
 use crate::given::Deed;

@@ -1,7 +1,8 @@
 //! The program of a superstep of which C has told what each live task left.
-ghost use Rattle.std.specs.Prelude.{◌≡◌, ◌++◌, [], true, IfOk, length, refl};
+ghost use Rattle.std.specs.Prelude.{◌≡◌, ◌≤◌, ◌++◌, [], true, IfOk, OnOk, length, refl};
 ghost use Rattle.std.specs.List.{list_all};
 ghost use Rattle.superstep_memory.specs.Cells.{is_cell};
+ghost use Rattle.superstep_memory.specs.Rows.{row_puts};
 ghost use Rattle.programs.specs.Lent.{IsLeft};
 ghost use Rattle.task_bodies.specs.Bodies.{member_frame, path_of, framed, refused};
 ghost use Rattle.task_bodies.specs.Settled.{IsSettled};
@@ -45,8 +46,52 @@ fn put_of(put: &PutGiven) -> Put
     }
 }
 
-// Appends puts, and returns whether the cell of each exists.
-fn put_each(arrays: &Arrays, given: &[PutGiven], puts: &mut Puts) -> Result<bool, AllocError>
+// Whether this put and the seven after it set cells side by side, by a look at the last of them.
+#[inline(always)]
+fn begins_row(put: &PutGiven, after: &[PutGiven]) -> bool
+    ensures { result ≡ true → put.now.adds ≡ 0 }
+{
+    if put.adds != 0 {
+        return false;
+    }
+    match after.get(6) {
+        Some(last) => {
+            last.adds == 0
+                && last.array == put.array
+                && u64::from(last.index) == u64::from(put.index) + 7
+        }
+        None => false,
+    }
+}
+
+// Takes the values of puts as long as they set cells of a row, which begins with the cell `first`, goes on after these values, and
+// exists. Returns the puts that are left.
+fn take_row<'a>(
+    arrays: &Arrays,
+    array: u16,
+    first: u32,
+    given: &'a [PutGiven],
+    values: &mut Vec<i64>,
+) -> Result<&'a [PutGiven], AllocError>
+    ensures row { IfOk result (λ rest. row_puts array first values.new.items ++ puts_given rest.now ≡ row_puts array first values.old.items ++ puts_given given.now) }
+    ensures cells { IfOk result (λ _. list_all (is_cell arrays.now) (row_puts array first values.new.items) ≡ list_all (is_cell arrays.now) (row_puts array first values.old.items)) }
+    ensures fewer { IfOk result (λ rest. length rest.now ≤ length given.now) }
+{
+    let mut rest = given;
+    while let Some((next, after)) = rest.split_first() {
+        let goes_on = u64::from(next.index) == u64::from(first) + values.len() as u64;
+        if next.adds != 0 || next.array != array || !goes_on || !arrays.has_cell(put_of(next)) {
+            break;
+        }
+        values.push(next.value)?;
+        rest = after;
+    }
+    Ok(rest)
+}
+
+// Appends puts one by one, and returns whether the cell of each exists.
+#[inline(always)]
+fn put_some(arrays: &Arrays, given: &[PutGiven], puts: &mut Puts) -> Result<bool, AllocError>
     ensures all { IfOk result (λ all. all ≡ list_all (is_cell arrays.now) (puts_given given.now)) }
     ensures put { IfOk result (λ all. all ≡ true → puts.new ≡ puts.old ++ puts_given given.now) }
 {
@@ -62,8 +107,50 @@ fn put_each(arrays: &Arrays, given: &[PutGiven], puts: &mut Puts) -> Result<bool
     Ok(true)
 }
 
+// Appends puts, and returns whether the cell of each exists. Puts to cells side by side become rows; it looks for a row at every
+// eighth of other puts.
+fn put_each(
+    alloc: Global,
+    arrays: &Arrays,
+    given: &[PutGiven],
+    puts: &mut Puts,
+) -> Result<bool, AllocError>
+    ensures all { IfOk result (λ all. all ≡ list_all (is_cell arrays.now) (puts_given given.now)) }
+    ensures put { IfOk result (λ all. all ≡ true → puts.new ≡ puts.old ++ puts_given given.now) }
+{
+    let mut rest = given;
+    while let Some((next, after)) = rest.split_first() {
+        if begins_row(next, after) {
+            if !arrays.has_cell(put_of(next)) {
+                return Ok(false);
+            }
+            let mut values = puts.room(alloc);
+            values.push(next.value)?;
+            rest = take_row(arrays, next.array, next.index, after, &mut values)?;
+            puts.put_row(next.array, next.index, values)?;
+        } else {
+            let count = if rest.len() < 8 { rest.len() } else { 8 };
+            let (some, later) = rest.split_at(count);
+            if !put_some(arrays, some, puts)? {
+                return Ok(false);
+            }
+            rest = later;
+        }
+    }
+    Ok(true)
+}
+
+// Appends what a deed says that its task printed.
+fn print_all(deed: &Deed<'_>, prints: &mut Vec<i64>) -> Result<(), AllocError>
+    ensures { OnOk result (prints.new.items ≡ prints.old.items ++ deed.now.prints.now) }
+{
+    prints.extend_from_slice(deed.prints)?;
+    Ok(())
+}
+
 // Writes what a deed says that its task wrote, and returns how the task ends: so, or by a fault.
 fn settle(
+    alloc: Global,
     deed: &Deed<'_>,
     task: &mut Task,
     arrays: &Arrays,
@@ -75,19 +162,20 @@ fn settle(
     ensures { IfOk result (λ e. let o = written deed.now task.old.kept.place in
         IsSettled (refused arrays.now task.old.path task.old.begun o.puts (length o.spawns)) task.old task.new o work.old work.new ended e) }
 {
-    if !put_each(arrays, deed.puts, &mut work.puts)? {
+    if !put_each(alloc, arrays, deed.puts, &mut work.puts)? {
         return Ok(Ending::Fails(3));
     }
     if let Some(code) = task.refuse(deed.spawns) {
         return Ok(Ending::Fails(code));
     }
-    work.prints.extend_from_slice(deed.prints)?;
+    print_all(deed, &mut work.prints)?;
     task.spawn(deed.spawns, &mut work.spawns)?;
     Ok(ended)
 }
 
 // Does what a deed says of a task.
 fn act(
+    alloc: Global,
     deed: &Deed<'_>,
     task: &mut Task,
     arrays: &Arrays,
@@ -100,10 +188,10 @@ fn act(
     if deed.ending == 0 {
         let place = task.origin().place;
         task.stay(place);
-        return settle(deed, task, arrays, work, Ending::Stays);
+        return settle(alloc, deed, task, arrays, work, Ending::Stays);
     }
     if deed.ending == 1 {
-        return settle(deed, task, arrays, work, Ending::Stops);
+        return settle(alloc, deed, task, arrays, work, Ending::Stops);
     }
     Ok(Ending::Fails(deed.ending))
 }
@@ -124,14 +212,14 @@ impl<'a> Program for Told<'a> {
     #[inline(always)]
     fn segment(
         &self,
-        _alloc: Global,
+        alloc: Global,
         task: &mut Task,
         arrays: &Arrays,
         _step: u32,
         work: &mut Work<Task>,
     ) -> Result<Ending, AllocError> {
         match self.deeds.get(task.origin().place) {
-            Some(deed) => act(deed, task, arrays, work),
+            Some(deed) => act(alloc, deed, task, arrays, work),
             None => Ok(Ending::Stops),
         }
     }

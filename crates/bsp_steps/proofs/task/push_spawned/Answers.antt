@@ -1,4 +1,4 @@
-use Rattle.std.proofs.Common.{◌≡◌, ◌+◌, ◌-◌, ◌++◌, ◌∷◌, ◌∙◌, [], List, sym, ap, arith, append_assoc}
+use Rattle.std.proofs.Common.{◌+◌, ◌-◌, ◌++◌, ◌∷◌, ◌∙◌, [], List, sym, ap, arith, append_assoc}
 use Rattle.task_bodies.specs.Bodies.{numbered}
 use Rattle.bsp_steps.specs.Given.{TaskValue, spawned_at, all_spawned}
 use Rattle.bsp_steps.proofs.Numbered.{new_task, next_child}

@@ -17,5 +17,5 @@ returns c =
     settles_joined c.args.arrays.now c.args.deed.now c.args.task.now c.spawn.new.self _ _ c.args.ended
     (refused_so c.args.arrays.now c.args.deed.now c.args.task.now None all (sym c.refuse.ensures ∙ c.in_default.is))
     (c.in_ok-put_each.ensures.put c.if-not-branch.false)
-    c.requires.none_printed c.in_ok-extend_from_slice.ensures.items
+    c.requires.none_printed c.in_ok-print_all.ensures
     c.requires.none_spawned c.in_ok-spawn.ensures.spawned c.in_ok-spawn.ensures.task
