@@ -1,7 +1,6 @@
 //! Jobs: read, run on one thread or on several, written.
 //!
-//! A program of your own is a crate of this repository, `crates/NAME`. The command `tools/new NAME` makes one; name `jobs` in
-//! its line of `crates.txt`.
+//! A program of your own is a crate of this repository, `crates/NAME`. The command `tools/new NAME --jobs` makes one.
 //!
 //! * [`read_job`] reads a [`Job`] from its text, and [`write_job`] writes it.
 //! * [`run_alone`] runs a job on the caller's thread. [`run_watched`] also calls a [`Watch`] as each superstep begins.
