@@ -2,7 +2,7 @@
 //! Then each of four threads takes part for a thousand members, which come and go for a thousand phases.
 #![tactic(auto)]
 
-use phasers::parties::{Parties, PartiesArrived};
+use phasers::parties::{Parties, PartiesArrived, PartiesLeft};
 use phasers::tree::{EndPlan, Party, PhaserTree};
 use std::sync::Wait;
 use std::thread;
@@ -23,13 +23,13 @@ fn last_phase<R: Wait>(rt: &R, (number, mut own): (usize, Party<'_>)) -> u32 {
             break;
         }
     }
+    // Of a tree that has ended, nobody has to leave.
     let last = own.phase();
-    let _ = own.leave(rt);
-    last
+    own.leave(rt).phase().unwrap_or(last)
 }
 
 // In each phase p up to 999, lets p % 5 new members join and arrive, p % 3 of the old ones leave, and the others arrive.
-// Returns how many are left. Then all of them leave.
+// Then lets all of them leave, and returns how many they were.
 fn stands_for<R: Wait>(rt: &R, mut parties: Parties<'_>) -> u32 {
     for _ in rt.forever() {
         let phase = parties.phase();
@@ -54,8 +54,10 @@ fn stands_for<R: Wait>(rt: &R, mut parties: Parties<'_>) -> u32 {
         }
     }
     let left = parties.size();
-    let _ = parties.leave_all(rt);
-    left
+    match parties.leave_all(rt) {
+        PartiesLeft::Left { .. } => left,
+        PartiesLeft::AlreadyArrived(_, _) | PartiesLeft::Ended(_, _) => 0,
+    }
 }
 
 fn main(rt: HostRuntime) -> anyhow::Result<()> {

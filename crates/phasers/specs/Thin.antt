@@ -30,6 +30,7 @@ use Rattle.phasers.specs.declared.answers.MeetError.{MeetError}
 use Rattle.phasers.specs.declared.answers.MeetError.TheVariants as unmet
 use Rattle.phasers.specs.declared.answers.Departed.{Departed}
 use Rattle.phasers.specs.declared.answers.Departed.TheVariants as departed
+use Rattle.phasers.specs.declared.answers.TreeEnded.{TreeEnded}
 
 -- the first token of a new tree: it has no members, and has made no step
 pub record IsFirst (phase : ℕ) (h : Holding) : Type 0 where
@@ -49,6 +50,12 @@ abbrev pub counted_of : {A : Type 0} → Departed A → ArrivedAtLast
 counted_of (departed.Done party phase led) = counted.Done party phase led
 counted_of (departed.Left guest phase led) = counted.Left guest phase led
 counted_of (departed.Ended party shown) = counted.Ended party shown
+
+-- the phase in which a member left, or the end of the tree that came before
+abbrev pub left_in : {A : Type 0} → Departed A → Result ℕ TreeEnded
+left_in (departed.Done party phase led) = Ok phase
+left_in (departed.Left guest phase led) = Ok phase
+left_in (departed.Ended party shown) = Err (record { shown = shown })
 
 abbrev pub awaited_of : Result ℕ MeetError → AwaitedAdvance
 awaited_of (Ok phase) = awaited.Passed phase

@@ -1,5 +1,8 @@
 //! What the calls of a tree's tokens answer, and their errors.
 
+ghost use Rattle.std.specs.Prelude.{◌≡◌};
+ghost use Rattle.phasers.specs.Thin.{left_in};
+
 use crate::shared::{NoHook, OnAdvance};
 use crate::tree::{Guest, Party};
 use std::fmt;
@@ -94,4 +97,19 @@ pub enum Departed<'a, A: OnAdvance = NoHook> {
     },
     /// The tree has ended, and shows this number as its phase, which is negative. Nobody has to leave any more.
     Ended(Party<'a, A>, i32),
+}
+
+impl<A: OnAdvance> Departed<'_, A> {
+    /// Returns the phase in which the member left. Fails with `TreeEnded` if the tree had ended, and nobody had to leave.
+    ///
+    /// For a party of one member, of which nothing is left. The other members of a larger one are in [`Departed::Done`]: match
+    /// it, since a party that is dropped stays registered.
+    pub fn phase(&self) -> Result<u32, TreeEnded>
+        ensures { result ≡ left_in self.now }
+    {
+        match self {
+            Departed::Done { phase, .. } | Departed::Left { phase, .. } => Ok(*phase),
+            Departed::Ended(_, shown) => Err(TreeEnded { shown: *shown }),
+        }
+    }
 }

@@ -13,22 +13,65 @@
 //!   member at the leaf of a number, `register` several at a tier; `await_phase` waits for a phase; `force` ends the tree.
 //! * [`Party`](tree::Party): a token with members, all at one tier. `meet` arrives and waits; `arrive` and `await_advance`
 //!   are its two halves; `poll` and `try_meet` don't wait. `bring` registers more members, `leave` takes one away.
-//!   Registrations and `meet` return a `Result`, whose errors `?` takes.
+//!   Registrations and `meet` return a `Result`, whose errors `?` takes; `party.leave(rt).phase()` is the phase in which the
+//!   member left.
 //! * [`Parties`](parties::Parties): members that arrive together, for a thread that takes part for many.
 //!   `PhaserTree::with_parties` registers some at each leaf of a new tree, `Guest::join_all` at one leaf. `meet_all` arrives
 //!   with all of them and waits, `arrive_with` also lets new members join and old ones leave, `leave_all` and `leave_some`
 //!   let members leave. Each takes one exchange of a word, however many members they are.
-//! * [`Seat`](tree::Seat): a place in which one thread leaves a party for another, which joins late.
+//! * [`Seat`](tree::Seat): a place in which one thread leaves a party for another, which runs already and joins late.
 //! * [`OnAdvance`](tree::OnAdvance): a hook of your own, which `PhaserTree::with_hook` runs at each advance.
 //!
 //! `PhaserTree::close` returns the words of the tiers at the end, when all tokens are gone.
+//!
+//! Two threads meet on a root with two leaves, and add to a sum that they share. The first brings a third one in phase 1. The
+//! second leaves in phase 7, the others in phase 10:
+//!
+//! ```
+//! use anyhow::Result;
+//! use phasers::tree::{EndPlan, Party, PhaserTree};
+//! use std::sync::Wait;
+//! use std::sync::atomic::{AtomicU64, Ordering};
+//! use std::thread::{self, Threads};
+//!
+//! // Adds 1 to the sum in each phase before `end`, and meets the others. Then leaves, and returns the phase in which it left.
+//! fn take_part<R: Wait>(rt: &R, sum: &AtomicU64, end: u32, mut party: Party<'_>) -> Result<u32> {
+//!     for _ in party.phase()..end {
+//!         sum.fetch_add(1, Ordering::SeqCst);
+//!         party.meet(rt)?;
+//!     }
+//!     Ok(party.leave(rt).phase()?)
+//! }
+//!
+//! // Brings another thread in phase 1. Returns the phase in which the last of the two left.
+//! fn bring_one<R: Threads + Wait + Sync>(rt: &R, sum: &AtomicU64, mut own: Party<'_>) -> Result<u32> {
+//!     own.meet(rt)?;
+//!     let late = own.bring(rt, 1)?;
+//!     let other = || take_part(rt, sum, 10, late);
+//!     let (a, b) = thread::join(rt, || take_part(rt, sum, 10, own), other);
+//!     Ok(a?.max(b?))
+//! }
+//!
+//! fn main(rt: HostRuntime) -> Result<()> {
+//!     let mut tree = PhaserTree::from_widths(rt.alloc(), "2", EndPlan::when_empty())?;
+//!     let mut guest = tree.guest();
+//!     let (long, short) = (guest.split().join(&rt, 0)?, guest.join(&rt, 1)?);
+//!     let sum = AtomicU64::new(0);
+//!     let other = || take_part(&rt, &sum, 7, short);
+//!     let (a, b) = thread::join(&rt, || bring_one(&rt, &sum, long), other);
+//!     println!(rt; "{} {} {}", sum.load(Ordering::SeqCst), a?, b?)?;
+//!     Ok(())
+//! }
+//! ```
+//!
+//! It prints `25 10 7`.
 //!
 //! Four threads meet on a root with two children that have two leaves each. Thread 0 brings a member in phase 3, thread 1
 //! leaves in phase 5, and the plan ends the tree. Then each of four threads takes part for a thousand members, which come
 //! and go for a thousand phases:
 //!
 //! ```
-//! use phasers::parties::{Parties, PartiesArrived};
+//! use phasers::parties::{Parties, PartiesArrived, PartiesLeft};
 //! use phasers::tree::{EndPlan, Party, PhaserTree};
 //! use std::sync::Wait;
 //! use std::thread;
@@ -49,13 +92,13 @@
 //!             break;
 //!         }
 //!     }
+//!     // Of a tree that has ended, nobody has to leave.
 //!     let last = own.phase();
-//!     let _ = own.leave(rt);
-//!     last
+//!     own.leave(rt).phase().unwrap_or(last)
 //! }
 //!
 //! // In each phase p up to 999, lets p % 5 new members join and arrive, p % 3 of the old ones leave, and the others arrive.
-//! // Returns how many are left. Then all of them leave.
+//! // Then lets all of them leave, and returns how many they were.
 //! fn stands_for<R: Wait>(rt: &R, mut parties: Parties<'_>) -> u32 {
 //!     for _ in rt.forever() {
 //!         let phase = parties.phase();
@@ -80,8 +123,10 @@
 //!         }
 //!     }
 //!     let left = parties.size();
-//!     let _ = parties.leave_all(rt);
-//!     left
+//!     match parties.leave_all(rt) {
+//!         PartiesLeft::Left { .. } => left,
+//!         PartiesLeft::AlreadyArrived(_, _) | PartiesLeft::Ended(_, _) => 0,
+//!     }
 //! }
 //!
 //! fn main(rt: HostRuntime) -> anyhow::Result<()> {
@@ -186,8 +231,10 @@
 //!   parties there have arrived, the call waits for the next phase, which waits for this thread. Use `bring`, which stays
 //!   at one tier.
 //! * A thread that waits, with an unarrived member, until another thread has joined by `join` or `register`: the same may
-//!   happen to the other. Bring a party by `bring`, and hand it to the other thread by a [`Seat`](tree::Seat). A thread that waits for nobody may join
-//!   at any time, after `await_phase` too: it then joins the phase that runs.
+//!   happen to the other. Bring a party by `bring`, and start the other thread with it, or hand it to a thread that runs by a
+//!   [`Seat`](tree::Seat). A thread that waits for nobody may join at any time, after `await_phase` too: it then joins the
+//!   phase that runs.
+//! * A thread that waits for a party in a seat in which nobody leaves one: call `close` if none comes.
 //! * A thread that waits for a phase by `await_phase` while it has an unarrived member: the phase waits for the thread.
 //! * A thread that gives up without a word. A party that is dropped stays registered, and the others wait for it: call
 //!   `leave` first, or `force` the tree to end. At a barrier, call `break_off`.

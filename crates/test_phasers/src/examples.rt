@@ -100,9 +100,11 @@ fn a_seat_for_a_party(rt: HostRuntime) {
     let mut own = tree.guest().join(&rt, 0).expect(&rt, "the leaf has room");
     let party = own.bring(&rt, 1).expect(&rt, "the leaf has room");
     assert!(rt; seat.give(&rt, party).is_ok());
-    // Another thread may call this.
-    let other = seat.take(&rt);
+    seat.close(&rt);
+    // Other threads may call this.
+    let other = seat.take(&rt).expect(&rt, "a party");
     assert!(rt; (other.tier(), other.phase()) == (own.tier(), 0));
+    assert!(rt; seat.take(&rt).is_none());
 }
 
 #[test]

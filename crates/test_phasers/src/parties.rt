@@ -36,25 +36,32 @@ fn threads_meet_in_a_scope(rt: HostRuntime) {
     assert!(rt; matches!(guest.join(&rt, 0), Err(JoinError::Ended(_, _))));
 }
 
-// Waits for phase 1, takes a party, meets the other in that phase, and leaves. Counts what came as it should.
+// Waits for phase 1, takes a party, meets the other in that phase, and leaves. Then waits for a second party, which doesn't
+// come. Counts what came as it should.
 fn comes_late<'a, R: Wait>(rt: &R, seat: &Seat<'a>, mut guest: Guest<'a>, right: &AtomicU64) {
     let waits = guest.await_phase(rt, 1) == Ok(1);
-    let mut party = seat.take(rt);
+    let Some(mut party) = seat.take(rt) else {
+        return;
+    };
     let meets = party.phase() == 1 && party.meet(rt) == Ok(2);
-    let leaves = matches!(party.leave(rt), Departed::Left { .. });
+    let leaves = party.leave(rt).phase() == Ok(2);
+    let closes = seat.take(rt).is_none();
     right.fetch_add(
-        u64::from(waits) + u64::from(meets) + u64::from(leaves),
+        u64::from(waits) + u64::from(meets) + u64::from(leaves) + u64::from(closes),
         Ordering::SeqCst,
     );
 }
 
-// Meets alone in phase 0, brings a party for the other thread, and meets it in phase 1.
+// Meets alone in phase 0, brings a party for the other thread, and meets it in phase 1. Closes the seat, which then takes no
+// party.
 fn brings<'a, R: Wait + Abort>(rt: &R, seat: &Seat<'a>, mut own: Party<'a>) {
     assert!(rt; own.meet(rt) == Ok(1));
     let party = own.bring(rt, 1).expect(rt, "room");
     assert!(rt; seat.give(rt, party).is_ok());
     assert!(rt; own.meet(rt) == Ok(2));
-    let _ = own.leave(rt);
+    seat.close(rt);
+    let back = seat.give(rt, own).expect_err(rt, "a closed seat");
+    assert!(rt; back.leave(rt).phase() == Ok(2));
 }
 
 // Two threads, of which one joins late.
@@ -64,7 +71,7 @@ fn two_with_a_seat<R: Threads + Wait + Abort + Sync>(rt: &R, guest: Guest<'_>, o
         let _ = scope.spawn(move || comes_late(rt, seat, guest, right));
         brings(rt, seat, own);
     });
-    assert!(rt; right.load(Ordering::SeqCst) == 3);
+    assert!(rt; right.load(Ordering::SeqCst) == 4);
 }
 
 #[test]
