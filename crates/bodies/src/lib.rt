@@ -8,6 +8,7 @@
 //! * [`Run`] runs a body: on the caller's thread, or on [`Workers`] that meet at a tree of phasers. The result is the same.
 //! * [`Watch`] looks at a run before each superstep, and may stop it.
 //! * [`Report`] is what a run leaves: [`Arrays`], [`Print`]s, a [`PhaseRecord`] for each superstep, and a [`JobStatus`].
+//!   [`Report::same_as`] compares two.
 //!
 //! A cell is named by the place of its array, a `u16`, and its index in it, a `u32`.
 //!
@@ -83,18 +84,18 @@
 //!     let body = Rod { last: 999 };
 //!     // At most 1000 supersteps.
 //!     let alone = Run::of(&body, arrays(alloc)?, blocks(alloc)?).limit(1000);
-//!     let ran = alone.alone(alloc)?;
-//!     println!(rt; "{:?}", ran.report.arrays.cell(0, 1000))?;
+//!     let one = alone.alone(alloc)?;
+//!     println!(rt; "{:?}", one.report.arrays.cell(0, 1000))?;
 //!     // Four workers that meet at a tree: a root, two tiers below it, three leaves below each.
 //!     let workers = Workers::new(4, Shape::from_widths(alloc, "2x3")?)?;
 //!     let shared = Run::of(&body, arrays(alloc)?, blocks(alloc)?).limit(1000);
-//!     let ran = shared.on(&rt, alloc, workers)?;
-//!     println!(rt; "{:?}", ran.report.arrays.cell(0, 1000))?;
+//!     let other = shared.on(&rt, alloc, workers)?;
+//!     println!(rt; "{}", other.report.same_as(&one.report))?;
 //!     Ok(())
 //! }
 //! ```
 //!
-//! It prints `Some(974763)` twice.
+//! It prints `Some(974763)`, and `true`: both reports are the same.
 //!
 //! # Where things are
 //!

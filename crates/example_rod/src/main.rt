@@ -1,5 +1,5 @@
-//! Ten tasks heat a rod for a thousand supersteps, on one thread and on four workers. The program prints the rod's last cell but one
-//! of each run.
+//! Ten tasks heat a rod for a thousand supersteps, on one thread and on four workers. The program prints the rod's last cell but one,
+//! and whether both runs leave the same.
 #![tactic(auto)]
 
 use bodies::{Arrays, Ending, Out, Run, Shape, TaskBody, View, Workers};
@@ -71,12 +71,12 @@ fn main(rt: HostRuntime) -> anyhow::Result<()> {
     let body = Rod { last: 999 };
     // At most 1000 supersteps.
     let alone = Run::of(&body, arrays(alloc)?, blocks(alloc)?).limit(1000);
-    let ran = alone.alone(alloc)?;
-    println!(rt; "{:?}", ran.report.arrays.cell(0, 1000))?;
+    let one = alone.alone(alloc)?;
+    println!(rt; "{:?}", one.report.arrays.cell(0, 1000))?;
     // Four workers that meet at a tree: a root, two tiers below it, three leaves below each.
     let workers = Workers::new(4, Shape::from_widths(alloc, "2x3")?)?;
     let shared = Run::of(&body, arrays(alloc)?, blocks(alloc)?).limit(1000);
-    let ran = shared.on(&rt, alloc, workers)?;
-    println!(rt; "{:?}", ran.report.arrays.cell(0, 1000))?;
+    let other = shared.on(&rt, alloc, workers)?;
+    println!(rt; "{}", other.report.same_as(&one.report))?;
     Ok(())
 }

@@ -2,14 +2,15 @@
 //!
 //! # Where things are
 //!
-//! * `record.rt`: what a job leaves; `report.rt`: its text (`specs/ReportText.antt`); `pieces.rt`: where a text goes, piece
-//!   by piece (`specs/Taken.antt`).
+//! * `record.rt`: what a job leaves; `same.rt`: whether two jobs leave the same; `report.rt`: the text of a report
+//!   (`specs/ReportText.antt`); `pieces.rt`: where a text goes, piece by piece (`specs/Taken.antt`).
 #![tactic(auto)]
 
 mod laws;
 mod pieces;
 mod record;
 mod report;
+mod same;
 
 pub use devices::{
     Count, CountedRead, CountedWrite, DeviceFailed, MOST_BYTES, Metered, ReadFault, Reader, Writer,

@@ -46,7 +46,8 @@ pub enum JobStatus {
     Ended(u32),
     /// A task faulted, or too many would have lived.
     Fault {
-        /// The number of the fault; 7 is that over 4096 tasks would have lived.
+        /// The number of the fault; 7 is that more tasks would have lived than may at once: 4096 in a job, `most` in a run of
+        /// bodies.
         code: u8,
         /// The superstep, from 0.
         step: u32,
