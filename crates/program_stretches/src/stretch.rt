@@ -61,6 +61,12 @@ impl<'p, P: Program> Stretch<'p, P> {
         self.step
     }
 
+    /// Returns how much its tasks computed in the last superstep in which they ran, and 0 if they haven't run yet: a hint for whoever
+    /// shares out stretches. No clause says what it is, since nothing that a run leaves depends on it.
+    pub fn effort(&self) -> u64 {
+        self.part.effort()
+    }
+
     /// Returns true if its tasks have run.
     pub fn is_done(&self) -> bool
         ensures { result ≡ self.now.part.done }

@@ -49,6 +49,7 @@ fn no_space<T: OnPath>(alloc: Global) -> Space<T> {
             own: Puts::new(alloc),
             prints: Vec::new(alloc),
             spawns: Vec::new(alloc),
+            effort: 0,
         },
         deeds: Deeds::new(alloc),
         room: Regrouping::new(alloc),

@@ -12,6 +12,9 @@ pub struct Work<T> {
     pub prints: Vec<i64>,
     /// The tasks that this task spawned.
     pub spawns: Vec<T>,
+    /// How much segments have computed, in a unit of the program, such as statements. It wraps around. Only a hint for whoever
+    /// shares out tasks: nothing that a run leaves depends on it.
+    pub effort: u64,
 }
 
 /// How a segment ends.

@@ -114,6 +114,7 @@ impl<T: OnPath> Part<T> {
                     own: Puts::new(alloc),
                     prints: Vec::new(alloc),
                     spawns: Vec::new(alloc),
+                    effort: 0,
                 },
                 deeds: Deeds::new(alloc),
                 prints: Vec::new(alloc),
@@ -199,6 +200,12 @@ impl<T: OnPath> Part<T> {
         ensures { result ≡ is_some self.now.fault }
     {
         self.state.fault.is_some()
+    }
+
+    /// How much its tasks computed in the last superstep in which they ran: what they counted, such as statements, and their puts.
+    /// It is 0 if they haven't run yet. Only a hint for whoever shares out stretches, so no clause says what it is.
+    pub fn effort(&self) -> u64 {
+        self.state.work.effort
     }
 
     /// How many values it printed.
@@ -455,6 +462,13 @@ fn settle_state<T: OnPath>(state: &mut State<T>) -> Result<(), AllocError>
     Ok(())
 }
 
+// Adds the puts to what the segments have computed.
+fn add_puts<T>(work: &mut Work<T>)
+    ensures { work.new ≡ record work.old { effort = work.new.effort } }
+{
+    work.effort = work.effort.wrapping_add(work.puts.len() as u64);
+}
+
 /// Runs the tasks of a stretch, each in its place, over these arrays. Out of memory, the tasks are lost.
 pub fn run_part<P: TaskLoop>(
     alloc: Global,
@@ -476,6 +490,7 @@ pub fn run_part<P: TaskLoop>(
     }
     let state = &mut *part.state;
     state.work.puts.clear();
+    state.work.effort = 0;
     state.deeds.clear();
     state.prints.clear();
     let end = state.tasks.len();
@@ -493,6 +508,7 @@ pub fn run_part<P: TaskLoop>(
         Ok(fault) => {
             state.done = true;
             state.fault = fault;
+            add_puts(&mut state.work);
             Ok(())
         }
         Err(fault) => {

@@ -226,6 +226,11 @@ impl<'p, P: TaskLoop, L: Lines, J: Running> HeldStretch<'p, P, L, J> {
 }
 
 impl<'p, P: Program, L: Lines, J: Running> HeldStretch<'p, P, L, J> {
+    /// Returns how much the tasks of the stretch computed in the superstep before: a hint, of which no clause says what it is.
+    pub fn effort(&self) -> u64 {
+        self.stretch.effort()
+    }
+
     /// Gives the stretch up. Its tasks are lost.
     pub fn give_up(self) {
         let HeldStretch { stretch, .. } = self;

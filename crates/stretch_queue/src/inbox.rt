@@ -5,13 +5,12 @@ use crate::hook::Lines;
 use crate::running::Running;
 use programs::program::Program;
 use std::alloc::Global;
-use std::collections::VecDeque;
 use std::marker::{Model, PhantomData};
 
-/// The stretches that a worker is to run in a superstep, in the order in which it takes them. Others take from the end.
+/// The stretches that a worker is to run in a superstep. Whoever takes one takes the last.
 #[derive(Drop)]
 pub struct Inbox<'p, P: Program, L: Lines, J: Running> {
-    ready: VecDeque<HeldStretch<'p, P, L, J>>,
+    ready: Vec<HeldStretch<'p, P, L, J>>,
     of: PhantomData<&'p P>,
 }
 
@@ -28,6 +27,7 @@ impl<'p, P: Program, L: Lines, J: Running> Model for Inbox<'p, P, L, J> {
 
 impl<'p, P: Program, L: Lines, J: Running> Inbox<'p, P, L, J> {
     ghost use Rattle.std.specs.Prelude.{◌≡◌, ◌++◌, ◌∷◌, [], length, IfErr, OnOk, OnErr, MatchOption};
+    ghost use Rattle.std.specs.List.Sorted.{IsPermutation};
     ghost use Rattle.stretch_queue.specs.declared.fault.Reason.TheVariants as reason;
 
     /// Creates an inbox without stretches.
@@ -35,7 +35,7 @@ impl<'p, P: Program, L: Lines, J: Running> Inbox<'p, P, L, J> {
         ensures { result ≡ [] }
     {
         Inbox {
-            ready: VecDeque::new(alloc),
+            ready: Vec::new(alloc),
             of: PhantomData,
         }
     }
@@ -55,7 +55,7 @@ impl<'p, P: Program, L: Lines, J: Running> Inbox<'p, P, L, J> {
     {
         match self.ready.reserve(1) {
             Ok(()) => {
-                self.ready.push_back_reserved(held);
+                self.ready.push_reserved(held);
                 Ok(())
             }
             Err(_) => {
@@ -65,17 +65,18 @@ impl<'p, P: Program, L: Lines, J: Running> Inbox<'p, P, L, J> {
         }
     }
 
-    /// Removes the first stretch and returns it.
-    pub fn pop_first(&mut self) -> Option<HeldStretch<'p, P, L, J>>
-        ensures { MatchOption result ((self.old ≡ []) × (self.new ≡ [])) (λ held. self.old ≡ held ∷ self.new) }
+    /// Sorts the stretches, so that those whose tasks computed most in the superstep before are taken first. Then a worker that
+    /// gets one of them late doesn't keep the others waiting.
+    pub fn sort(&mut self)
+        ensures { IsPermutation self.old self.new }
     {
-        self.ready.pop_front()
+        self.ready.sort_unstable_by_key(|held| held.effort());
     }
 
     /// Removes the last stretch and returns it.
-    pub fn pop_last(&mut self) -> Option<HeldStretch<'p, P, L, J>>
+    pub fn pop(&mut self) -> Option<HeldStretch<'p, P, L, J>>
         ensures { MatchOption result ((self.old ≡ []) × (self.new ≡ [])) (λ held. self.old ≡ self.new ++ held ∷ []) }
     {
-        self.ready.pop_back()
+        self.ready.pop()
     }
 }

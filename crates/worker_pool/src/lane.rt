@@ -38,21 +38,13 @@ impl<'p, P: TaskLoop, H: Hook<P>, J: Running> Lane<'p, P, H, J> {
         self.waiting.load(Ordering::SeqCst)
     }
 
-    /// Takes the first stretch that is to be run.
-    pub(crate) fn take_first<R: Wait>(&self, rt: &R) -> Option<HeldStretch<'p, P, H::Lines, J>> {
+    /// Takes the stretch that is to be run first: of those that wait, the one whose tasks computed most in the superstep before.
+    pub(crate) fn take<R: Wait>(&self, rt: &R) -> Option<HeldStretch<'p, P, H::Lines, J>> {
         if self.waiting() == 0 {
             return None;
         }
         let mut inbox = self.inbox.lock(rt);
-        let held = inbox.pop_first();
-        self.waiting.store(inbox.len() as u64, Ordering::SeqCst);
-        held
-    }
-
-    // Takes the last stretch that is to be run.
-    fn take_last<R: Wait>(&self, rt: &R) -> Option<HeldStretch<'p, P, H::Lines, J>> {
-        let mut inbox = self.inbox.lock(rt);
-        let held = inbox.pop_last();
+        let held = inbox.pop();
         self.waiting.store(inbox.len() as u64, Ordering::SeqCst);
         held
     }
@@ -89,6 +81,7 @@ impl<'p, P: TaskLoop, H: Hook<P>, J: Running> Lane<'p, P, H, J> {
                 None => break,
             }
         }
+        inbox.sort();
         self.waiting.store(inbox.len() as u64, Ordering::SeqCst);
         Ok(())
     }
@@ -146,21 +139,21 @@ fn fullest<P: TaskLoop, H: Hook<P>, J: Running>(lanes: &[Lane<'_, P, H, J>]) -> 
     place
 }
 
-/// Takes the last stretch of the lane that has the most to be run. Returns `None` if none is to be run any more in this superstep.
+/// Takes a stretch of the lane that has the most to be run. Returns `None` if none is to be run any more in this superstep.
 pub(crate) fn take_of_fullest<'p, P: TaskLoop, H: Hook<P>, J: Running, R: Wait>(
     rt: &R,
     lanes: &[Lane<'p, P, H, J>],
 ) -> Option<HeldStretch<'p, P, H::Lines, J>> {
     for _ in rt.forever() {
         let place = fullest(lanes)?;
-        if let Some(held) = lanes[place].take_last(rt) {
+        if let Some(held) = lanes[place].take(rt) {
             return Some(held);
         }
     }
     unreachable!()
 }
 
-/// Returns the number behind those of the stretches of worker `k`, of so many workers, if there are `count` stretches.
+/// Returns the number after those of the stretches of worker `k`, of so many workers, if there are `count` stretches.
 pub(crate) fn end_of(count: usize, k: usize, workers: usize) -> usize
     requires { k < workers }
     ensures all { k + 1 ≡ workers → result ≡ count }

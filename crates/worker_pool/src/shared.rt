@@ -94,7 +94,7 @@ impl<'t, 'p, P: TaskLoop, H: Hook<P>, J: Running, F: Fn(u32, u32) -> bool> Share
     fn take<R: Wait>(&self, rt: &R, worker: usize) -> Option<HeldStretch<'p, P, H::Lines, J>>
         requires { worker < J.workers }
     {
-        match self.lanes[worker].take_first(rt) {
+        match self.lanes[worker].take(rt) {
             Some(held) => Some(held),
             None => take_of_fullest(rt, &self.lanes),
         }
