@@ -11,7 +11,7 @@ use Rattle.superstep_memory.specs.PathOrder.{in_path_order}
 use Rattle.superstep_memory.proofs.Over.{at_log, first_located, over_inside, found_there}
 use Rattle.phase_records.specs.declared.record.PhaseRecord.{PhaseRecord}
 -- One superstep of a job on one thread.
-use Rattle.std.proofs.Common.{◌≡◌, ◌==◌, ℕ, suc, ◌+◌, ◌≤◌, ◌<◌, Bool, true, false, nat_le, List, [], ◌∷◌, ◌++◌, map, length, take, Option, Some, None, refl, sym, ap, ◌∙◌, subst, arith}
+use Rattle.std.proofs.Common.{◌≡◌, ◌==◌, ℕ, ◌+◌, ◌≤◌, ◌<◌, Bool, true, false, List, [], ◌∷◌, ◌++◌, map, length, take, Option, Some, None, refl, sym, ap, ◌∙◌, subst, arith}
 use Rattle.std.specs.Prelude.{ℤ, IsSome, if◌then◌else◌}
 use Rattle.superstep_memory.specs.Landing.{landed, over_in}
 use Rattle.phase_records.specs.PrintValue.{PrintValue}
@@ -21,7 +21,7 @@ use Rattle.programs.specs.DeedValue.{DeedValue}
 use Rattle.programs.specs.Superstep.{State, superstep, closed, ended_by, segments, first_fault, too_many, overflow, fault_eight, or_next, next_live, log_of, prints_of, record_of, live_paths}
 use Rattle.programs.specs.InPlace.{AllDone, deeds_of, IsAllDone, Told, maker, told_at, living_with, left_in, spawned_in, told_in}
 use Rattle.programs.specs.Regroup.{AreNumbered}
-use Rattle.programs.specs.Course.{course_state, HasFaulted, HasGone, HasTakenOne}
+use Rattle.programs.specs.Course.{course_state, HasGone, HasTakenOne}
 use Rattle.programs.specs.declared.steps.Course.{Course}
 use Rattle.superstep_memory.proofs.InOrder.{put_all_mapped, count_in_order}
 use Rattle.programs.proofs.InPlace.{no_fault, maker_told, living_told, counted}

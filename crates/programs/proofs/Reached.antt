@@ -1,5 +1,5 @@
 -- A run on one thread, superstep by superstep.
-use Rattle.std.proofs.Common.{◌≡◌, ℕ, zero, suc, ◌+◌, ◌-◌, ◌≤◌, ◌<◌, Bool, true, false, cond, nat_lt, nat_le, List, [], ◌∷◌, ◌++◌, map, length, Option, Some, None, get_or, refl, sym, ap, ◌∙◌, subst, arith, inl, inr}
+use Rattle.std.proofs.Common.{◌≡◌, ℕ, suc, ◌-◌, ◌≤◌, ◌<◌, Bool, true, false, nat_lt, nat_le, List, [], ◌∷◌, ◌++◌, map, length, Option, Some, None, get_or, refl, sym, ap, ◌∙◌, subst, arith, inl, inr}
 use Rattle.std.specs.Prelude.{ℤ, ◌⊎◌, if◌then◌else◌, not, Result, Ok, Err, OnOk}
 use Rattle.std.specs.Option.{is_some}
 use Rattle.std.specs.Result.{is_err}
@@ -8,9 +8,9 @@ use Rattle.std.proofs.lemmas.List.{length-map, length-append, get_or_append_left
 use Rattle.std.proofs.Math.Seq.{get_or-append_seam}
 use Rattle.phase_records.specs.ReportValue.{ReportValue}
 use Rattle.phase_records.specs.Status.{Status, Fault, Ended, Limit}
-use Rattle.programs.specs.Meaning.{Segment, Frame, NumbersItsSpawns, StaysTheSameTask, children}
+use Rattle.programs.specs.Meaning.{Segment, Frame, children}
 use Rattle.programs.specs.Superstep.{State, superstep, segments, fault_in}
-use Rattle.programs.specs.Supersteps.{so_far, status, status_of, report_of, told}
+use Rattle.programs.specs.Supersteps.{so_far, status, status_of, told}
 use Rattle.programs.specs.History.{living_after, Entry, says_in, says_by, IsEntered, OfState, HasRun, HasRunTo}
 use Rattle.programs.specs.Order.{AreOrdered}
 use Rattle.programs.specs.Steps.{StepsValue, begun, ended, IsRunning, left_by, state_in, live_after, as_kept, HasStepped}

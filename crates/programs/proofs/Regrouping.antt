@@ -14,7 +14,7 @@ use Rattle.superstep_memory.proofs.Merged.{put_all_append}
 use Rattle.programs.specs.Meaning.{children}
 use Rattle.programs.specs.DeedValue.{DeedValue}
 use Rattle.programs.specs.InPlace.{kept, living_with}
-use Rattle.programs.specs.Regroup.{AreNumbered, IsInOrder, IsNextAfter, IsBefore, IsWithin, AreWithin, AreStrays, IsNextOutside, IsBeforeNext, HasMoved, HasMovedWithin, HasMovedEarly, HasPut}
+use Rattle.programs.specs.Regroup.{AreNumbered, IsInOrder, IsNextAfter, IsWithin, AreWithin, AreStrays, IsNextOutside, IsBeforeNext, HasMoved, HasMovedWithin, HasMovedEarly, HasPut}
 use Rattle.programs.specs.DeedsView.{behind as behind_these}
 
 -- ---- paths

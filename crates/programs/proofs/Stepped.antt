@@ -1,12 +1,12 @@
 -- A run that is taken superstep by superstep, whose tasks may each leave one thing alone.
-use Rattle.std.proofs.Common.{◌≡◌, ℕ, suc, ◌+◌, ◌≤◌, true, List, [], ◌∷◌, ◌++◌, map, length, Option, Some, None, refl, sym, ap, ◌∙◌, subst, arith, append_assoc, append-nil}
+use Rattle.std.proofs.Common.{◌≡◌, ℕ, suc, ◌+◌, true, List, [], ◌∷◌, ◌++◌, map, Option, Some, None, refl, sym, ap, ◌∙◌, append_assoc, append-nil}
 use Rattle.std.specs.Prelude.{ℤ}
 use Rattle.superstep_memory.specs.Paths.{is_rising}
 use Rattle.phase_records.specs.PrintValue.{PrintValue}
 use Rattle.phase_records.specs.declared.record.PhaseRecord.{PhaseRecord}
 use Rattle.phase_records.specs.Status.{Status}
 use Rattle.programs.specs.Meaning.{Segment, Frame, Says}
-use Rattle.programs.specs.Superstep.{State, superstep, closed, segments, fault_in, live_paths, prints_of, record_of}
+use Rattle.programs.specs.Superstep.{State, superstep, closed, segments, fault_in, prints_of, record_of}
 use Rattle.programs.specs.Supersteps.{so_far, status, told, report_of}
 use Rattle.programs.specs.History.{says_in, says_of}
 use Rattle.programs.specs.Steps.{StepsValue, begun, ended, IsRunning, state_in, as_kept, HasStepped, with_taken, IsSoFar}

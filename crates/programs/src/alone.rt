@@ -59,7 +59,7 @@ pub fn run_watched<P: TaskLoop, W: Watch>(
 {
     let mut steps = Steps::new::<P>(alloc, arrays, tasks, most, limit);
     while steps.status().is_none() {
-        if !watch.goes_on(steps.superstep(), steps.arrays(), steps.tasks().len()) {
+        if !steps.may_go_on(watch) {
             return Ok(steps.stop());
         }
         if steps.step(alloc, program).is_err() {

@@ -28,9 +28,10 @@ impl Model for DeedList {
 
     ghost Value = { List Deed };
 
-    ghost use Rattle.programs.specs.DeedLists.{all_in};
+    ghost use Rattle.std.specs.Prelude.{◌++◌, replicate};
+    ghost use Rattle.programs.specs.DeedLists.{going};
 
-    ghost view = { all_in };
+    ghost view = { λ l. l.front.items ++ replicate l.alike (going l.puts) };
 }
 
 /// The last deeds of a list.
@@ -47,9 +48,10 @@ impl<'a> Model for LastDeeds<'a> {
 
     ghost Value = { List Deed };
 
-    ghost use Rattle.programs.specs.DeedLists.{last_in};
+    ghost use Rattle.std.specs.Prelude.{◌++◌, replicate};
+    ghost use Rattle.programs.specs.DeedLists.{going};
 
-    ghost view = { last_in };
+    ghost view = { λ l. l.front.now ++ replicate l.alike (going l.puts) };
 }
 
 // The deed of a task that goes on and spawned nothing.

@@ -166,6 +166,7 @@ pub fn do_range<P: Program>(
 }
 
 /// Does the segments of tasks, one after another: all their puts are in one log then. Or returns the first fault.
+#[tactic(auto, using(crate::proofs::Ranged::all_done))]
 pub fn do_all<P: TaskLoop>(
     alloc: Global,
     scene: &StepScene<'_, P>,

@@ -14,6 +14,7 @@ use crate::blame::{Blame, too_many};
 use crate::deeds::{Deeds, Regrouping};
 use crate::in_place::{StepScene, do_all};
 use crate::program::{OnPath, Program, TaskLoop};
+use crate::watch::Watch;
 use crate::work::Work;
 use phase_records::{JobStatus, PhaseRecord, Print, Report};
 use std::alloc::{AllocError, Global};
@@ -347,6 +348,14 @@ impl<T: OnPath> Steps<T> {
         ensures { option_map (λ b. b.now) result ≡ self.now.fault }
     {
         self.fault.as_ref()
+    }
+
+    /// Asks a watcher whether another superstep may begin.
+    pub fn may_go_on<W: Watch>(&self, watch: &mut W) -> bool
+        ensures stops { result ≡ false → W.stops self.now.step self.now.arrays (length self.now.tasks) }
+        ensures goes { result ≡ true → W.goes self.now.step self.now.arrays (length self.now.tasks) }
+    {
+        watch.goes_on(self.superstep(), self.arrays(), self.tasks().len())
     }
 
     /// Exchanges the live tasks for others. Whoever gives them sees to it that they are in path order, and apart with all that they

@@ -1,5 +1,5 @@
-use Rattle.std.proofs.Common.{◌≡◌, ℕ, Bool, true, false, List, map, length, Option, Some, refl, sym, ap, ◌∙◌, subst}
-use Rattle.std.specs.Prelude.{ℤ, IfSome, not}
+use Rattle.std.proofs.Common.{◌≡◌, Bool, true, false, List, map, Option, Some, refl, sym, ap, ◌∙◌, subst}
+use Rattle.std.specs.Prelude.{IfSome, not}
 use Rattle.std.specs.Option.{option_map, is_some}
 use Rattle.phase_records.specs.ReportValue.{ReportValue}
 use Rattle.phase_records.specs.Status.{Status}
@@ -14,12 +14,8 @@ use Rattle.programs.proofs.alone.run_watched.Goals as goal
 running : {S : Type 0} (v : StepsValue S) (r : Option JobStatus) (b : Bool) → v.failed ≡ false → option_map status_seen r ≡ ended v → is_some r ≡ not b → b ≡ true → IsRunning v
 running v r b sound e n t = record { sound = sound; going = sym e ∙ ap (option_map status_seen) (none_is r b n t) }
 
--- what a watcher says of what it was shown it says of the run
-seen_as : {A S : Type 0} (W : ℕ → A → ℕ → Type 0) {m n : ℕ} {a b : A} {ts us : List S} → m ≡ n → a ≡ b → ts ≡ us → W m a (length ts) → W n b (length us)
-seen_as W {m} {n} {a} {b} {ts} {us} e f h w = subst (λ k. W k b (length us)) e (subst (λ x. W m x (length us)) f (subst (λ xs. W m a (length xs)) h w))
-
-pub loop-watch-init : goal.loop-watch-init
-loop-watch-init g c =
+pub loop-steps-init : goal.loop-steps-init
+loop-steps-init g c =
     let q = c.args.program.now in
     let f = g.P.Program.frame q in
     let may = g.P.Program.may q in
@@ -34,8 +30,8 @@ loop-watch-init g c =
       ordered = c.new-steps.ensures.ordered q;
     })
 
-pub returns-then-not-goes_on : goal.returns-then-not-goes_on
-returns-then-not-goes_on g c =
+pub returns-then-not-may_go_on : goal.returns-then-not-may_go_on
+returns-then-not-may_go_on g c =
     let q = c.args.program.now in
     let f = g.P.Program.frame q in
     let may = g.P.Program.may q in
@@ -43,16 +39,16 @@ returns-then-not-goes_on g c =
     let path = g.P.Task.OnPath.path_of in
     let law = g.met.P.Program.keeps_paths q in
     let tasks = map meant c.args.tasks.items in
-    let v = c.loop-watch.steps in
-    let h = c.loop-watch.invariant in
+    let v = c.loop-steps.steps in
+    let h = c.loop-steps.invariant in
     let run = running v c.status.result c.is_none.result h.reached.sound c.status.ensures.status c.is_none.ensures c.if-is_none.true in
-    let at = seen_as g.W.Watch.stops c.superstep.ensures c.arrays.ensures c.tasks.ensures (c.goes_on.ensures.stops c.if-not-goes_on.true) in
+    let at = c.may_go_on.ensures.stops c.if-not-may_go_on.true in
     subst (λ (ts : List g.row.P-Task.Denot). HasRunTo g.W.Watch.stops g.W.Watch.goes f may c.args.most c.args.arrays tasks c.args.limit c.stop.result.report (map meant ts)) (sym c.stop.ensures.tasks)
     (subst (λ (r : ReportValue). HasRunTo g.W.Watch.stops g.W.Watch.goes f may c.args.most c.args.arrays tasks c.args.limit r (map meant v.tasks)) (sym c.stop.ensures.report)
     (stopped_by f may c.args.most meant path law c.args.arrays tasks c.args.limit g.W.Watch.stops g.W.Watch.goes v h.reached run h.went at))
 
-pub loop-watch-smaller : goal.loop-watch-smaller
-loop-watch-smaller g c =
+pub loop-steps-smaller : goal.loop-steps-smaller
+loop-steps-smaller g c =
     let q = c.args.program.now in
     let f = g.P.Program.frame q in
     let may = g.P.Program.may q in
@@ -60,14 +56,14 @@ loop-watch-smaller g c =
     let path = g.P.Task.OnPath.path_of in
     let law = g.met.P.Program.keeps_paths q in
     let tasks = map meant c.args.tasks.items in
-    let v = c.loop-watch.steps in
-    let h = c.loop-watch.invariant in
+    let v = c.loop-steps.steps in
+    let h = c.loop-steps.invariant in
     let run = running v c.status.result c.is_none.result h.reached.sound c.status.ensures.status c.is_none.ensures c.if-is_none.true in
     let t = ok_is c.step.result (HasStepped f may meant v c.step.new.self) (sym c.is_err.ensures.value ∙ c.if-is_err.false) (c.step.ensures.stepped run) in
     fewer_left f may c.args.most meant path law c.args.arrays tasks c.args.limit v c.step.new.self run t
 
-pub loop-watch-preserved : goal.loop-watch-preserved
-loop-watch-preserved g c =
+pub loop-steps-preserved : goal.loop-steps-preserved
+loop-steps-preserved g c =
     let q = c.args.program.now in
     let f = g.P.Program.frame q in
     let may = g.P.Program.may q in
@@ -75,10 +71,10 @@ loop-watch-preserved g c =
     let path = g.P.Task.OnPath.path_of in
     let law = g.met.P.Program.keeps_paths q in
     let tasks = map meant c.args.tasks.items in
-    let v = c.loop-watch.steps in
-    let h = c.loop-watch.invariant in
+    let v = c.loop-steps.steps in
+    let h = c.loop-steps.invariant in
     let run = running v c.status.result c.is_none.result h.reached.sound c.status.ensures.status c.is_none.ensures c.if-is_none.true in
-    let at = seen_as g.W.Watch.goes c.superstep.ensures c.arrays.ensures c.tasks.ensures (c.goes_on.ensures.goes c.if-not-goes_on.false) in
+    let at = c.may_go_on.ensures.goes c.if-not-may_go_on.false in
     let t = ok_is c.step.result (HasStepped f may meant v c.step.new.self) (sym c.is_err.ensures.value ∙ c.if-is_err.false) (c.step.ensures.stepped run) in
     let now = seen_now f may c.args.most meant path law c.args.arrays tasks c.args.limit g.W.Watch.goes v h.reached (is_open v run).fault at in
     record {
@@ -96,8 +92,8 @@ returns g c =
     let path = g.P.Task.OnPath.path_of in
     let law = g.met.P.Program.keeps_paths q in
     let tasks = map meant c.args.tasks.items in
-    let v = c.loop-watch.steps in
-    let h = c.loop-watch.invariant in
+    let v = c.loop-steps.steps in
+    let h = c.loop-steps.invariant in
     let some = some_is c.status.result c.is_none.result c.is_none.ensures c.if-is_none.false in
     let s = status_seen some.0 in
     let over : ended v ≡ Some s = sym c.status.ensures.status ∙ ap (option_map status_seen) some.1 in

@@ -1,4 +1,4 @@
-use Rattle.std.proofs.Common.{[], map}
+use Rattle.std.proofs.Common.{map}
 use Rattle.programs.specs.History.{nothing_known, says_of}
 use Rattle.programs.proofs.Apart.{starts_in_order}
 use Rattle.programs.proofs.Reached.{starts_read}

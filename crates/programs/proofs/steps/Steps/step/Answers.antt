@@ -1,4 +1,4 @@
-use Rattle.std.proofs.Common.{◌≡◌, ℕ, true, List, map, Option, Some, None, refl, sym, ap, ◌∙◌, subst}
+use Rattle.std.proofs.Common.{◌≡◌, ℕ, List, map, Option, Some, None, refl, sym, ap, ◌∙◌, subst}
 use Rattle.superstep_memory.specs.Paths.{is_rising}
 use Rattle.programs.specs.Course.{HasTaken}
 use Rattle.programs.specs.Order.{AreOrdered}
