@@ -322,7 +322,8 @@ impl<T: OnPath> Steps<T> {
 
     /// Returns the live tasks, in path order. After a fault there are none.
     pub fn tasks(&self) -> &[T]
-        ensures { result.now ≡ self.now.tasks }
+        ensures live { result.now ≡ self.now.tasks }
+        ensures few { length result.now ≤ self.now.most }
     {
         &self.course.tasks
     }
@@ -357,6 +358,17 @@ impl<T: OnPath> Steps<T> {
         ensures few { length tasks.new.items ≤ self.old.most }
     {
         mem::swap(&mut self.course.tasks, tasks);
+    }
+
+    /// Lets a run go on in which memory ran out, with these tasks in exchange for those that it has. Whoever gives them sees to it that
+    /// they are those from before that superstep. What was printed since it was last taken is lost.
+    pub fn resume(&mut self, tasks: &mut Vec<T>)
+        requires few { length tasks.old.items ≤ self.old.most }
+        ensures given { self.new ≡ record self.old { tasks = tasks.old.items; failed = false } }
+        ensures taken { tasks.new.items ≡ self.old.tasks }
+    {
+        mem::swap(&mut self.course.tasks, tasks);
+        self.failed = false;
     }
 
     /// Gives away what the supersteps printed since it was last taken, in order.
@@ -403,8 +415,8 @@ impl<T: OnPath> Steps<T> {
     /// The live tasks have to be in path order, and apart with all that they may spawn. They are as the run begins, and after a
     /// superstep of this program; whoever gives another program sees to it that they are by its values too.
     ///
-    /// If memory runs out, the tasks are lost and the run can't go on: each later call fails too. The arrays and records are those
-    /// before the superstep.
+    /// If memory runs out, the tasks are lost, and each later call fails too, unless [`Steps::resume`] gives the run its tasks back. The
+    /// arrays and records are those before the superstep.
     pub fn step<P: TaskLoop<Task = T>>(
         &mut self,
         alloc: Global,

@@ -46,7 +46,7 @@ returns-then-not-goes_on g c =
     let v = c.loop-watch.steps in
     let h = c.loop-watch.invariant in
     let run = running v c.status.result c.is_none.result h.reached.sound c.status.ensures.status c.is_none.ensures c.if-is_none.true in
-    let at = seen_as g.W.Watch.stops c.superstep.ensures c.arrays.ensures c.tasks.ensures (c.goes_on.ensures.stops c.if-not-goes_on.true) in
+    let at = seen_as g.W.Watch.stops c.superstep.ensures c.arrays.ensures c.tasks.ensures.live (c.goes_on.ensures.stops c.if-not-goes_on.true) in
     subst (λ (ts : List g.row.P-Task.Denot). HasRunTo g.W.Watch.stops g.W.Watch.goes f may c.args.most c.args.arrays tasks c.args.limit c.stop.result.report (map meant ts)) (sym c.stop.ensures.tasks)
     (subst (λ (r : ReportValue). HasRunTo g.W.Watch.stops g.W.Watch.goes f may c.args.most c.args.arrays tasks c.args.limit r (map meant v.tasks)) (sym c.stop.ensures.report)
     (stopped_by f may c.args.most meant path law c.args.arrays tasks c.args.limit g.W.Watch.stops g.W.Watch.goes v h.reached run h.went at))
@@ -78,7 +78,7 @@ loop-watch-preserved g c =
     let v = c.loop-watch.steps in
     let h = c.loop-watch.invariant in
     let run = running v c.status.result c.is_none.result h.reached.sound c.status.ensures.status c.is_none.ensures c.if-is_none.true in
-    let at = seen_as g.W.Watch.goes c.superstep.ensures c.arrays.ensures c.tasks.ensures (c.goes_on.ensures.goes c.if-not-goes_on.false) in
+    let at = seen_as g.W.Watch.goes c.superstep.ensures c.arrays.ensures c.tasks.ensures.live (c.goes_on.ensures.goes c.if-not-goes_on.false) in
     let t = ok_is c.step.result (HasStepped f may meant v c.step.new.self) (sym c.is_err.ensures.value ∙ c.if-is_err.false) (c.step.ensures.stepped run) in
     let now = seen_now f may c.args.most meant path law c.args.arrays tasks c.args.limit g.W.Watch.goes v h.reached (is_open v run).fault at in
     record {
