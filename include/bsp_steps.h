@@ -10,7 +10,7 @@
  *   A put to no cell is fault 3 of its task, a spawn by a task whose path has 8 numbers is fault 5, a task's 65536th spawn
  *   fault 6, too many live tasks fault 7, a sum outside of 64 signed bits fault 8. After a fault nothing of its superstep counts;
  *   5, 8, 11, 12 and 13: in exactly that case, and nothing is changed; 4: an array is refused, and nothing is open;
- *   6: memory ran out. At open nothing is open then; at close the run can't go on: each later close returns 6;
+ *   6: memory ran out. At open nothing is open then; at close nothing is changed, and the same close can be called again;
  *   7: nothing is open; 9: there is no array, task, print, record or fault of this number; what the call tells is left alone;
  *   10: `out` is too short for the text, which is `*bytes` long; the bytes of `out` may change.
  *   Nothing halts; every call returns. None allocates for each put alone: buffers grow, and are kept from one close to the next.
@@ -19,7 +19,8 @@
  * call at a time; that pointers point to as many values as it says (any pointer, also NULL, if the number is 0), which don't
  * overlap with what a call writes; and that malloc, realloc and free are those of one allocator. What a call
  * lends is there, and stays as it is, until the next close or free of that slot, and any number of threads may read it meanwhile.
- * (The calls' contracts say so until the next call with that slot. That the calls which only look move nothing is tested.) */
+ * (The calls' contracts say so until the next call with that slot. Calls that only look leave the run as it is; that they move
+ * nothing is tested.) */
 #ifndef BSP_STEPS_H
 #define BSP_STEPS_H
 

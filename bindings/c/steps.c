@@ -1,5 +1,6 @@
 /* The calls of bsp_steps.h on runs of every kind, and on random runs beside a model that is written here: prints what it has tried.
- * With WRAPPED, and linked with --wrap=malloc,--wrap=realloc, each allocation fails in turn. */
+ * With WRAPPED, and linked with --wrap=malloc,--wrap=realloc, each allocation of each close is refused in turn, then nothing is changed
+ * and the same close is called again. */
 #include "bsp_steps.h"
 #include <stdio.h>
 #include <string.h>
@@ -10,6 +11,27 @@ static void want(int holds, int line) {
     if (!holds) wrong++, printf("line %d is wrong\n", line);
 }
 #define WANT(holds) want(holds, __LINE__)
+
+/* A call. With WRAPPED first each of its allocations is refused in turn: it says so, and `undone` holds. */
+#ifdef WRAPPED
+static long left = -1, refused;
+void *__real_malloc(size_t n);
+void *__real_realloc(void *p, size_t n);
+void *__wrap_malloc(size_t n) { return left >= 0 && left-- == 0 ? NULL : __real_malloc(n); }
+void *__wrap_realloc(void *p, size_t n) { return left >= 0 && left-- == 0 ? NULL : __real_realloc(p, n); }
+#define EACH_REFUSED(status, call, undone)                              \
+    for (long allowed = 0;; allowed++) {                                \
+        left = allowed;                                                 \
+        status = call;                                                  \
+        bool reached = left < 0;                                        \
+        left = -1;                                                      \
+        if (!reached) break;                                            \
+        refused++;                                                      \
+        WANT(status == BSP_STEPS_NO_MEMORY && (undone));                \
+    }
+#else
+#define EACH_REFUSED(status, call, undone) status = call
+#endif
 
 static const struct bsp_array none[1];
 
@@ -158,19 +180,28 @@ static void depth(void) {
     WANT(bsp_steps_free(&run) == BSP_STEPS_DONE);
 }
 
+static bool looks(struct bsp_steps *run, struct bsp_look as) {
+    struct bsp_look now;
+    if (bsp_steps_look(run, &now)) return false;
+    return now.step == as.step && now.live == as.live && now.arrays == as.arrays && now.prints == as.prints && now.records == as.records;
+}
+
 /* puts, prints, spawns, origins and the report of a run to its limit */
 static int32_t whole(struct bsp_steps *run) {
     int64_t cells[2] = {10, 20};
     struct bsp_array arrays[2] = {array("a", cells, 2), array("b", cells, 1)};
-    int32_t status = bsp_steps_open(arrays, 2, 2, 9, 2, run);
-    if (status) return status;
+    struct bsp_look begun = {0, 2, 2, 0, 0}, later = {1, 4, 2, 3, 1};
+    int32_t status;
+    EACH_REFUSED(status, bsp_steps_open(arrays, 2, 2, 9, 2, run), !run->held);
+    WANT(status == BSP_STEPS_DONE && looks(run, begun));
     struct bsp_put puts[3] = {{0, 0, 0, 1}, {0, 1, 0, 5}, {1, 1, 0, -3}};
     int64_t prints[2] = {7, -8};
     struct bsp_deed first[2] = {{puts, 1, prints, 2, 2, BSP_GOES_ON}, {puts + 1, 2, prints, 1, 1, BSP_STOPS}};
-    status = bsp_steps_close(first, 2, run);
-    if (status) return status;
+    EACH_REFUSED(status, bsp_steps_close(first, 2, run), looks(run, begun));
+    WANT(status == BSP_STEPS_DONE && looks(run, later));
     struct bsp_deed second[4] = {{NULL, 0, prints, 1, 1, 0}, {NULL, 0, NULL, 0, 0, 1}, {NULL, 0, prints + 1, 1, 0, 0}, {NULL, 0, NULL, 0, 0, 0}};
-    return bsp_steps_close(second, 4, run);
+    EACH_REFUSED(status, bsp_steps_close(second, 4, run), looks(run, later));
+    return status;
 }
 
 static const char text_of_whole[] = "print 0 0 7\nprint 0 0 -8\nprint 0 1 7\nphase 0 parties 5 left 1 spawned 3\n"
@@ -198,7 +229,8 @@ static void reads(void) {
         uint8_t *out = (uint8_t *)malloc(room + 1);
         if (!out) exit(6);
         out[room] = 0xa5;
-        int32_t status = bsp_steps_report(&run, out, room, &bytes);
+        int32_t status;
+        EACH_REFUSED(status, bsp_steps_report(&run, out, room, &bytes), bytes == 0);
         WANT(bytes == len && out[room] == 0xa5 && status == (room < len ? BSP_STEPS_SHORT : BSP_STEPS_DONE));
         WANT(status || !memcmp(out, text_of_whole, len));
         free(out);
@@ -207,7 +239,7 @@ static void reads(void) {
 }
 
 /* Random runs, each beside a model: what tasks are, and what lands. */
-enum { MODEL_TASKS = 40, MODEL_ROOM = 400, MODEL_CELLS = 24, MODEL_PUTS = 20 };
+enum { MODEL_TASKS = 40, MODEL_ROOM = 400, MODEL_CELLS = 24, MODEL_PUTS = 20, MODEL_STEPS = 30, MODEL_PRINTS = 2 * MODEL_TASKS * MODEL_STEPS };
 
 struct model_task {
     uint16_t path[8];
@@ -216,8 +248,16 @@ struct model_task {
     struct bsp_origin origin;
 };
 
+struct model_print {
+    uint16_t path[8];
+    size_t len;
+    struct bsp_print is;
+};
+
 static struct model_task model[MODEL_ROOM], after[MODEL_ROOM];
-static size_t model_live;
+static struct model_print model_prints[MODEL_PRINTS];
+static size_t model_live, model_printed;
+static uint32_t model_step;
 static int64_t model_cells[2][MODEL_CELLS];
 static uint32_t seed;
 
@@ -282,11 +322,31 @@ static size_t next_live(const struct bsp_deed *deeds) {
     return count;
 }
 
-/* the live tasks and cells are those of the model */
-static void same(struct bsp_steps *run) {
-    struct bsp_look look;
-    WANT(bsp_steps_look(run, &look) == 0 && look.live == model_live);
-    for (size_t i = 0; i < model_live && i < look.live; i++) {
+/* what the live tasks print */
+static void prints_of(const struct bsp_deed *deeds) {
+    for (size_t i = 0; i < model_live; i++)
+        for (size_t k = 0; k < deeds[i].print_count; k++) {
+            struct model_print *it = &model_prints[model_printed++];
+            memcpy(it->path, model[i].path, sizeof it->path);
+            it->len = model[i].len, it->is.step = model_step, it->is.value = deeds[i].prints[k];
+        }
+}
+
+static void same_print(struct bsp_steps *run, size_t i) {
+    struct bsp_print print;
+    struct bsp_path path;
+    WANT(bsp_steps_print(run, i, &print, &path) == 0 && print.step == model_prints[i].is.step && print.value == model_prints[i].is.value
+         && path.len == model_prints[i].len && !memcmp(path.at, model_prints[i].path, path.len * sizeof *path.at));
+}
+
+/* the steps, live tasks, prints and cells are those of the model */
+static bool same(struct bsp_steps *run) {
+    struct bsp_look look = {model_step, model_live, 2, model_printed, model_step};
+    long before = wrong;
+    WANT(looks(run, look));
+    for (size_t i = 0; i < model_printed; i += 1 + model_printed / 4) same_print(run, i);
+    if (model_printed) same_print(run, model_printed - 1);
+    for (size_t i = 0; i < model_live; i++) {
         struct bsp_path path;
         struct bsp_origin origin;
         WANT(bsp_steps_path(run, i, &path) == 0 && path.len == model[i].len && !memcmp(path.at, model[i].path, path.len * sizeof *path.at));
@@ -297,6 +357,7 @@ static void same(struct bsp_steps *run) {
         struct bsp_cells cells;
         WANT(bsp_steps_cells(run, a, &cells) == 0 && cells.len == MODEL_CELLS && !memcmp(cells.at, model_cells[a], sizeof model_cells[a]));
     }
+    return wrong == before;
 }
 
 static void random_deed(struct bsp_deed *deed, struct bsp_put *puts, const int64_t *prints, bool calm) {
@@ -320,21 +381,22 @@ static uint32_t random_run(bool calm) {
     struct bsp_array arrays[2] = {array("a", model_cells[0], MODEL_CELLS), array("b", model_cells[1], MODEL_CELLS)};
     struct bsp_steps run = {0};
     memset(model_cells, 0, sizeof model_cells);
-    model_live = 1 + pick(5);
+    model_live = 1 + pick(5), model_printed = 0, model_step = 0;
     for (size_t i = 0; i < model_live; i++) {
         struct model_task task = {{(uint16_t)i}, 1, 0, {i, 0, false}};
         model[i] = task;
     }
-    WANT(bsp_steps_open(arrays, 2, (uint32_t)model_live, MODEL_TASKS, 30, &run) == BSP_STEPS_DONE);
+    WANT(bsp_steps_open(arrays, 2, (uint32_t)model_live, MODEL_TASKS, MODEL_STEPS, &run) == BSP_STEPS_DONE);
     uint32_t fault = 0;
-    for (uint32_t step = 0;; step++) {
+    for (;;) {
         same(&run);
         static struct bsp_put puts[MODEL_TASKS][MODEL_PUTS];
         static struct bsp_deed deeds[MODEL_TASKS];
-        const int64_t prints[2] = {step, -7};
+        const int64_t prints[2] = {model_step, -7};
         for (size_t i = 0; i < model_live; i++) random_deed(&deeds[i], puts[i], prints, calm);
         size_t who = 0;
-        int32_t status = bsp_steps_close(deeds, model_live, &run);
+        int32_t status;
+        EACH_REFUSED(status, bsp_steps_close(deeds, model_live, &run), same(&run));
         fault = own_fault(deeds, &who);
         size_t next = fault ? 0 : next_live(deeds);
         if (!fault && next > MODEL_TASKS) fault = 7;
@@ -347,9 +409,10 @@ static uint32_t random_run(bool calm) {
             else WANT(path.len == model[who].len && !memcmp(path.at, model[who].path, path.len * sizeof *path.at));
             model_live = 0;
         } else {
+            prints_of(deeds);
             memcpy(model, after, next * sizeof *model);
-            model_live = next;
-            WANT(status == (next == 0 ? BSP_STEPS_ENDED : step == 29 ? BSP_STEPS_LIMIT : BSP_STEPS_DONE));
+            model_live = next, model_step++;
+            WANT(status == (next == 0 ? BSP_STEPS_ENDED : model_step == MODEL_STEPS ? BSP_STEPS_LIMIT : BSP_STEPS_DONE));
         }
         if (status != BSP_STEPS_DONE) break;
     }
@@ -369,40 +432,6 @@ static void random_runs(uint32_t count) {
     printf("%u random runs, faults: %u cells, %u depth, %u tasks, %u sums, %u own\n", count, faults[3], faults[5], faults[7], faults[8], own);
 }
 
-#ifdef WRAPPED
-static long left = -1;
-void *__real_malloc(size_t n);
-void *__real_realloc(void *p, size_t n);
-void *__wrap_malloc(size_t n) { return left >= 0 && left-- == 0 ? NULL : __real_malloc(n); }
-void *__wrap_realloc(void *p, size_t n) { return left >= 0 && left-- == 0 ? NULL : __real_realloc(p, n); }
-
-/* each allocation fails in turn: the status says it, and nothing is lost but the run */
-static void memory(void) {
-    long failed = 0;
-    for (long n = 0;; n++) {
-        struct bsp_steps run = {0};
-        uint8_t out[sizeof text_of_whole];
-        size_t bytes = 0;
-        left = n;
-        int32_t status = whole(&run);
-        if (status == BSP_STEPS_LIMIT) status = bsp_steps_report(&run, out, sizeof out, &bytes);
-        bool reached = left < 0;
-        left = -1;
-        WANT(status == (reached ? BSP_STEPS_NO_MEMORY : BSP_STEPS_DONE));
-        if (run.held && status) {
-            struct bsp_look look;
-            int64_t value = 0;
-            WANT(bsp_steps_look(&run, &look) == 0 && cell(&run, 0, 0, &value) == 0 && (look.step == 0 ? value == 10 : value == 6));
-            if (look.live == 0) WANT(bsp_steps_close(NULL, 0, &run) == BSP_STEPS_NO_MEMORY);
-        }
-        WANT(bsp_steps_free(&run) == (run.held ? BSP_STEPS_DONE : BSP_STEPS_CLOSED) || !run.held);
-        if (!reached) break;
-        failed++;
-    }
-    printf("%ld allocations failed in turn\n", failed);
-}
-#endif
-
 int main(void) {
     opens();
     closed();
@@ -412,7 +441,7 @@ int main(void) {
     reads();
     random_runs(1000);
 #ifdef WRAPPED
-    memory();
+    printf("%ld allocations were refused in turn\n", refused);
 #endif
     printf("%ld answers, %ld wrong\n", tried, wrong);
     return wrong != 0;

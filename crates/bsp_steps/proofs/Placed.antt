@@ -1,5 +1,5 @@
 -- Tasks with the places that they have.
-use Rattle.std.proofs.Common.{◌≡◌, ℕ, zero, suc, ◌+◌, ◌<◌, ◌≤◌, Bool, true, false, ◌||◌, nat_lt, List, [], ◌∷◌, map, length, slice_set, get_or, Option, Some, None, if◌then◌else◌, refl, ap, ◌∙◌, arith}
+use Rattle.std.proofs.Common.{◌≡◌, ℕ, zero, suc, ◌≤◌, Bool, true, false, ◌||◌, nat_lt, List, [], ◌∷◌, map, length, Option, Some, None, if◌then◌else◌, refl, ap, ◌∙◌, arith}
 use Rattle.std.proofs.lemmas.Bool.Decides.{nat_tests}
 use Rattle.superstep_memory.specs.Paths.{is_rising}
 use Rattle.phase_records.specs.Status.{Status}
@@ -14,12 +14,6 @@ use Rattle.bsp_steps.specs.Runs.{RunValue, placed, refused_starts}
 abbrev pub Tasks : Type 0
 Tasks = List (MemberValue Origin)
 
--- those from this place on
-abbrev pub placed_after : ℕ → ℕ → Tasks → Tasks
-placed_after zero base ts = placed_from base ts
-placed_after (suc n) base [] = []
-placed_after (suc n) base (t ∷ ts) = t ∷ placed_after n (suc base) ts
-
 pub start_count : (place n : ℕ) → length (start_origins place n) ≡ n
 start_count place zero = refl
 start_count place (suc n) = ap suc (start_count (suc place) n)
@@ -27,23 +21,6 @@ start_count place (suc n) = ap suc (start_count (suc place) n)
 pub placed_count : (place : ℕ) (ts : Tasks) → length (placed_from place ts) ≡ length ts
 placed_count place [] = refl
 placed_count place (t ∷ ts) = ap suc (placed_count (suc place) ts)
-
--- all are done
-pub placed_all : (base : ℕ) (ts : Tasks) → placed_after (length ts) base ts ≡ ts
-placed_all base [] = refl
-placed_all base (t ∷ ts) = ap (λ (us : Tasks). t ∷ us) (placed_all (suc base) ts)
-
--- one more is done
-pub placed_next : (n base k : ℕ) (ts : Tasks) (t : MemberValue Origin) → k ≡ base + n → n < length ts → t ≡ get_or ts n t
-    → placed_after (suc n) base (slice_set ts n (record t { kept = stayed k })) ≡ placed_after n base ts
-placed_next n base k [] t at lt e = absurd (omega (arith, lt))
-placed_next zero base k (u ∷ us) t at lt e =
-    let here : k ≡ base = omega (arith, at) in
-    λ i. record (e i) { kept = stayed (here i) } ∷ placed_from (suc base) us
-placed_next (suc n) base k (u ∷ us) t at lt e =
-    let there : k ≡ suc base + n = omega (arith, at) in
-    let below : n < length us = omega (arith, lt) in
-    ap (λ (vs : Tasks). u ∷ vs) (placed_next n (suc base) k us t there below e)
 
 pub placed_paths : (place : ℕ) (ts : Tasks) → map path_of (placed_from place ts) ≡ map path_of ts
 placed_paths place [] = refl

@@ -1,5 +1,6 @@
 -- A run whose supersteps are told (own).
-use Rattle.std.specs.Prelude.{◌≡◌, ◌⊎◌, ℕ, ℤ, pos, Bool, true, ◌||◌, nat_lt, List, [], map, length, Option, Some, None, IsSome}
+use Rattle.std.specs.Prelude.{◌≡◌, ◌⊎◌, ℕ, ℤ, pos, Bool, false, ◌||◌, nat_lt, List, [], ◌++◌, map, length, Option, Some, None, IsSome}
+use Rattle.phase_records.specs.PrintValue.{PrintValue}
 use Rattle.phase_records.specs.ReportText.{report_text}
 use Rattle.phase_records.specs.Status.{Status, Ended, Fault, Limit}
 use Rattle.programs.specs.Meaning.{Segment}
@@ -16,6 +17,10 @@ RunValue = StepsValue (MemberValue Origin)
 -- each live task with the place that it has now
 abbrev pub placed : RunValue → RunValue
 placed v = record v { tasks = placed_from 0 v.tasks }
+
+-- a run that has printed this before
+abbrev pub after_prints : List PrintValue → RunValue → RunValue
+after_prints before v = record v { prints = before ++ v.prints }
 
 -- a task leaves exactly what was told of it
 abbrev pub AsTold : List Deed → MemberValue Origin → List (List ℕ × List ℤ) → ℕ → Segment (MemberValue Origin) → Type 0
@@ -36,18 +41,18 @@ closing (Some (Ended steps)) = pos 1
 closing (Some (Fault code step path)) = pos 2
 closing (Some (Limit steps)) = pos 3
 
--- a superstep was taken, in which each task left what was told of it; or memory ran out (6), and the run can't go on
+-- a superstep was taken, in which each task left what was told of it; or memory ran out (6), and nothing was changed
 abbrev pub Takes : RunValue → RunValue → List Deed → ℤ → Type 0
 Takes v w deeds status =
     ((status ≡ closing (ended w)) × HasStepped member_frame (AsTold deeds) (λ t. t) (placed v) w)
-    ⊎ ((status ≡ pos 6) × (w ≡ record v { tasks = []; prints = []; failed = true }))
+    ⊎ ((status ≡ pos 6) × (w ≡ v))
 
--- memory has run out before (6); the run is over (12); what was told doesn't fit the live tasks (11); or a superstep was taken
+-- the run was over (12); what was told doesn't fit the live tasks (11); or a superstep was taken. No run is left that can't go on.
 pub record IsClosed (v w : RunValue) (deeds : List Deed) (status : ℤ) : Type 0 where
-  pub lost : v.failed ≡ true → (status ≡ pos 6) × (w ≡ v)
   pub over : IsSome (ended v) → (status ≡ pos 12) × (w ≡ v)
   pub unfit : IsRunning v → (Fit deeds (length v.tasks) → ⊥) → (status ≡ pos 11) × (w ≡ v)
   pub taken : IsRunning v → Fit deeds (length v.tasks) → Takes v w deeds status
+  pub sound : (v.failed ≡ false) × (w.failed ≡ false)
 
 -- the text of the report of a run that has ended so
 abbrev pub text_by : RunValue → Option Status → Option (List ℕ)

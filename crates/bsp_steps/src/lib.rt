@@ -105,9 +105,8 @@ pub extern "C" fn bsp_steps_open(
 }
 
 /// Takes one superstep, in which each live task leaves what its deed says, the first deed that of the first live task. Returns 0 if
-/// the run goes on; 1 if no task lives on; 2 if a fault has ended it; 3 if its limit is reached; 6 if an allocation failed, and then
-/// the run can't go on; 7 if nothing is open. Changes nothing if the deeds don't fit the live tasks, 11, or if the run was over
-/// before, 12.
+/// the run goes on; 1 if no task lives on; 2 if a fault has ended it; 3 if its limit is reached; 7 if nothing is open. Changes nothing
+/// if an allocation failed, 6, if the deeds don't fit the live tasks, 11, or if the run was over before, 12.
 #[unsafe(no_mangle)]
 pub extern "C" fn bsp_steps_close(alloc: Global, deeds: &[Deed<'_>], slot: &mut Slot) -> i32
     ensures { Closes slot.old.handle.state slot.new.handle.state deeds.now result }
@@ -136,15 +135,14 @@ pub extern "C" fn bsp_steps_free(alloc: Global, slot: &mut Slot) -> i32
 pub extern "C" fn bsp_steps_look(slot: &mut Slot, look: &mut Look) -> i32
     ensures { Looks slot.old.handle.state slot.new.handle.state look.old look.new result }
 {
-    if !slot.held {
+    let Some(state) = slot.look() else {
         return CLOSED;
-    }
-    let state = slot.handle.get();
+    };
     *look = Look {
         step: state.run.superstep(),
         live: state.run.tasks().len(),
         arrays: state.run.arrays().len(),
-        prints: state.run.prints().len(),
+        prints: state.run.print_count(),
         records: state.run.records().len(),
     };
     DONE
@@ -160,10 +158,9 @@ pub extern "C" fn bsp_steps_cells<'a>(
 ) -> i32
     ensures { ReadsCells slot.old.handle.state array cells.old.now cells.new.now result }
 {
-    if !slot.held {
+    let Some(state) = slot.look() else {
         return CLOSED;
-    }
-    let state = slot.handle.get();
+    };
     match state.run.arrays().get(array) {
         Some((_, found)) => {
             *cells = found;
@@ -179,10 +176,9 @@ pub extern "C" fn bsp_steps_cells<'a>(
 pub extern "C" fn bsp_steps_path<'a>(slot: &'a mut Slot, task: usize, path: &mut &'a [u16]) -> i32
     ensures { ReadsPath slot.old.handle.state task path.old.now path.new.now result }
 {
-    if !slot.held {
+    let Some(state) = slot.look() else {
         return CLOSED;
-    }
-    let state = slot.handle.get();
+    };
     match state.run.tasks().get(task) {
         Some(found) => {
             *path = found.path().as_slice();
@@ -197,10 +193,9 @@ pub extern "C" fn bsp_steps_path<'a>(slot: &'a mut Slot, task: usize, path: &mut
 pub extern "C" fn bsp_steps_origin(slot: &mut Slot, task: usize, origin: &mut Origin) -> i32
     ensures { ReadsOrigin slot.old.handle.state slot.new.handle.state task origin.old origin.new result }
 {
-    if !slot.held {
+    let Some(state) = slot.look() else {
         return CLOSED;
-    }
-    let state = slot.handle.get();
+    };
     match state.run.tasks().get(task) {
         Some(found) => {
             *origin = found.origin();
@@ -220,10 +215,9 @@ pub extern "C" fn bsp_steps_fault<'a>(
 ) -> i32
     ensures { ReadsFault slot.old.handle.state code.old code.new path.old.now path.new.now result }
 {
-    if !slot.held {
+    let Some(state) = slot.look() else {
         return CLOSED;
-    }
-    let state = slot.handle.get();
+    };
     match state.run.fault() {
         Some(blame) => {
             *code = u32::from(blame.code);
@@ -245,11 +239,10 @@ pub extern "C" fn bsp_steps_print<'a>(
 ) -> i32
     ensures { ReadsPrint slot.old.handle.state place told.old told.new path.old.now path.new.now result }
 {
-    if !slot.held {
+    let Some(state) = slot.look() else {
         return CLOSED;
-    }
-    let state = slot.handle.get();
-    match state.run.prints().get(place) {
+    };
+    match state.run.print(place) {
         Some(found) => {
             *told = PrintTold {
                 step: found.step,
@@ -267,10 +260,9 @@ pub extern "C" fn bsp_steps_print<'a>(
 pub extern "C" fn bsp_steps_record(slot: &mut Slot, place: usize, told: &mut RecordTold) -> i32
     ensures { ReadsRecord slot.old.handle.state slot.new.handle.state place told.old told.new result }
 {
-    if !slot.held {
+    let Some(state) = slot.look() else {
         return CLOSED;
-    }
-    let state = slot.handle.get();
+    };
     match state.run.records().get(place) {
         Some(found) => {
             *told = RecordTold {

@@ -1,11 +1,14 @@
 //! A run whose supersteps are told.
-ghost use Rattle.std.specs.Prelude.{◌≡◌, ◌↔◌, IsTrue, MatchResult, FitsSigned, length, pos};
+ghost use Rattle.std.specs.Prelude.{◌≡◌, ◌↔◌, ◌++◌, [], IsTrue, IfOk, OnOk, OnErr, MatchResult, FitsSigned, length, pos};
 ghost use Rattle.std.specs.Int.{w32};
 ghost use Rattle.std.specs.Option.{option_map};
 ghost use Rattle.std.specs.List.{list_all};
 ghost use Rattle.phase_records.specs.StatusSeen.{status_seen};
 ghost use Rattle.bsp_steps.specs.Given.{Fit, is_ending, placed_from};
-ghost use Rattle.bsp_steps.specs.Runs.{closing};
+ghost use Rattle.programs.specs.Order.{AreOrdered};
+ghost use Rattle.programs.specs.Steps.{IsRunning, HasStepped, ended};
+ghost use Rattle.task_bodies.specs.Bodies.{member_frame};
+ghost use Rattle.bsp_steps.specs.Runs.{AsTold, closing, placed};
 
 use crate::given::Deed;
 use crate::task::{Task, start_tasks};
@@ -41,32 +44,81 @@ pub const OVER: i32 = 12;
 /// A run whose supersteps are told.
 #[derive(Drop)]
 pub struct Run {
+    // What was printed in the last superstep, and the rest of the run.
     steps: Steps<Task>,
-    // Empty between two calls.
+    // What was printed before.
+    printed: Vec<Print>,
+    // Room for the tasks of a superstep. What it holds between two calls means nothing.
     room: Vec<Task>,
 }
 
 impl Model for Run {
+    ghost use Rattle.std.specs.Prelude.{◌≡◌, false};
     ghost use Rattle.programs.specs.Order.{AreOrdered};
     ghost use Rattle.task_bodies.specs.Bodies.{member_frame};
-    ghost use Rattle.bsp_steps.specs.Runs.{RunValue};
+    ghost use Rattle.bsp_steps.specs.Runs.{RunValue, after_prints};
 
     ghost Value = { RunValue };
 
-    ghost view = { λ r. r.steps };
+    ghost view = { λ r. after_prints r.printed.items r.steps };
 
-    ghost invariant = { λ r. AreOrdered member_frame r.steps.tasks };
+    ghost invariant = { λ r. AreOrdered member_frame r.steps.tasks × (r.steps.failed ≡ false) };
 }
 
-// Tells each task its place.
-fn place_each(tasks: &mut Vec<Task>)
-    ensures placed { tasks.new.items ≡ placed_from 0 tasks.old.items }
-    ensures count { length tasks.new.items ≡ length tasks.old.items }
+// Copies tasks, each with the place that it has now.
+fn copy_placed(tasks: &[Task], copies: &mut Vec<Task>) -> Result<(), AllocError>
+    ensures { OnOk result (copies.new.items ≡ placed_from 0 tasks.now) }
 {
-    let mut place = 0;
-    while place < tasks.len() {
-        tasks[place].stay(place);
-        place += 1;
+    copies.clear();
+    copies.reserve(tasks.len())?;
+    let mut rest = tasks;
+    while let Some((task, after)) = rest.split_first() {
+        copies.push(task.placed(copies.len()))?;
+        rest = after;
+    }
+    Ok(())
+}
+
+// Moves what the last superstep printed behind what was printed before. If memory runs out, nothing is changed.
+fn join_prints(steps: &mut Steps<Task>, printed: &mut Vec<Print>) -> Result<(), AllocError>
+    ensures joined { OnOk result ((steps.new ≡ record steps.old { prints = [] }) × (printed.new.items ≡ printed.old.items ++ steps.old.prints)) }
+    ensures memory { OnErr result ((steps.new ≡ steps.old) × (printed.new.items ≡ printed.old.items)) }
+{
+    if steps.prints().is_empty() {
+        return Ok(());
+    }
+    printed.reserve(steps.prints().len())?;
+    let mut last = steps.take_prints();
+    match printed.append(&mut last) {
+        Ok(()) => Ok(()),
+        Err(_) => unreachable!(),
+    }
+}
+
+// Takes a superstep in which each live task leaves what was told of it. If memory runs out, nothing is changed: the tasks do their
+// segments in copies.
+fn take_told(
+    alloc: Global,
+    deeds: &[Deed<'_>],
+    steps: &mut Steps<Task>,
+    room: &mut Vec<Task>,
+) -> Result<Option<JobStatus>, AllocError>
+    requires running { IsRunning steps.old }
+    requires none_printed { steps.old.prints ≡ [] }
+    requires ordered { AreOrdered member_frame steps.old.tasks }
+    ensures stepped { OnOk result (HasStepped member_frame (AsTold deeds.now) (λ t. t) (placed steps.old) steps.new) }
+    ensures memory { OnErr result (steps.new ≡ steps.old) }
+    ensures status { IfOk result (λ s. option_map status_seen s ≡ ended steps.new) }
+    ensures ordered { AreOrdered member_frame steps.new.tasks }
+{
+    copy_placed(steps.tasks(), room)?;
+    steps.swap_tasks(room);
+    match steps.step(alloc, &Told { deeds }) {
+        Ok(status) => Ok(status),
+        Err(memory) => {
+            steps.resume(room);
+            Err(memory)
+        }
     }
 }
 
@@ -123,7 +175,7 @@ fn told_as(taken: Result<Option<JobStatus>, AllocError>) -> i32
 }
 
 impl Run {
-    ghost use Rattle.std.specs.Prelude.{◌≡◌, ◌≤◌, ◌<◌, ◌^◌, [], true, false, IfOk, IfSome, map, length};
+    ghost use Rattle.std.specs.Prelude.{◌≡◌, ◌≤◌, ◌<◌, ◌^◌, [], true, false, IfOk, IfSome, map, length, slice_get};
     ghost use Rattle.std.specs.Option.{option_map};
     ghost use Rattle.phase_records.specs.Status.{IsShort};
     ghost use Rattle.phase_records.specs.StatusSeen.{status_seen};
@@ -131,7 +183,7 @@ impl Run {
     ghost use Rattle.programs.specs.Meaning.{children};
     ghost use Rattle.task_bodies.specs.Bodies.{numbered, path_of};
     ghost use Rattle.bsp_steps.specs.Given.{start_origins};
-    ghost use Rattle.bsp_steps.specs.Runs.{placed, refused_starts, text_by, Takes, IsClosed};
+    ghost use Rattle.bsp_steps.specs.Runs.{refused_starts, text_by, Takes, IsClosed};
 
     // Begins a run of these tasks. The program may be that of any superstep.
     fn begin_with(
@@ -149,6 +201,7 @@ impl Run {
     {
         Run {
             steps: Steps::new::<Told<'_>>(alloc, arrays, tasks, most, limit),
+            printed: Vec::new(alloc),
             room: Vec::new(alloc),
         }
     }
@@ -169,33 +222,21 @@ impl Run {
         Ok(Run::begin_with(alloc, arrays, tasks, most, limit, &told))
     }
 
-    // Tells each live task its place.
-    fn place(&mut self)
-        ensures { self.new ≡ placed self.old }
-    {
-        self.room.clear();
-        self.steps.swap_tasks(&mut self.room);
-        place_each(&mut self.room);
-        self.steps.swap_tasks(&mut self.room);
-    }
-
     // Takes a superstep.
     fn take(&mut self, alloc: Global, deeds: &[Deed<'_>]) -> i32
         requires running { IsRunning self.old }
         ensures { Takes self.old self.new deeds.now result }
     {
-        self.place();
-        let taken = self.steps.step(alloc, &Told { deeds });
-        told_as(taken)
+        let Ok(()) = join_prints(&mut self.steps, &mut self.printed) else {
+            return NO_MEMORY;
+        };
+        told_as(take_told(alloc, deeds, &mut self.steps, &mut self.room))
     }
 
     /// Takes a superstep in which each live task leaves what was told of it.
     pub fn close(&mut self, alloc: Global, deeds: &[Deed<'_>]) -> i32
         ensures { IsClosed self.old self.new deeds.now result }
     {
-        if self.steps.has_failed() {
-            return NO_MEMORY;
-        }
         if self.steps.status().is_some() {
             return OVER;
         }
@@ -234,11 +275,23 @@ impl Run {
         self.steps.tasks()
     }
 
-    /// Returns the prints.
-    pub fn prints(&self) -> &[Print]
-        ensures { result.now ≡ self.now.prints }
+    /// Returns how many values were printed.
+    pub fn print_count(&self) -> usize
+        ensures { result ≡ length self.now.prints }
     {
-        self.steps.prints()
+        self.printed.len() + self.steps.prints().len()
+    }
+
+    /// Returns a print by its place.
+    pub fn print(&self, place: usize) -> Option<&Print>
+        ensures { option_map (λ p. p.now) result ≡ slice_get self.now.prints place }
+    {
+        let before = self.printed.len();
+        if place < before {
+            self.printed.get(place)
+        } else {
+            self.steps.prints().get(place - before)
+        }
     }
 
     /// Returns the records.
@@ -256,15 +309,17 @@ impl Run {
     }
 
     /// The text of the report of a run that is over.
-    pub fn text(&self, alloc: Global) -> Result<Option<Vec<u8>>, AllocError>
-        ensures { IfOk result (λ text. option_map (λ t. t.items) text ≡ text_by self.now (ended self.now)) }
+    pub fn text(&mut self, alloc: Global) -> Result<Option<Vec<u8>>, AllocError>
+        ensures text { IfOk result (λ text. option_map (λ t. t.items) text ≡ text_by self.old (ended self.old)) }
+        ensures same { self.new ≡ self.old }
     {
         let Some(status) = self.steps.status() else {
             return Ok(None);
         };
+        join_prints(&mut self.steps, &mut self.printed)?;
         let text = text_of_parts(
             alloc,
-            self.steps.prints(),
+            &self.printed,
             self.steps.records(),
             self.steps.arrays(),
             &status,

@@ -4,6 +4,7 @@ ghost use Rattle.task_bodies.specs.Bodies.{numbered, refused_spawns, went};
 ghost use Rattle.bsp_steps.specs.Given.{all_spawned, placed_at, start_origins};
 
 use crate::given::Origin;
+use programs::blame::copy_path;
 use programs::program::OnPath;
 use smallvec::SmallVec;
 use std::alloc::{AllocError, Global};
@@ -94,6 +95,21 @@ impl Task {
         ensures { result ≡ self.now.kept }
     {
         self.origin
+    }
+
+    /// A copy of it that has this place now. It takes no memory.
+    pub fn placed(&self, place: usize) -> Task
+        ensures { result ≡ placed_at place self.now }
+    {
+        Task {
+            path: copy_path(&self.path),
+            begun: self.begun,
+            origin: Origin {
+                place,
+                number: 0,
+                spawned: false,
+            },
+        }
     }
 
     /// Tells it the place that it has now.
