@@ -280,4 +280,4 @@ are_refused (k ∷ ks) = list_all is_refusal (k ∷ ks)
 
 -- what `--version` prints
 abbrev pub version_line : List ℕ
-version_line = codes "bsp 0.1.0, reads jobs of formats 1 and 2\n"
+version_line = codes "bsp 0.2.0, reads jobs of formats 1 and 2\n"

@@ -12,7 +12,7 @@ use std::alloc::Global;
 
 macro_rules! version {
     ($before:literal, $behind:literal) => {
-        concat!($before, "0.1.0, reads jobs of formats 1 and 2", $behind)
+        concat!($before, "0.2.0, reads jobs of formats 1 and 2", $behind)
     };
 }
 
