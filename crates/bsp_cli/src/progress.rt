@@ -126,7 +126,7 @@ fn seen_after<T: Clock + Eprint>(
 
 /// What is known of a job that runs, and how it ended.
 #[derive(Drop)]
-pub(crate) struct Seen {
+pub struct Seen {
     state: Mutex<ProgressState>,
     over: Condvar,
     end: Mutex<Option<JobStatus>>,
@@ -134,7 +134,7 @@ pub(crate) struct Seen {
 
 impl Seen {
     /// No superstep has begun.
-    pub(crate) fn new() -> Self {
+    pub fn new() -> Self {
         Seen {
             state: Mutex::new(ProgressState {
                 step: 0,
@@ -245,14 +245,14 @@ pub(crate) fn stop<T: Threads + Wait>(rt: &T, ticker: Option<Ticker>) {
 /// `superstep S, T tasks, R s` of the superstep before, and at the end of the last one. A [`Ticker`] prints it while a
 /// superstep lasts.
 #[derive(Drop)]
-pub(crate) struct Teller<'a, T: Clock + Eprint + Wait> {
+pub struct Teller<'a, T: Clock + Eprint + Wait> {
     rt: &'a T,
     seen: &'a Seen,
 }
 
 impl<'a, T: Clock + Eprint + Wait> Teller<'a, T> {
-    /// Returns a reporter of what is known here.
-    pub(crate) fn new(rt: &'a T, seen: &'a Seen) -> Self {
+    /// Returns a reporter of what is known here, which reads the clock of `rt` and prints to its standard error.
+    pub fn new(rt: &'a T, seen: &'a Seen) -> Self {
         Teller { rt, seen }
     }
 }

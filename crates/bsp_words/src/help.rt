@@ -154,9 +154,9 @@ Statuses, and the line on standard error:
 
 With --all, standard output lists the faulty lines of a refused text, at most 20, each as
 line L code C NAME. The first is the one on standard error. The lines after a faulty line
-are checked as if it weren't there, except that it still opens or closes its if or while.
-The list ends after a fault of the whole text (codes 1, 3, 10), or of a line that opens a
-body.
+are checked as if it weren't there, except that with codes 5, 6, 7, 9 and 14 it still opens
+or closes its if or while. The list ends after a fault of the whole text (codes 1, 3, 10), or
+of a line that opens a body.
 
 ",
     "A job in its canonical form:

@@ -177,7 +177,8 @@ fn code_argument<'a>(alloc: Global) -> Arg<'a>
     ensures rule { rule_of result ≡ code_rule }
     ensures local { result.global ≡ false }
 {
-    let help = "Code of a job's refusal, 1 to 14; without it, all are listed";
+    let help =
+        "Code of a job's refusal, 1 to 14; without it, all of these and all faults are listed";
     let numbers = clap::value_parser!(u32).range(1..=14);
     number_argument(alloc, "code", "CODE", help, numbers)
 }

@@ -7,6 +7,7 @@ pub looks-are-worked-out : LooksAreWorkedOut
 unfolding fmt.digits
 looks-are-worked-out = record {
   drawn = refl;
+  unpaired = refl;
   widest = refl;
   too_wide = refl;
   no_width = refl;

@@ -3,7 +3,7 @@ use Rattle.std.specs.Prelude.{◌≡◌, true, false, ℕ, ℤ, pos, List, [], �
 use Rattle.phase_records.specs.ReportValue.{ReportValue}
 use Rattle.phase_records.specs.Status.{Ended}
 use Rattle.job_picture.specs.declared.panels.Form.TheVariants.{Strip, Board, OverTime, Missing}
-use Rattle.job_view.specs.Look.{LookValue, every_of, row_count, views}
+use Rattle.job_view.specs.Look.{LookValue, every_of, missing_views, row_count, views}
 use Rattle.job_view.specs.Words.{are_widths, width_in, words_in}
 
 abbrev pub look : LookValue
@@ -28,6 +28,8 @@ pub record LooksAreWorkedOut : Type 0 where
       ∷ record { name = codes "a"; cells = 2; values = pos 7 ∷ pos 8 ∷ pos 1 ∷ pos 2 ∷ []; form = OverTime 1 }
       ∷ record { name = codes "d"; cells = 0; values = []; form = Missing }
       ∷ record { name = codes "c"; cells = 0; values = []; form = Missing } ∷ []
+  -- a name without a width, which no array has
+  pub unpaired : missing_views report.arrays (codes "b" ∷ codes "2" ∷ codes "c" ∷ []) ≡ record { name = codes "c"; cells = 0; values = []; form = Missing } ∷ []
   pub widest : width_in (codes "b") (words_in (codes "a=1,b=4096")) ≡ Some 4096
   pub too_wide : width_in (codes "b") (words_in (codes "b=4097")) ≡ None
   pub no_width : width_in (codes "b") (words_in (codes "b=0")) ≡ None

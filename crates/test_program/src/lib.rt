@@ -18,3 +18,5 @@ mod interrupted;
 mod progress;
 #[cfg(test)]
 mod runs;
+#[cfg(test)]
+mod seconds;
