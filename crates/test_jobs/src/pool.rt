@@ -2,6 +2,8 @@
 #[cfg(test)]
 mod closures;
 #[cfg(test)]
+mod efforts;
+#[cfg(test)]
 mod fixtures;
 #[cfg(test)]
 mod gates;
@@ -9,6 +11,8 @@ mod gates;
 mod hooks;
 #[cfg(test)]
 mod late;
+#[cfg(test)]
+mod rounds;
 #[cfg(test)]
 mod single;
 #[cfg(test)]
