@@ -7,7 +7,7 @@ pub loop-init : goal.loop-init
 loop-init c = (keeps_none c.args.group, split_none c.args.door.now)
 
 pub try_with_once-requires-clause-eager : goal.try_with_once-requires-clause-eager
-try_with_once-requires-clause-eager c = still_eager c.loop.invariant.0 c.requires.eager
+try_with_once-requires-clause-eager c = λ h. still_eager c.loop.invariant.0 (c.requires.eager (let t = c.loop.invariant.0.view.same.tier in omega arith)) h
 
 pub try_with_once-requires-clause-few : goal.try_with_once-requires-clause-few
 try_with_once-requires-clause-few c = let a = kept_many c.loop.invariant.0 in let b = c.requires.few in omega arith
