@@ -39,9 +39,9 @@ abbrev Seat : Type 0
 Seat = Me Kind (List Sight)
 
 -- what a look of all lets a group keep
-pub found_after : {t : ℕ} {w : Fields} {h : GroupHeld} {id : TableId} {me : Seat} {u : View} (o : Option Fields) → AllLooked t w 0 h (group_of id me u) → IfSome o (λ f. (f ≡ w) × MayKeep t u w) → IfSome o (FoundThere me u)
-found_after {t} {w} {h} {id} {me} {u} None r is = tt
-found_after {t} {w} {h} {id} {me} {u} (Some f) r is =
+pub found_after : {t : ℕ} {w : Fields} {h : GroupHeld} {id : TableId} {u : View} (me : Seat) (o : Option Fields) → AllLooked t w 0 h (group_of id me u) → IfSome o (λ f. (f ≡ w) × MayKeep t u w) → IfSome o (FoundThere me u)
+found_after {t} {w} {h} {id} {u} me None r is = tt
+found_after {t} {w} {h} {id} {u} me (Some f) r is =
     let may = is.1 in
     let none = to_arrive u r.group.view may.some in
     subst (FoundThere me u) (sym is.0) (record {
@@ -66,10 +66,10 @@ those_alike k v (x ∷ xs) (y ∷ ys) a b e = let r = those_alike k v xs ys a.1 
 pub from_may : {k : Key} {t : ℕ} {w u : Fields} {me : Seat} {before m : List Sight} → GoesFrom k t w me before → MayGo k t w u (as_seat before) m → MayGo k t w u me m
 from_may {k} {t} {w} {u} {me} {before} {m} f may = record { bare = f.bare; legal = may.legal; own = f.own; goes = follows w w u me.0 before m f.goes may.goes }
 
-pub from_gone : {k : Key} {t : ℕ} {w u : Fields} {me me' : Seat} {before m : List Sight} (lost : Option Fields) → GoesFrom k t w me before → MatchOption lost (HaveGone k t w u me me' m) (λ z. HaveLost k t w z me me')
+pub from_gone : {k : Key} {t : ℕ} {w : Fields} {me : Seat} {before : List Sight} (u : Fields) (me' : Seat) (m : List Sight) (lost : Option Fields) → GoesFrom k t w me before → MatchOption lost (HaveGone k t w u me me' m) (λ z. HaveLost k t w z me me')
     → MatchOption lost (HaveGone k t w u (as_seat before) me' m) (λ z. HaveLost k t w z me me')
-from_gone {k} {t} {w} {u} {me} {me'} {before} {m} None f g = record { bare = g.bare; now = g.now; before = subst (Among k.shape t w) (sym f.same) g.before; after = g.after }
-from_gone {k} {t} {w} {u} {me} {me'} {before} {m} (Some z) f g = g
+from_gone {k} {t} {w} {me} {before} u me' m None f g = record { bare = g.bare; now = g.now; before = subst (Among k.shape t w) (sym f.same) g.before; after = g.after }
+from_gone {k} {t} {w} {me} {before} u me' m (Some z) f g = g
 
 -- a group's seat whose tokens know what they know before the steps
 module _ {id : TableId} {me : Seat} {v : View} {count : ℕ} {h : GroupHeld} {w : Fields} {before : List Sight} (seated : AreSeated me v count) (is : group_of id me v ≡ h) (b : Begins h w before) where
@@ -139,16 +139,16 @@ pub ready_enough : {c : GroupHeld} {w : Fields} → IsReady c w → length c.tok
 ready_enough {c} {w} r = enough c.tree.key c.view.tier w c.view c.tokens r.among r.group.alike r.may r.group.view r.group.some
 
 -- a try by which nobody arrived last
-pub early_from : {w : Fields} {b c from : GroupHeld} (r : TriedAll) (lost : Option Fields) → from.view.arrived ≡ 0 → MatchOption lost (AllArrived w from c) (λ z. AllLost w z b c) → MatchOption lost (r ≡ tried.Done c) (λ z. r ≡ tried.Yet c) → TriesFrom w from b r
-early_from {w} {b} {c} {from} r None none came is = subst (TriesFrom w from b) (sym is) (arrived_counts none came)
-early_from {w} {b} {c} {from} r (Some z) none lost is = subst (TriesFrom w from b) (sym is) (z, lost)
+pub early_from : (w : Fields) (b c from : GroupHeld) (r : TriedAll) (lost : Option Fields) → from.view.arrived ≡ 0 → MatchOption lost (AllArrived w from c) (λ z. AllLost w z b c) → MatchOption lost (r ≡ tried.Done c) (λ z. r ≡ tried.Yet c) → TriesFrom w from b r
+early_from w b c from r None none came is = subst (TriesFrom w from b) (sym is) (arrived_counts none came)
+early_from w b c from r (Some z) none lost is = subst (TriesFrom w from b) (sym is) (z, lost)
 
 -- a try after a look
-pub tries_from : {a b : GroupHeld} {w : Fields} (r : TriedAll) → IsOne b.view → b.view.arrived ≡ 0 → KeepsAll 0 a b → TriesFrom w (begun b b.tokens) b r → TriesAll 1 a r
-tries_from {a} {b} {w} (tried.Yet group) one none k q = keeps_then 0 1 1 refl k (looked_keeps refl (yet b.view one none) q.1.looked)
-tries_from {a} {b} {w} (tried.Done group) one none k q = counts_then 0 1 (omega arith) k q
-tries_from {a} {b} {w} (tried.Owing errand rest) one none k q = last_then 0 1 (omega arith) k q
-tries_from {a} {b} {w} (tried.Ended group word) one none k q = absurd q
+pub tries_from : {a b : GroupHeld} (w : Fields) (r : TriedAll) → IsOne b.view → b.view.arrived ≡ 0 → KeepsAll 0 a b → TriesFrom w (begun b b.tokens) b r → TriesAll 1 a r
+tries_from {a} {b} w (tried.Yet group) one none k q = keeps_then 0 1 1 refl k (looked_keeps refl (yet b.view one none) q.1.looked)
+tries_from {a} {b} w (tried.Done group) one none k q = counts_then 0 1 (omega arith) k q
+tries_from {a} {b} w (tried.Owing errand rest) one none k q = last_then 0 1 (omega arith) k q
+tries_from {a} {b} w (tried.Ended group word) one none k q = absurd q
 
 -- some more tries
 tries_then : {a b : GroupHeld} (m n o : ℕ) → m + n ≡ o → KeepsAll m a b → (r : TriedAll) → TriesAll n b r → TriesAll o a r
@@ -176,16 +176,16 @@ first_kept {c} {w} r root = record {
   place = ready_place r;
 }
 
-won_tries : {w : Fields} {from old : GroupHeld} (r : TriedAll) → ((group : GroupHeld) → r ≢ tried.Yet group) → TriesFrom w from old r → TriesAll 1 from r
-won_tries {w} {from} {old} (tried.Yet group) other q = absurd (other group refl)
-won_tries {w} {from} {old} (tried.Done group) other q = q
-won_tries {w} {from} {old} (tried.Owing errand rest) other q = q
-won_tries {w} {from} {old} (tried.Ended group word) other q = absurd q
+won_tries : (w : Fields) (from old : GroupHeld) (r : TriedAll) → ((group : GroupHeld) → r ≢ tried.Yet group) → TriesFrom w from old r → TriesAll 1 from r
+won_tries w from old (tried.Yet group) other q = absurd (other group refl)
+won_tries w from old (tried.Done group) other q = q
+won_tries w from old (tried.Owing errand rest) other q = q
+won_tries w from old (tried.Ended group word) other q = absurd q
 
 pub kept_won : {c : GroupHeld} {w : Fields} (tries : ℕ) (r : TriedAll) → 0 < tries → IsReady c w → c.view.tier ≡ 0 → ((group : GroupHeld) → r ≢ tried.Yet group) → TriesFrom w (begun c (looked_all 0 w 0 c.tokens)) c r → LooksAndTries tries c r
 kept_won {c} {w} tries r some' ready root other q =
     let mid : GroupHeld = begun c (looked_all 0 w 0 c.tokens) in
-    (mid, first_kept ready root, (ready.eager root).none, comes_then 0 tries (omega arith) (keeps_none mid) r other (won_tries r other q))
+    (mid, first_kept ready root, (ready.eager root).none, comes_then 0 tries (omega arith) (keeps_none mid) r other (won_tries w mid c r other q))
 
 -- The first try was lost, and found another word of the root: a look at the root, and then a try.
 each_tried : (z : Fields) (l : List Sight) → Each (Did OnlyLooks 1) (looked_all 0 z 0 l) (looked_all 0 z 1 l)

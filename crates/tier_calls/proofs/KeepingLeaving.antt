@@ -1,6 +1,6 @@
 -- All members of a group leave the root by an exchange from the word that the group has kept.
 use Rattle.std.proofs.Common.{◌≡◌, ℕ, ◌+◌, ◌-◌, ◌<◌, ◌≤◌, ◌==◌, length, refl, ap, sym, ◌∙◌, subst, arith}
-use Rattle.phaser_word.specs.Fields.{Fields}
+use Rattle.phaser_word.specs.Fields.{Fields, IsLegal}
 use Rattle.phaser_word.specs.Phase.{shown_of}
 use Rattle.tier_shape.specs.Parents.{parent_of}
 use Rattle.tier_steps.specs.declared.view.Passage.TheVariants.{Departure}
@@ -17,12 +17,16 @@ use Rattle.tier_calls.specs.declared.leaving_all.TriedLeaving.{TriedLeaving}
 use Rattle.tier_calls.specs.declared.leaving_all.TriedLeaving.TheVariants as tried
 use Rattle.tier_calls.specs.declared.leaving_all.LeftAll.{LeftAll}
 use Rattle.tier_calls.proofs.ArrivingAll.{keeps_none, keeps_then, keeps_soon, soon_then, waited, spent_since, among_beside}
+use Rattle.tier_calls.proofs.Seating.{legal_word}
 use Rattle.tier_calls.proofs.ExchangeTries.{parties_there}
 use Rattle.tier_calls.proofs.LeavingTries.{left_after, left_last_after, left_all, left_owing}
 use Rattle.tier_calls.proofs.Keeping.{first_kept, first_lost}
 
 pub ready_parties : {c : GroupHeld} {w : Fields} → IsReady c w → 0 < w.parties
 ready_parties {c} {w} r = parties_there c.tree.key.shape c.view.tier w c.view (among_beside c.tree.key c.view.tier w c.view c.tokens r.among r.group.alike r.group.some) r.may
+
+pub ready_legal : {c : GroupHeld} {w : Fields} → IsReady c w → IsLegal w
+ready_legal {c} {w} r = legal_word c.tree.key.shape c.view.tier w c.view (among_beside c.tree.key c.view.tier w c.view c.tokens r.among r.group.alike r.group.some)
 
 -- some more tries
 leaving_then : {a b : GroupHeld} (m n o : ℕ) → m + n ≡ o → KeepsAll m a b → (r : TriedLeaving) → TriesLeaving n b r → TriesLeaving o a r

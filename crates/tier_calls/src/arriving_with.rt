@@ -476,6 +476,7 @@ impl Tiers {
     ) -> TriedWith
         requires own { (door.old.tree ≡ self.now) × (group.tree ≡ self.now) }
         requires place { group.view.tier < length self.now.key.shape }
+        requires unarrived { group.view.arrived ≡ 0 }
         requires eager { 0 < group.view.tier → IsEager group.view }
         requires few { leaving ≤ length group.tokens }
         requires come { leaving < joining + length group.tokens }

@@ -34,6 +34,10 @@ returns-then-group-eq1-clause-answer c = (
 pub try_with-requires-clause-place : goal.try_with-requires-clause-place
 try_with-requires-clause-place c = subst (λ (n : Named). c.look_all-root.new.group.view.tier < length n.key.shape) c.requires.own.1 (first_look c.look_all-root.ensures).place
 
+pub try_with-requires-clause-unarrived : goal.try_with-requires-clause-unarrived
+try_with-requires-clause-unarrived c =
+    to_arrive c.look_all-root.new.group.view c.look_all-root.ensures.group.view (λ e. c.if-group-eq1.false (ap (λ (z : GroupHeld). z.view.arrived) c.group.view_is ∙ e))
+
 pub try_with-requires-clause-eager : goal.try_with-requires-clause-eager
 try_with-requires-clause-eager c = λ h.
     eager_first c.look_all-root.ensures (ap (λ (w : Fields). w.ended) (sym c.root.view_is) ∙ c.if-root.false)
@@ -51,13 +55,13 @@ returns-then-group-eq1-clause-ended c = unseen_all c.look_all-root.ensures (ap (
 pub returns-clause-answer : goal.returns-clause-answer
 returns-clause-answer c =
     let none = to_arrive c.look_all-root.new.group.view c.look_all-root.ensures.group.view (λ e. c.if-group-eq1.false (ap (λ (z : GroupHeld). z.view.arrived) c.group.view_is ∙ e)) in
-    answers_with c.args.tries c.args.joining c.args.leaving c.try_with.result c.arrived_with.result (c.look_all-root.new.group, first_look c.look_all-root.ensures, none, c.try_with.ensures.went) c.arrived_with.ensures
+    answers_with c.args.tries c.args.joining c.args.leaving c.try_with.result c.arrived_with-2.result (c.look_all-root.new.group, first_look c.look_all-root.ensures, none, c.try_with.ensures.went) c.arrived_with-2.ensures
 
 pub returns-clause-ended : goal.returns-clause-ended
 returns-clause-ended c = unseen_all c.look_all-root.ensures (ap (λ (w : Fields). w.ended) (sym c.root.view_is) ∙ c.if-root.false)
 
 pub returns-in-Some-clause-answer : goal.returns-in-Some-clause-answer
-returns-in-Some-clause-answer c = answers_with c.args.tries c.args.joining c.args.leaving c.pass_kept.result c.arrived_with-in-Some.result c.pass_kept.ensures.went c.arrived_with-in-Some.ensures
+returns-in-Some-clause-answer c = answers_with c.args.tries c.args.joining c.args.leaving c.pass_kept.result c.arrived_with.result c.pass_kept.ensures.went c.arrived_with.ensures
 
 pub returns-in-Some-clause-ended : goal.returns-in-Some-clause-ended
 returns-in-Some-clause-ended c = ready_unseen c.in-Some.ensures.0 c.in-Some.ensures.1

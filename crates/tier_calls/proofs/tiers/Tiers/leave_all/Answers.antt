@@ -46,13 +46,13 @@ returns-then-group-eq1-clause-ended c = unseen_all c.look_all-root.ensures (ap (
 pub returns-clause-answer : goal.returns-clause-answer
 returns-clause-answer c =
     let none = to_arrive c.look_all-root.new.group.view c.look_all-root.ensures.group.view (λ e. c.if-group-eq1.false (ap (λ (z : GroupHeld). z.view.arrived) c.group.view_is ∙ e)) in
-    answers_leaving c.args.tries c.try_leaving.result c.left_all.result (c.look_all-root.new.group, first_look c.look_all-root.ensures, none, c.try_leaving.ensures) c.left_all.ensures
+    answers_leaving c.args.tries c.try_leaving.result c.left_all-2.result (c.look_all-root.new.group, first_look c.look_all-root.ensures, none, c.try_leaving.ensures) c.left_all-2.ensures
 
 pub returns-clause-ended : goal.returns-clause-ended
 returns-clause-ended c = unseen_all c.look_all-root.ensures (ap (λ (w : Fields). w.ended) (sym c.root.view_is) ∙ c.if-root.false)
 
 pub returns-in-Some-clause-answer : goal.returns-in-Some-clause-answer
-returns-in-Some-clause-answer c = answers_leaving c.args.tries c.leave_kept.result c.left_all-in-Some.result c.leave_kept.ensures c.left_all-in-Some.ensures
+returns-in-Some-clause-answer c = answers_leaving c.args.tries c.leave_kept.result c.left_all.result c.leave_kept.ensures c.left_all.ensures
 
 pub returns-in-Some-clause-ended : goal.returns-in-Some-clause-ended
 returns-in-Some-clause-ended c = ready_unseen c.in-Some.ensures.0 c.in-Some.ensures.1

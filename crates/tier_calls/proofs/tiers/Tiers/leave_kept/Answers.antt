@@ -1,9 +1,8 @@
 use Rattle.std.proofs.Common.{sym, ap, subst, ◌∙◌, ◌<◌, length, arith}
-use Rattle.phaser_word.specs.Fields.{IsLegal}
 use Rattle.tier_calls.specs.Holding.{Named}
 use Rattle.tier_calls.proofs.ArrivingAll.{none_now}
 use Rattle.tier_calls.proofs.Keeping.{begins_looked, ready_place, ready_enough, lost_same}
-use Rattle.tier_calls.proofs.KeepingLeaving.{ready_parties, kept_left, kept_owing, leaving_lost}
+use Rattle.tier_calls.proofs.KeepingLeaving.{ready_parties, ready_legal, kept_left, kept_owing, leaving_lost}
 use Rattle.tier_calls.proofs.tiers.Tiers.leave_kept.Goals as goal
 
 pub leave_together-requires-clause-begins : goal.leave_together-requires-clause-begins
@@ -19,7 +18,7 @@ pub leave_together-requires-clause-unled : goal.leave_together-requires-clause-u
 leave_together-requires-clause-unled c = (c.requires.ready.eager c.requires.root).unled
 
 pub leave_together-requires-clause-legal : goal.leave_together-requires-clause-legal
-leave_together-requires-clause-legal c = subst IsLegal c.word.view_is c.word.invariant
+leave_together-requires-clause-legal c = ready_legal c.requires.ready
 
 pub leave_together-requires-clause-some : goal.leave_together-requires-clause-some
 leave_together-requires-clause-some c = ready_parties c.requires.ready
@@ -46,7 +45,7 @@ pub returns-in-Left : goal.returns-in-Left
 returns-in-Left c = kept_left c.args.tries c.requires.some c.requires.ready c.requires.root _ c.in-Left.ensures.0 c.in-Left.ensures.1 c.in-Left.ensures.2
 
 pub returns-in-Owing : goal.returns-in-Owing
-returns-in-Owing c = kept_owing c.args.tries c.requires.some c.requires.ready c.requires.root _ c.in-Owing.ensures.0 c.in-Owing.ensures.1 c.in-Owing.ensures.2 c.in-Owing.ensures.3
+returns-in-Owing c = kept_owing c.args.tries c.requires.some c.requires.ready c.requires.root c.in-Owing.errand c.in-Owing.ensures.0 c.in-Owing.ensures.1 c.in-Owing.ensures.2 c.in-Owing.ensures.3
 
 pub returns-in-Lost : goal.returns-in-Lost
 returns-in-Lost c = leaving_lost c.args.tries c.try_leaving.result c.requires.some c.requires.ready c.in-Lost.ensures c.requires.root c.try_leaving.ensures

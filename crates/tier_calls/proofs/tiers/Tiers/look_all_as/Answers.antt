@@ -23,7 +23,7 @@ invariant_of-group g c =
     let f = facts {me = c.group.inside.seat.me} c.group.invariant.0 c.group.view_is c.self.view_is c.requires.own in
     let r = all_saw c.group.inside.seat.me c.load-found.new.seat.me 0 c.word-word.result c.load-found.ensures.2 (λ w legal is. c.word-word.ensures ∙ c.at-seen.ensures w legal is) c.requires.key c.from.ensures in
     let looked = all_looked c.group.inside.seat.me c.load-found.new.seat.me c.group.invariant.0 r.0 c.group.view_is (f.own ∙ ap (λ (n : Named). n.key) c.self.view_is) c.load-found.ensures.0 r.1 c.view_glanced-group-inside.ensures in
-    (looked_crowd _ _ _ _ _ _ _ _ _ c.group.invariant.0 r.0 r.1 c.view_glanced-group-inside.ensures, found_after {me = c.load-found.new.seat.me} c.found_there-group-inside.result looked c.found_there-group-inside.ensures)
+    (looked_crowd _ _ _ _ _ _ _ _ _ c.group.invariant.0 r.0 r.1 c.view_glanced-group-inside.ensures, found_after c.load-found.new.seat.me c.found_there-group-inside.result looked c.found_there-group-inside.ensures)
 
 pub returns : goal.returns
 returns g c =

@@ -1,5 +1,6 @@
 use Rattle.std.proofs.Common.{sym, ap, subst, ◌∙◌, ◌<◌, length, arith}
 use Rattle.tier_calls.specs.Holding.{Named}
+use Rattle.tier_calls.proofs.ArrivingAll.{none_now}
 use Rattle.tier_calls.proofs.ExchangeTries.{kept_many, split_then}
 use Rattle.tier_calls.proofs.Keeping.{begins_looked, ready_place, ready_enough}
 use Rattle.tier_calls.proofs.KeepingLeaving.{ready_parties}
@@ -33,6 +34,9 @@ try_with-requires-clause-place c =
     let a = subst (λ (n : Named). c.args.group.view.tier < length n.key.shape) c.requires.own.1 (ready_place c.requires.ready) in
     let b = k.view.same.tier in omega arith
 
+pub try_with-requires-clause-unarrived : goal.try_with-requires-clause-unarrived
+try_with-requires-clause-unarrived c = none_now (tried_keeps c.requires.ready c.requires.root c.in-Yet.ensures.went) (c.requires.ready.eager c.requires.root).none
+
 pub try_with-requires-clause-eager : goal.try_with-requires-clause-eager
 try_with-requires-clause-eager c = λ h. (let k = tried_keeps c.requires.ready c.requires.root c.in-Yet.ensures.went in let a = k.view.same.tier in let b = c.requires.root in absurd (omega arith))
 
@@ -48,8 +52,8 @@ returns-in-Yet c = record {
   door = split_then c.in-Yet.ensures.door c.try_with.ensures.door;
 }
 
-pub returns : goal.returns
-returns c = record {
+pub returns-in_default : goal.returns-in_default
+returns-in_default c = record {
   went = with_won c.args.tries c.args.joining c.args.leaving c.pass_from.result c.requires.some c.requires.ready c.requires.root (λ group is. c.in_default.not-Yet group is) c.pass_from.ensures.went;
   door = c.pass_from.ensures.door;
 }

@@ -40,5 +40,5 @@ try_all-requires-clause-unarrived c = none_now (lost_same c.in-Yet.ensures.1 (c.
 pub returns-in-Yet : goal.returns-in-Yet
 returns-in-Yet c = kept_lost c.args.tries c.try_all.result c.requires.some c.requires.ready c.in-Yet.ensures.1 c.requires.root c.try_all.ensures
 
-pub returns : goal.returns
-returns c = kept_won c.args.tries c.arrive_from.result c.requires.some c.requires.ready c.requires.root (λ group is. c.in_default.not-Yet group is) c.arrive_from.ensures
+pub returns-in_default : goal.returns-in_default
+returns-in_default c = kept_won c.args.tries c.arrive_from.result c.requires.some c.requires.ready c.requires.root (λ group is. c.in_default.not-Yet group is) c.arrive_from.ensures

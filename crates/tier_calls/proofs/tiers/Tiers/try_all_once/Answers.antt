@@ -33,4 +33,4 @@ arrive_from-requires-clause-enough c =
 pub returns : goal.returns
 returns c =
     let k = looked_yet c.look_all-word.ensures c.tier-tier.ensures c.requires.unarrived in
-    tries_from c.arrive_from.result c.look_all-word.ensures.group.view (none_now k c.requires.unarrived) k c.arrive_from.ensures
+    tries_from c.look_all-word.result c.arrive_from.result c.look_all-word.ensures.group.view (none_now k c.requires.unarrived) k c.arrive_from.ensures
