@@ -1,9 +1,9 @@
 -- Texts with several faulty lines, worked out by hand (own).
-use Rattle.std.specs.Prelude.{◌≡◌, ℕ, [], ◌∷◌, codes}
+use Rattle.std.specs.Prelude.{◌≡◌, ℕ, [], ◌∷◌, codes, None}
 use Rattle.text_lines.specs.declared.refusal.Code.{Code}
-use Rattle.text_lines.specs.declared.refusal.Code.TheVariants.{BadByte, BadHeader, UnknownLine, BadNumber, BadLine, UnknownName, Unclosed, Reserved}
+use Rattle.text_lines.specs.declared.refusal.Code.TheVariants.{TooLong, BadByte, BadHeader, UnknownLine, BadNumber, BadLine, UnknownName, Unclosed, Reserved}
 use Rattle.text_lines.specs.declared.refusal.Refusal.{Refusal}
-use Rattle.job_faults.specs.Faults.{faults_in}
+use Rattle.job_faults.specs.Faults.{faults_in, repaired}
 use Rattle.job_faults.specs.Listing.{listing}
 
 abbrev pub at : ℕ → Code → Refusal
@@ -22,6 +22,8 @@ pub record FaultsAreWorkedOut : Type 0 where
   -- these end the list
   pub unclosed : faults_in (codes "bsp 1\nstart c 0\nbody b\n") ≡ at 4 Unclosed ∷ []
   pub header : faults_in (codes "bsp 3\nshow\n") ≡ at 1 BadHeader ∷ []
+  -- and so does a text that is too long
+  pub too_long : repaired (codes "show\n") (at 1 TooLong) ≡ None
   pub told : listing (codes "bsp 1\nbody b\nlet x = 05\nput c[0] = 1\nend\nshow\n")
       ≡ codes "line 3 code 6 BadNumber\nline 4 code 9 UnknownName\nline 6 code 4 UnknownLine\n"
   -- a block whose test is a reserved word

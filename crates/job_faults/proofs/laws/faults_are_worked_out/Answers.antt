@@ -18,6 +18,7 @@ returns c = record {
   bytes = refl;
   unclosed = refl;
   header = refl;
+  too_long = refl;
   told = refl;
   reserved = refl;
   bodies = refl;
