@@ -84,6 +84,26 @@ superstep 899, 1 tasks, 9 s
 superstep 999, 1 tasks, 10 s
 ";
 
+// Runs the program on the task that goes on for ever, and returns the status.
+fn watched<R: Threads + Wait + Sync>(
+    rt: &R,
+    alloc: Global,
+    words: &[&str],
+    teller: &Teller<'_, Desk<'_, R>>,
+) -> u8 {
+    let (mut out, mut errors) = (Vec::new(alloc), Vec::new(alloc));
+    let mut reads = 0;
+    run_telling(
+        rt,
+        alloc,
+        words,
+        &mut Reader::new(Source::of(ENDLESS.as_bytes(), &mut reads)),
+        &mut Writer::new(Sink::of(&mut out)),
+        &mut Writer::new(Sink::of(&mut errors)),
+        teller,
+    )
+}
+
 // Whether a run by these words prints this of its progress, and ends at its limit.
 fn prints<R: Threads + Wait + Sync>(rt: &R, alloc: Global, words: &[&str], want: &str) -> bool {
     let desk = Desk {
@@ -93,17 +113,7 @@ fn prints<R: Threads + Wait + Sync>(rt: &R, alloc: Global, words: &[&str], want:
         printed: Mutex::new(Vec::new(alloc)),
     };
     let seen = Seen::new();
-    let (mut out, mut errors) = (Vec::new(alloc), Vec::new(alloc));
-    let mut reads = 0;
-    let status = run_telling(
-        rt,
-        alloc,
-        words,
-        &mut Reader::new(Source::of(ENDLESS.as_bytes(), &mut reads)),
-        &mut Writer::new(Sink::of(&mut out)),
-        &mut Writer::new(Sink::of(&mut errors)),
-        &Teller::new(&desk, &seen),
-    );
+    let status = watched(rt, alloc, words, &Teller::new(&desk, &seen));
     let printed = desk.printed.lock(rt);
     status == 3 && printed.as_slice() == want.as_bytes()
 }
