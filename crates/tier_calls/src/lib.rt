@@ -36,7 +36,8 @@
 //!   crew isn't moved), `joining.rt`, `beside.rt` (`join_here`), `polling.rt`, `looking.rt`, `forcing.rt`,
 //!   `closing.rt`: the calls;
 //!   `next.rt`: which tier a call looks for; `seated.rt`: a token's seat.
-//! * `groups.rt`: groups, their arrivals and polls, how they split and go together; `arriving_with.rt`: an arrival with
+//! * `groups.rt`: groups, their arrivals and polls, how they split and go together; `kept.rt`: from which tokens an exchange
+//!   goes on; `arriving_with.rt`: an arrival with
 //!   which others join and leave, and the new tokens for it; `joining_all.rt`: registrations beside a group;
 //!   `registering_all.rt`: those of a new group at any tier; `leaving_all.rt`: all departures; `finishing.rt`: the rest of
 //!   an arrival that was counted, and the group as a whole.
@@ -62,6 +63,7 @@ pub mod groups;
 pub mod in_place;
 pub mod joining;
 pub mod joining_all;
+mod kept;
 pub mod leaving_all;
 mod looking;
 mod next;
