@@ -5,10 +5,8 @@ use Rattle.atomic_table.specs.Table.{Me}
 use Rattle.atomic_table.specs.Seated.{TableId}
 use Rattle.phaser_word.specs.Fields.{Fields}
 use Rattle.phaser_word.specs.Phase.{shown_of}
-use Rattle.tier_core.specs.Turn.{lags}
 use Rattle.tier_steps.specs.declared.view.View.{View}
 use Rattle.tier_steps.specs.declared.view.Errand.{Errand}
-use Rattle.tier_steps.specs.declared.view.Errand.TheVariants.{Rest}
 use Rattle.tier_steps.specs.declared.kind.Kind.{Kind}
 use Rattle.tier_steps.specs.Step.{CanPass, looked, dropped, is_going_back}
 use Rattle.tier_rule.specs.declared.sight.Key.{Key}
@@ -16,14 +14,13 @@ use Rattle.tier_rule.specs.declared.sight.Sight.{Sight}
 use Rattle.tier_rule.specs.Reach.{those}
 use Rattle.tier_rule.specs.Group.{AreAlike, Among, Goes, stays, follows, looked_all}
 use Rattle.tier_rule.proofs.Going.{looks_go}
-use Rattle.tier_calls.specs.Holding.{Named, first_of, no_sight, sight_of}
+use Rattle.tier_calls.specs.Holding.{Named, sight_of}
 use Rattle.tier_calls.specs.Made.{is_quiet}
-use Rattle.tier_calls.specs.Arrives.{IsLooked}
 use Rattle.tier_calls.specs.Groups.{GroupHeld, group_of, IsOne, AreSeated, IsGroup, glanced, AllLooked, MayGo, HaveGone, HaveLost, AllArrived, AllLost}
 use Rattle.tier_calls.specs.NewTokens.{IsEager}
 use Rattle.tier_calls.specs.Kept.{FoundThere, IsReady, MayKeep, as_seat, GoesFrom, Begins, begun}
 use Rattle.tier_calls.specs.KeptTries.{TriesFrom, LooksAndTries, AnswersAll}
-use Rattle.tier_calls.specs.ArrivesAll.{Each, Did, HasSpent, OnlyLooks, ArrivesOnce, StillHere, KeepsAll, CountsAll, CountsLast, TriesAll, ArrivesAll}
+use Rattle.tier_calls.specs.ArrivesAll.{Each, Did, HasSpent, OnlyLooks, ArrivesOnce, StillHere, KeepsAll, TriesAll, ArrivesAll}
 use Rattle.tier_calls.specs.ArrivesWith.{FirstLook}
 use Rattle.tier_calls.specs.declared.groups.TriedAll.{TriedAll}
 use Rattle.tier_calls.specs.declared.groups.TriedAll.TheVariants as tried

@@ -1,5 +1,5 @@
 -- All members of a group leave the root by an exchange from the word that the group has kept.
-use Rattle.std.proofs.Common.{◌≡◌, ℕ, ◌+◌, ◌-◌, ◌<◌, ◌≤◌, ◌==◌, length, refl, ap, sym, ◌∙◌, subst, arith}
+use Rattle.std.proofs.Common.{◌≡◌, ℕ, ◌+◌, ◌-◌, ◌<◌, ◌==◌, length, refl, ap, sym, ◌∙◌, subst, arith}
 use Rattle.phaser_word.specs.Fields.{Fields, IsLegal}
 use Rattle.phaser_word.specs.Phase.{shown_of}
 use Rattle.tier_shape.specs.Parents.{parent_of}

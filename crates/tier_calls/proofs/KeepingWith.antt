@@ -1,5 +1,5 @@
 -- All members of a group pass the root by an exchange from the word that the group has kept, and new ones join by it.
-use Rattle.std.proofs.Common.{◌≡◌, ◌≢◌, ℕ, ◌+◌, ◌-◌, ◌<◌, ◌≤◌, Some, List, [], ◌∷◌, ◌++◌, length, length-append, take, refl, ap, sym, ◌∙◌, subst, arith}
+use Rattle.std.proofs.Common.{◌≡◌, ◌≢◌, ℕ, ◌+◌, ◌-◌, ◌<◌, List, [], ◌∷◌, ◌++◌, length, length-append, take, refl, ap, sym, ◌∙◌, subst, arith}
 use Rattle.std.proofs.Math.Seq.{take-append_seam}
 use Rattle.atomic_table.specs.Table.{Me}
 use Rattle.phaser_word.specs.Fields.{Fields}
@@ -12,11 +12,10 @@ use Rattle.tier_rule.specs.Reach.{those}
 use Rattle.tier_rule.specs.Group.{AreOf, Goes, passes, looked_all}
 use Rattle.tier_rule.proofs.Seats.{those-append}
 use Rattle.tier_calls.specs.Holding.{Named}
-use Rattle.tier_calls.specs.Groups.{GroupHeld, IsOne, AllLooked, AllLost}
+use Rattle.tier_calls.specs.Groups.{GroupHeld, IsOne}
 use Rattle.tier_calls.specs.NewTokens.{TokensHeld, MayExchange}
-use Rattle.tier_calls.specs.LastOnes.{tokens_in}
-use Rattle.tier_calls.specs.ArrivesAll.{AllHere, KeepsAll}
-use Rattle.tier_calls.specs.ArrivesWith.{HasExchanged, TriesWith, ArrivesWith, FirstLook}
+use Rattle.tier_calls.specs.ArrivesAll.{KeepsAll}
+use Rattle.tier_calls.specs.ArrivesWith.{TriesWith, ArrivesWith}
 use Rattle.tier_calls.specs.KeptWith.{AllTried, PassesFrom, LooksAndTriesWith, AnswersWith}
 use Rattle.tier_calls.specs.declared.arriving_with.TriedWith.{TriedWith}
 use Rattle.tier_calls.specs.declared.arriving_with.TriedWith.TheVariants as went

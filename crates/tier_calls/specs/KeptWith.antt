@@ -1,12 +1,12 @@
 -- Passages of a whole group whose first try goes from a word that the tokens have kept (not part of Java's API).
-use Rattle.std.specs.Prelude.{◌≡◌, ◌≢◌, ℕ, Some, ◌∷◌}
+use Rattle.std.specs.Prelude.{◌≡◌, ℕ, Some, ◌∷◌}
 use Rattle.phaser_word.specs.Fields.{Fields}
 use Rattle.phaser_word.specs.Phase.{shown_of}
 use Rattle.tier_rule.specs.Group.{looked_all}
 use Rattle.tier_calls.specs.Holding.{sight_held}
 use Rattle.tier_calls.specs.LastOnes.{tokens_in}
 use Rattle.tier_calls.specs.Groups.{GroupHeld, glanced}
-use Rattle.tier_calls.specs.ArrivesAll.{AllHere, KeepsAll}
+use Rattle.tier_calls.specs.ArrivesAll.{AllHere}
 use Rattle.tier_calls.specs.ArrivesWith.{HasExchanged, TriesWith, FirstLook}
 use Rattle.tier_calls.specs.declared.arriving_with.TriedWith.{TriedWith}
 use Rattle.tier_calls.specs.declared.arriving_with.TriedWith.TheVariants as went

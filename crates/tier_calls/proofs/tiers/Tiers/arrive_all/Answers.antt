@@ -1,4 +1,4 @@
-use Rattle.std.proofs.Common.{rules, ◌<◌, length, sym, ap, subst, ◌∙◌, arith}
+use Rattle.std.proofs.Common.{rules, ◌<◌, length, sym, ap, subst, ◌∙◌}
 use Rattle.std.proofs.lemmas.Int.{to_z-of_z}
 use mir.Syntax.{w32}
 use mir.Val.{SFits}
@@ -6,7 +6,7 @@ use Rattle.phaser_word.specs.Fields.{Fields}
 use Rattle.phaser_word.specs.Phase.{shown_of}
 use Rattle.tier_calls.specs.Holding.{Named}
 use Rattle.tier_calls.specs.Groups.{GroupHeld}
-use Rattle.tier_calls.proofs.ArrivingAll.{first_look, unseen_all, first_fresh_all, end_shown_all, no_more, waited, keeps_soon, spent_since, done_all, owing_all, to_arrive}
+use Rattle.tier_calls.proofs.ArrivingAll.{first_look, unseen_all, first_fresh_all, end_shown_all, no_more, to_arrive}
 use Rattle.tier_calls.proofs.Keeping.{answers_all, ready_unseen}
 use Rattle.tier_calls.proofs.tiers.Tiers.arrive_all.Goals as goal
 

@@ -8,7 +8,6 @@ use Rattle.tier_calls.specs.Holding.{Named}
 use Rattle.tier_calls.specs.Groups.{GroupHeld}
 use Rattle.tier_calls.proofs.ArrivingAll.{first_look, unseen_all, first_fresh_all, end_shown_all, keeps_none, keeps_soon, to_arrive}
 use Rattle.tier_calls.proofs.ExchangeTries.{eager_first, still_many}
-use Rattle.tier_calls.proofs.JoiningTries.{only_tried}
 use Rattle.tier_calls.proofs.Keeping.{ready_unseen}
 use Rattle.tier_calls.proofs.KeepingWith.{answers_with}
 use Rattle.tier_calls.proofs.tiers.Tiers.arrive_with.Goals as goal

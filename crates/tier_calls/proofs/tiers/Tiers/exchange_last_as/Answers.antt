@@ -1,4 +1,4 @@
-use Rattle.std.proofs.Common.{length, ◌≡◌, ◌∙◌, sym, ap, arith, subst, ◌+◌, ◌-◌}
+use Rattle.std.proofs.Common.{◌∙◌, sym, ap, arith, subst, ◌+◌, ◌-◌}
 use Rattle.phaser_word.specs.Fields.{Fields, IsLegal}
 use Rattle.tier_rule.specs.Group.{looked_all}
 use Rattle.tier_rule.proofs.Allowed.{joins_allow}

@@ -1,4 +1,4 @@
-use Rattle.std.proofs.Common.{rules, ◌<◌, length, sym, ap, subst, ◌∙◌, arith}
+use Rattle.std.proofs.Common.{rules, ◌<◌, length, sym, ap, subst, ◌∙◌}
 use Rattle.std.proofs.lemmas.Int.{to_z-of_z}
 use mir.Syntax.{w32}
 use mir.Val.{SFits}
@@ -6,8 +6,7 @@ use Rattle.phaser_word.specs.Fields.{Fields}
 use Rattle.phaser_word.specs.Phase.{shown_of}
 use Rattle.tier_calls.specs.Holding.{Named}
 use Rattle.tier_calls.specs.Groups.{GroupHeld}
-use Rattle.tier_calls.proofs.ArrivingAll.{first_look, unseen_all, first_fresh_all, end_shown_all, no_more, waited, keeps_soon, spent_since, to_arrive}
-use Rattle.tier_calls.proofs.LeavingTries.{left_all, left_owing}
+use Rattle.tier_calls.proofs.ArrivingAll.{first_look, unseen_all, first_fresh_all, end_shown_all, no_more, to_arrive}
 use Rattle.tier_calls.proofs.Keeping.{ready_unseen}
 use Rattle.tier_calls.proofs.KeepingLeaving.{answers_leaving}
 use Rattle.tier_calls.proofs.tiers.Tiers.leave_all.Goals as goal

@@ -1,4 +1,4 @@
-use Rattle.std.proofs.Common.{sym, ap, subst, ◌∙◌, ◌<◌, length, arith}
+use Rattle.std.proofs.Common.{subst, ◌∙◌, ◌<◌, length, arith}
 use Rattle.tier_calls.specs.Holding.{Named}
 use Rattle.tier_calls.proofs.ArrivingAll.{none_now}
 use Rattle.tier_calls.proofs.Keeping.{begins_looked, ready_place, ready_enough, lost_same, kept_lost, kept_won}
