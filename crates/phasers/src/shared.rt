@@ -71,16 +71,6 @@ impl<A: OnAdvance> Model for SharedTree<A> {
     ghost invariant = { λ s. (s.tiers.key.plan ≡ s.plan) × (s.leaves.items ≡ leaves_of s.tiers.key.shape) × (0 < length s.leaves.items) };
 }
 
-// The tiers that are leaves of a shape.
-fn leaves_in(alloc: Global, shape: &Shape) -> Result<Vec<u16>, AllocError>
-    ensures { IfOk result (λ tiers. (tiers.items ≡ leaves_of shape.now) × (0 < length tiers.items)) }
-{
-    // For the prover: these are the tiers of a shape.
-    let _tiers = shape.count();
-    let tiers = shape.leaves(alloc)?;
-    Ok(tiers)
-}
-
 impl<A: OnAdvance> SharedTree<A> {
     /// Creates empty tiers in `phase`, and the first token.
     pub(crate) fn new(
@@ -96,7 +86,7 @@ impl<A: OnAdvance> SharedTree<A> {
         ensures tree { IfOk result (λ r. r.0.key ≡ record { shape = shape; phase = phase; plan = plan }) }
         ensures token { IfOk result (λ r. (r.1.tree ≡ r.0) × (r.1.view ≡ new_view phase) × (r.1.tier ≡ 0) × (r.1.word ≡ empty_word phase) × (r.1.tried ≡ 0) × (r.1.steps ≡ []) × (r.1.opened ≡ 0)) }
     {
-        let leaves = leaves_in(alloc, &shape)?;
+        let leaves = shape.leaves(alloc)?;
         let (tiers, door) = Tiers::new(alloc, shape, phase, plan)?;
         Ok((
             SharedTree {

@@ -258,9 +258,11 @@ impl Shape {
         has_no_child(&self.parents, tier)
     }
 
-    /// Returns the leaves in rising order.
+    /// Returns the leaves in rising order, at least one.
     pub fn leaves(&self, alloc: Global) -> Result<Vec<u16>, AllocError>
-        ensures { IfOk result (λ leaves. leaves.items ≡ leaves_of self.now) }
+        ensures exact { IfOk result (λ leaves. leaves.items ≡ leaves_of self.now) }
+        ensures some { IfOk result (λ leaves. 0 < length leaves.items) }
+        ensures few { IfOk result (λ leaves. length leaves.items ≤ 64) }
     {
         let mut leaves = Vec::new(alloc);
         for tier in 0..self.count() {

@@ -1,12 +1,10 @@
 //! The leaves of the tree of a run, by number.
-ghost use Rattle.std.specs.Prelude.{◌≡◌, ◌<◌, ◌≤◌, IfOk, length};
+ghost use Rattle.std.specs.Prelude.{◌≡◌, ◌<◌, ◌≤◌, length};
 ghost use Rattle.tier_shape.specs.Leaves.{leaves_of};
 ghost use Rattle.worker_pool.specs.LeafTiers.{AreLeaves};
 
-use std::alloc::{AllocError, Global};
 use std::marker::PhantomData;
 use stretch_queue::running::Running;
-use tier_shape::Shape;
 use tier_shape::leaves::leaf_at;
 
 /// The tiers that are leaves of the tree of the run. A leaf is known by its number, modulo the number of leaves.
@@ -15,16 +13,6 @@ pub(crate) struct Leaves<J: Running> {
     tiers: Vec<u16>,
     of: PhantomData<J>,
     ghost all: { AreLeaves J.tree.key.shape tiers.items },
-}
-
-/// Lists the tiers that are leaves of a shape.
-pub(crate) fn leaves_in(alloc: Global, shape: &Shape) -> Result<Vec<u16>, AllocError>
-    ensures { IfOk result (λ tiers. AreLeaves shape.now tiers.items) }
-{
-    // For the prover: the contract of `count` says that this is a shape, so it has a leaf, and at most 64.
-    let _tiers = shape.count();
-    let tiers = shape.leaves(alloc)?;
-    Ok(tiers)
 }
 
 impl<J: Running> Leaves<J> {

@@ -4,7 +4,7 @@
 //!   leaves.
 //! * `work`: the loop of one worker.
 //! * `shared`: what all workers share: the queue of `stretch_queue` under a lock, and the tree without one; `lane`: the stretches of a
-//!   worker.
+//!   worker; `published`: the superstep that idle workers wait for.
 //! * `tree`, `leaves`: the calls of the tree, and the leaves of its tasks.
 //! * `specs/JobPlan.antt`: when the tree of a run ends.
 #![tactic(auto)]
@@ -13,6 +13,7 @@ mod job;
 mod lane;
 mod leaves;
 mod program;
+mod published;
 mod run;
 mod shared;
 mod start;

@@ -15,7 +15,8 @@ ghost use Rattle.worker_pool.specs.LeafTiers.{AreLeaves};
 ghost use Rattle.worker_pool.specs.Begun.{IsRuled, AreOf};
 
 use crate::lane::{Lane, lanes_for};
-use crate::leaves::{Leaves, leaves_in};
+use crate::leaves::Leaves;
+use crate::published::Published;
 use crate::shared::Shared;
 use crate::start::{Setup, start_all};
 use crate::tree::WorkerTree;
@@ -26,7 +27,6 @@ use program_stretches::{Left, Stretches};
 use programs::program::TaskLoop;
 use std::alloc::{AllocError, Global};
 use std::marker::Brand;
-use std::sync::atomic::AtomicU64;
 use std::sync::{Condvar, Mutex, Wait};
 use std::thread;
 use std::thread::Threads;
@@ -123,7 +123,7 @@ fn prepared(
     ensures counts { IfOk result (λ r. length r.1.items ≡ length (leaves_of shape.now)) }
     ensures passes { IfOk result (λ r. AreNew r.2) }
 {
-    let leaves = leaves_in(alloc, shape)?;
+    let leaves = shape.leaves(alloc)?;
     let counts = start_counts(alloc, leaves.len(), count)?;
     let stretches = PassList::new(alloc)?;
     let stops = PassList::new(alloc)?;
@@ -227,7 +227,7 @@ where
     let shared = Shared {
         queue: Mutex::new(queue),
         changed: Condvar::new(),
-        published: AtomicU64::new(0),
+        published: Published::new(),
         spins: spins_of(rt, setup.workers),
         lanes,
         tree,

@@ -2,12 +2,12 @@
 ghost use Rattle.std.specs.Prelude.{◌≡◌, vec_len};
 
 use crate::lane::{Lane, end_of, take_of_fullest};
+use crate::published::{OVER, Published};
 use crate::tree::WorkerTree;
 use program_stretches::Left;
 use programs::program::TaskLoop;
 use std::alloc::Global;
 use std::hint::spin_loop;
-use std::sync::atomic::{AtomicU64, Ordering};
 use std::sync::{Condvar, Mutex, Wait};
 use stretch_queue::fault::{Reason, Refused};
 use stretch_queue::hand::{HeldStretch, RanStretch};
@@ -17,9 +17,6 @@ use stretch_queue::outbox::{Arrived, Delivered};
 use stretch_queue::queue::{HandedBack, Queue, Recut, Stopped};
 use stretch_queue::running::Running;
 use stretch_queue::tokens::OwnToken;
-
-// What is published once workers must stop.
-const OVER: u64 = u64::MAX;
 
 /// What a worker does next.
 #[derive(Drop)]
@@ -37,8 +34,8 @@ pub(crate) enum Next<'p, P: TaskLoop, L: Lines, J: Running> {
 pub(crate) struct Shared<'t, 'p, P: TaskLoop, H: Hook<P>, J: Running, F: Fn(u32, u32) -> bool> {
     pub(crate) queue: Mutex<Queue<'t, 'p, P, H, J>>,
     pub(crate) changed: Condvar,
-    // The superstep whose stretches were handed out last, or `OVER`. Written under the lock of the queue, once the inboxes are filled.
-    pub(crate) published: AtomicU64,
+    // Written under the lock of the queue, once the inboxes are filled.
+    pub(crate) published: Published,
     // How often a worker looks at it before it sleeps.
     pub(crate) spins: u32,
     // By the number of a worker.
@@ -64,12 +61,7 @@ impl<'t, 'p, P: TaskLoop, H: Hook<P>, J: Running, F: Fn(u32, u32) -> bool> Share
 
     // Publishes the superstep of the stretches that were handed out, or that workers must stop, and wakes all that wait for it.
     fn publish(&self, queue: &Queue<'t, 'p, P, H, J>) {
-        let word = if queue.is_over() {
-            OVER
-        } else {
-            u64::from(queue.step())
-        };
-        self.published.store(word, Ordering::SeqCst);
+        self.published.publish(queue);
         self.changed.notify_all();
     }
 
@@ -104,14 +96,14 @@ impl<'t, 'p, P: TaskLoop, H: Hook<P>, J: Running, F: Fn(u32, u32) -> bool> Share
     fn wait<R: Wait>(&self, rt: &R, seen: u64) {
         let published = &self.published;
         for _ in 0..self.spins {
-            if published.load(Ordering::SeqCst) != seen {
+            if published.look() != seen {
                 return;
             }
             spin_loop();
         }
         let queue = self.queue.lock(rt);
         let _queue = self.changed.wait_while(rt, queue, |_queue| {
-            published.load(Ordering::SeqCst) == seen
+            published.look() == seen
         });
     }
 
@@ -120,7 +112,7 @@ impl<'t, 'p, P: TaskLoop, H: Hook<P>, J: Running, F: Fn(u32, u32) -> bool> Share
         requires { worker < J.workers }
     {
         for _ in rt.forever() {
-            let seen = self.published.load(Ordering::SeqCst);
+            let seen = self.published.look();
             if seen == OVER {
                 if let Some(stopped) = self.queue.lock(rt).stop_if_over() {
                     return Next::Stop(stopped);

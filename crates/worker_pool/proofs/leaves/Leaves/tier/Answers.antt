@@ -1,6 +1,6 @@
 use Rattle.std.proofs.Common.{ℕ, List, ap, ◌∙◌}
 use Rattle.tier_shape.specs.Preferred.{leaf_at}
-use Rattle.worker_pool.proofs.LeafTiers.{numbered_within}
+use Rattle.tier_shape.proofs.Numbered.{numbered_within}
 use Rattle.worker_pool.proofs.leaves.Leaves.tier.Goals as goal
 
 pub returns-clause-within : goal.returns-clause-within

@@ -1,0 +1,53 @@
+//! The superstep whose stretches are handed out, as workers see it without a lock.
+ghost use Rattle.std.specs.Prelude.{◌≡◌, true, false};
+ghost use Rattle.stretch_queue.specs.QueueValue.{is_over};
+
+use programs::program::TaskLoop;
+use std::sync::atomic::{AtomicU64, Ordering};
+use stretch_queue::hook::Hook;
+use stretch_queue::queue::Queue;
+use stretch_queue::running::Running;
+
+/// What is published once workers must stop.
+pub(crate) const OVER: u64 = u64::MAX;
+
+/// The number of the superstep whose stretches were handed out last, or `OVER`. Only a queue can change it, so no superstep is
+/// published that the queue hasn't begun.
+#[derive(Drop)]
+pub(crate) struct Published {
+    word: AtomicU64,
+}
+
+// Returns what is published of a queue: its superstep, or `OVER` if workers must stop.
+fn word_of<P: TaskLoop, H: Hook<P>, J: Running>(queue: &Queue<'_, '_, P, H, J>) -> u64
+    ensures over { is_over queue.now ≡ true → result ≡ 18446744073709551615 }
+    ensures step { is_over queue.now ≡ false → result ≡ queue.now.stretches.step }
+{
+    if queue.is_over() {
+        OVER
+    } else {
+        u64::from(queue.step())
+    }
+}
+
+impl Published {
+    /// The first superstep.
+    pub(crate) fn new() -> Self {
+        Published {
+            word: AtomicU64::new(0),
+        }
+    }
+
+    /// Returns what was published last.
+    pub(crate) fn look(&self) -> u64 {
+        self.word.load(Ordering::SeqCst)
+    }
+
+    /// Publishes the superstep of a queue, or that workers must stop. Call it while the queue is locked, once its inboxes are filled.
+    pub(crate) fn publish<P: TaskLoop, H: Hook<P>, J: Running>(
+        &self,
+        queue: &Queue<'_, '_, P, H, J>,
+    ) {
+        self.word.store(word_of(queue), Ordering::SeqCst);
+    }
+}
