@@ -1,7 +1,9 @@
-//! Tests of the program that need Rust: devices that give or take little or fail, texts that are cut at each byte, help, and
-//! progress. What a row can say is in `examples/rows.txt`.
+//! Tests of the program that need Rust: devices that give or take little or fail, texts that are cut at each byte, help,
+//! progress, and what errors print. What a row can say is in `examples/rows.txt`.
 #![tactic(auto)]
 
+#[cfg(test)]
+mod errors;
 #[cfg(test)]
 mod examples;
 #[cfg(test)]
