@@ -1,5 +1,6 @@
 //! Rules that say when a phaser ends, or the action of a barrier fails: closures, each beside the plan that says what the
-//! closure returns. Plans and stored closures are not part of Java's API.
+//! closure returns. Plans and stored closures are not part of Java's API. Those of a phaser are here, that of a barrier in
+//! `action.rt`.
 #![tactic(auto)]
 
 ghost use Rattle.std.specs.Prelude.{◌≡◌, ◌≤◌, None, Some, true};

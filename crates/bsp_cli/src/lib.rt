@@ -5,7 +5,7 @@
 //!
 //! * `trace.rt`, `job.rt`, `stream.rt` and `explain.rt`: the subcommands; `progress.rt`: progress while a job runs, and how it
 //!   ended; `why.rt`: the reasons for people; `fault.rt`: the line on standard error; `command_line.rt`: the whole;
-//!   `program.rt`: from the system's words.
+//!   `program.rt`: from the system's words; `laws.rt`: the laws.
 //! * `specs/Answers.antt`: what words lead to; `Did.antt`: what a status means.
 #![tactic(auto)]
 

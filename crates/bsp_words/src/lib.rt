@@ -5,7 +5,7 @@
 //!
 //! * `words.rt`: what words ask for; `parser.rt`: the subcommands and their options; `asked.rt`: what parsed words ask for;
 //!   `clash.rt`: words that ask for too much; `reason.rt`: why words are refused, for people; `help.rt`: the texts of help;
-//!   `topics.rt`: the texts of `explain`.
+//!   `topics.rt`: the texts of `explain`; `laws.rt`: the laws.
 //! * `specs/CommandLine.antt`: words; `Topics.antt`: how the texts of `explain` begin; `Ranges.antt`: the numbers that can be
 //!   asked for; `Laws.antt`: words, and what they ask for.
 #![tactic(auto)]

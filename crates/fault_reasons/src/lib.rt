@@ -6,7 +6,7 @@
 //!
 //! * `again.rt`: the tasks and the arrays as a superstep began; `walk.rt`: where a segment ends, and what it did;
 //!   `lines.rt`: the lines of a body in the text; `items.rt`, `names.rt`: what a statement reads; `task.rt`, `sums.rt`,
-//!   `limit.rt`: the texts; `reason.rt`: the whole.
+//!   `limit.rt`: the texts; `pieces.rt`: texts and numbers; `reason.rt`: the whole; `laws.rt`: the laws.
 #![tactic(auto)]
 
 mod again;

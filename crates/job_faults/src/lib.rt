@@ -4,7 +4,7 @@
 //! # Where things are
 //!
 //! * `faults.rt`: faulty lines; `lines.rt`: texts with another line; `told.rt`: the list as a text; `reason.rt`: why a text is
-//!   refused; `pieces.rt`: texts and numbers.
+//!   refused; `pieces.rt`: texts and numbers; `laws.rt`: the laws.
 //! * `specs/Faults.antt`: what is listed; `JobReasons.antt`: what is said.
 #![tactic(auto)]
 

@@ -3,7 +3,8 @@
 //! # Where things are
 //!
 //! * `columns.rt`: supersteps as columns; `axes.rt`: the numbers at the axes; `cells.rt`: arrays as strips of
-//!   cells; `grids.rt`: cells in rows; `panels.rt`: what is drawn of each array; `picture.rt`: the whole.
+//!   cells; `grids.rt`: cells in rows; `panels.rt`: what is drawn of each array; `pieces.rt`: texts and numbers;
+//!   `picture.rt`: the whole; `laws.rt`: the laws.
 //! * `specs/` has a file for each, and `Worked` with one picture worked out.
 //! * `proofs/Behind.antt`: texts one after another.
 #![tactic(auto)]

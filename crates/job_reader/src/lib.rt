@@ -3,7 +3,8 @@
 //! # Where things are
 //!
 //! * `outer.rt`: lines outside bodies; `inside.rt`: lines of an open body; `state.rt` and `so_far.rt`: what has
-//!   been read; `read.rt`: the one pass; `push.rt` and `write.rt`: the canonical text.
+//!   been read; `grow.rt`: lines that the job grows by; `read.rt`: the one pass; `push.rt` and `write.rt`: the canonical
+//!   text; `fault.rt`: why no job is read; `laws.rt`: the laws.
 //! * `specs/Reading.antt`: what a text says; `Grammar.antt`: which lines are a job's; `Kept.antt`: what the job so
 //!   far and its open body keep.
 #![tactic(auto)]

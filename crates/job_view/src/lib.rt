@@ -3,7 +3,7 @@
 //!
 //! # Where things are
 //!
-//! * `words.rt`: the texts of the options; `views.rt`: what is drawn of each array, and the whole.
+//! * `words.rt`: the texts of the options; `views.rt`: what is drawn of each array, and the whole; `laws.rt`: the laws.
 //! * `specs/` has a file for each; `Worked.antt`: worked out.
 #![tactic(auto)]
 

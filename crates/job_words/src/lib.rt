@@ -5,7 +5,7 @@
 //! # Where things are
 //!
 //! * `words.rt`: names, numbers, cells; `exprs.rt`: expressions; `lines.rt`: lines of bodies; `faults.rt`: which
-//!   fault of a line counts.
+//!   fault of a line counts; `mentions.rt`: the locals that lines mention.
 //! * `specs/Trees.antt`: a job without the flat code of its bodies; `Legal.antt`: which of these are jobs.
 //! * `upgrades.rt`, `specs/Upgrade.antt`: a job in format 2.
 #![tactic(auto)]

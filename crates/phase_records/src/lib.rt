@@ -3,7 +3,7 @@
 //! # Where things are
 //!
 //! * `record.rt`: what a job leaves; `same.rt`: whether two jobs leave the same; `report.rt`: the text of a report
-//!   (`specs/ReportText.antt`); `pieces.rt`: where a text goes, piece by piece (`specs/Taken.antt`).
+//!   (`specs/ReportText.antt`); `pieces.rt`: where a text goes, piece by piece (`specs/Taken.antt`); `laws.rt`: the laws.
 #![tactic(auto)]
 
 mod laws;

@@ -6,7 +6,7 @@
 //!
 //! # Where things are
 //!
-//! * `phaser.rt`: the calls; `step.rt`: what each does to a word; `call.rt`: calls as data.
+//! * `phaser.rt`: the calls; `step.rt`: what each does to a word; `call.rt`: calls as data; `laws.rt`: the laws.
 //! * `proofs/Counting.antt`: counts of members of one owner; `Following.antt`: one call; `RunProofs.antt`: lists of
 //!   calls; `LawProofs.antt`: the laws.
 #![tactic(auto)]

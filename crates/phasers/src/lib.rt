@@ -253,6 +253,9 @@
 //! * [`phaser`]: [`PhaserOne`](phaser::PhaserOne), a single phaser as a value, with [`StoredCount`](phaser::StoredCount), the
 //!   closure that ends it.
 //!
+//! The files: `tree`, `parties`, `seat`, `barrier` and `phaser` have the types above, `answers` what calls of a tree answer;
+//! `late` has guests that wait for a phase, `trying` meetings that don't wait, `beside` and `shared` what several of these call.
+//!
 //! Your contracts may cite the definitions that the calls use. There, a `Guest` or a `Party` is a `Holding`, like the token
 //! inside it, and a `PhaserTree` is its first token, off which `guest` splits others.
 #![tactic(auto)]

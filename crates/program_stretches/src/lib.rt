@@ -4,7 +4,7 @@
 //! # Where things are
 //!
 //! * `stretch.rt`: a stretch that was taken; `opened.rt`: a superstep as it begins; `lines.rt`: what supersteps printed;
-//!   `stretches.rt`: the whole. What its tasks did is a part of `stretch_parts`.
+//!   `stretches.rt`: the whole; `fault.rt`: refusals; `laws.rt`: the laws. What its tasks did is a part of `stretch_parts`.
 //! * `specs/StretchesValue.antt`: the supersteps; `Closing.antt`: how they are taken, taken back and closed;
 //!   `Reached.antt`: the history so far.
 #![tactic(auto)]

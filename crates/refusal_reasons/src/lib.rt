@@ -6,7 +6,7 @@
 //! * `marks.rt`: what a fault is about; `known.rt`: the names that are known at a line of a job, and its open blocks; `place.rt`:
 //!   where a fault is shown.
 //! * `names.rt`, `meaning.rt`: the names of codes and what they mean; `lines.rt`: lines by number; `marked.rt`: a line and its
-//!   mark; `reason.rt`: the whole reason; `pieces.rt`: texts and numbers.
+//!   mark; `reason.rt`: the whole reason; `pieces.rt`: texts and numbers; `laws.rt`: the laws.
 //! * `specs/Marks.antt`, `Known.antt`, `Places.antt`: what is shown; `Reasons.antt`: what is said.
 #![tactic(auto)]
 

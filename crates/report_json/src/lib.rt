@@ -2,7 +2,7 @@
 //!
 //! # Where things are
 //!
-//! * `report.rt`: the object; `lists.rt`: its lists; `arrays.rt`: its arrays.
+//! * `report.rt`: the object; `lists.rt`: its lists; `arrays.rt`: its arrays; `laws.rt`: the laws.
 //! * `specs/ReportJson.antt`: the value that is written.
 //! * `proofs/ReadBack.antt`: that it is read back.
 #![tactic(auto)]

@@ -2,7 +2,7 @@
 //!
 //! # Where things are
 //!
-//! * `round.rt`: the round; `alone.rt`: one thread; `watch.rt`: watchers of its supersteps.
+//! * `round.rt`: the round; `alone.rt`: one thread; `watch.rt`: watchers of its supersteps; `laws.rt`: the laws.
 //! * `proofs/Rounds.antt`: orders and deliveries; `Closed.antt`: closing; `Watching.antt`: one thread and watchers;
 //!   `LawProofs.antt`, `Apart.antt`, `Landings.antt`: the laws.
 #![tactic(auto)]

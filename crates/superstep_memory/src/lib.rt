@@ -2,8 +2,10 @@
 //!
 //! # Where things are
 //!
-//! * `arrays.rt`: arrays, puts and logs; `path.rt`: the order of paths; `log.rt`: one log, taken or given back;
-//!   `landing.rt`: landing; `runs.rt`: runs of logs.
+//! * `arrays.rt`: arrays, puts and logs; `path.rt`: the order of paths; `log.rt`: one log, taken or given back.
+//! * `puts.rt`: the log of a superstep, and how it lands; `lots.rt`, `lots_landing.rt`, `lots_listed.rt`: single puts and rows of
+//!   puts: as they are kept, how they land, and as one list.
+//! * For callers with logs of their own: `landing.rt`: landing; `runs.rt`: runs of logs. `laws.rt`: the laws.
 //! * `specs/PathOrder.antt`: things in path order; `Landing.antt`: what puts leave and which overflow; `Runs.antt`:
 //!   what runs are.
 //! * `proofs/Landed.antt`: one put after another; `Over.antt`: the first that overflows; `Taken.antt`: puts taken

@@ -3,7 +3,7 @@
 //! # Where things are
 //!
 //! * `task.rt`, `scene.rt`: a task, what its segment reads, and what it has done so far.
-//! * `value.rt`, `act.rt`: what an expression is worth, and what an action does.
+//! * `value.rt`, `act.rt`: what an expression is worth, and what an action does; `fault.rt`: faults.
 //! * `specs/Meaning.antt`: what a segment does, by statement trees alone; `Views.antt`: what the code has, in those words.
 #![tactic(auto)]
 

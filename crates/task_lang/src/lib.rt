@@ -5,7 +5,7 @@
 //!
 //! * `segment.rt`: the interpreter, which changes its task in place and works in buffers that it borrows
 //!   (`segment_into`).
-//! * `moves.rt`: where an operation leads.
+//! * `moves.rt`: where an operation leads; `laws.rt`: the laws.
 //! * `specs/Lent.antt`: what a segment leaves in its task and in borrowed buffers.
 //! * `proofs/Behind.antt`: that a segment does the same after the puts of others; `Played.antt`: operations beside
 //!   lines.

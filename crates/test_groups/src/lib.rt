@@ -1,4 +1,8 @@
 //! Tests of groups of tokens in the tree on atomic words.
+//!
+//! * `runs`: runs on one thread, worked out by hand; `begun`, `closed`: trees that begin or are closed with groups; `threads`: eight
+//!   threads; `random`, `mirror`: random lists of calls, beside the calls of their members.
+//! * `ask`, `calls`, `seats`, `trees`: what these tests share.
 #![tactic(auto)]
 
 #[cfg(test)]

@@ -1,4 +1,8 @@
 //! Tests of phasers, trees and barriers that need Rust: what a row can say is in `examples/rows.txt`.
+//!
+//! * `parties`, `leaving`, `hooked`: the calls of `phasers`; `barrier`: the barrier; `closures`, `written`: closures at advances.
+//! * `table`: runs on one thread, worked out by hand; `lists`: random lists of calls, beside the machine; `shared`: threads.
+//! * `makers`: words and shapes; `examples`: the examples in docs; `calls`, `trees`: what these tests share.
 #![tactic(auto)]
 
 #[cfg(test)]

@@ -1,5 +1,9 @@
 //! Texts of numbered lines: lines, words, comments, numbers and the first byte that isn't allowed. The reader of jobs and
 //! the reader of traces both use it. Nothing here is part of Java's API.
+//!
+//! # Where things are
+//!
+//! * `split.rt`: lines and words; `numbers.rt`: numbers as words; `refusal.rt`: why a text is refused, and where.
 #![tactic(auto)]
 
 ghost use Rattle.text_lines.specs.Laws.{

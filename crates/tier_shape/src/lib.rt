@@ -4,7 +4,7 @@
 //!
 //! # Where things are
 //!
-//! * `leaves.rt`: leaves by number (`specs/Preferred.antt`).
+//! * `leaves.rt`: leaves by number (`specs/Preferred.antt`); `widths.rt`: texts of widths.
 //! * `specs/Parents.antt`: the shape as a list; `Paths.antt`, `Leaves.antt`, `Widths.antt`: what a text of widths
 //!   says; `Told.antt`: the same as a function.
 #![tactic(auto)]

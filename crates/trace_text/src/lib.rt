@@ -2,9 +2,10 @@
 //!
 //! # Where things are
 //!
-//! * `words.rt`, `tree_words.rt`, `barrier_words.rt` and `head.rt`: one line; `faulty.rt`: the
-//!   number at fault of a line; `command.rt`: what all kinds of command have in common; `trace.rt`: a text; `print.rt`, `tree_print.rt` and `barrier_print.rt`: answers as
-//!   lines; `tree.rt` and `barrier.rt`: commands done on a tree and on a barrier; `run.rt`: the run.
+//! * `words.rt`, `tree_words.rt`, `barrier_words.rt` and `head.rt`: one line; `faulty.rt`: the number at fault of a line;
+//!   `command.rt`: what all kinds of command have in common; `trace.rt`: a text; `fault.rt`: why it wasn't run to its end.
+//! * `print.rt`, `tree_print.rt` and `barrier_print.rt`: answers as lines; `tree.rt` and `barrier.rt`: commands done on a tree
+//!   and on a barrier; `run.rt`: the run; `laws.rt`: the laws.
 //! * `proofs/CommandRuns.antt`: a run that is written in part.
 #![tactic(auto)]
 

@@ -102,9 +102,9 @@ impl<'t, 'p, P: TaskLoop, H: Hook<P>, J: Running, F: Fn(u32, u32) -> bool> Share
             spin_loop();
         }
         let queue = self.queue.lock(rt);
-        let _queue = self.changed.wait_while(rt, queue, |_queue| {
-            published.look() == seen
-        });
+        let _queue = self
+            .changed
+            .wait_while(rt, queue, |_queue| { published.look() == seen });
     }
 
     /// Returns what a worker does next. Waits until a stretch is to be run, or workers must stop.
