@@ -11,7 +11,7 @@ use programs::alone::{Ran, run_watched as run_program};
 use std::alloc::{AllocError, Global};
 use task_code::job::Job;
 
-/// What a job leaves, within this limit of supersteps: each superstep's tasks one after another, by path.
+/// Returns what a job leaves, within this limit of supersteps. Runs each superstep's tasks one after another, by path.
 ///
 /// ```
 /// let text = b"bsp 1\narray a 1\nbody b\nput a[0] = 7\nend\nstart b 0\n";
@@ -28,7 +28,7 @@ pub fn run_alone(alloc: Global, job: &Job, limit: u32) -> Result<Report, AllocEr
     run_watched(alloc, job, limit, &mut NoWatch)
 }
 
-/// What [`run_alone`] leaves. `watch` is called before each superstep, and that changes nothing.
+/// Returns what [`run_alone`] returns. `watch` is called before each superstep, and that changes nothing.
 pub fn run_watched<W: Watch>(
     alloc: Global,
     job: &Job,

@@ -52,7 +52,7 @@ pub struct Round<'j> {
     fault: Option<Blame>,
 }
 
-// The first path for whose task nothing was delivered. They are looked through only where one is missing.
+// Returns the first path for whose task nothing was delivered, if there is one. Looks through the slots only if one is missing.
 fn missing_path(missing: usize, slots: &Slots<'_>) -> Option<Path>
     requires { missing ≡ missing_in slots.now }
     ensures { (ps : List Plan) → option_map path_of result ≡ first_missing (slots_of ps slots.now) }
@@ -115,7 +115,7 @@ impl<'j> Round<'j> {
         }
     }
 
-    /// Whether the job has ended. It takes no memory.
+    /// Returns true if the job has ended. Doesn't allocate.
     pub fn has_ended(&self) -> bool
         ensures ended { result ≡ is_some (status_in self.now) }
         ensures round { IsRound self.now }
@@ -123,8 +123,8 @@ impl<'j> Round<'j> {
         self.fault.is_some() || self.live.is_empty() || self.limit <= self.step
     }
 
-    /// How the job has ended, if it has: by a fault, with no task left, or at the limit, looked at in this order. It takes
-    /// no memory.
+    /// Returns how the job has ended, if it has: by a fault, with no task left, or at the limit, looked at in this order.
+    /// Doesn't allocate.
     pub fn status(&self) -> Option<JobStatus>
         ensures status { option_map status_seen result ≡ status_in self.now }
         ensures short { IfSome result (λ status. IsShort (status_seen status)) }
@@ -142,7 +142,7 @@ impl<'j> Round<'j> {
         None
     }
 
-    /// The live paths, in order: they strictly rise.
+    /// Returns the live paths, in order: they strictly rise.
     pub fn live(&self, alloc: Global) -> Result<Vec<Path>, AllocError>
         ensures live { IfOk result (λ paths. map path_of paths.items ≡ live_paths (state_of self.now)) }
         ensures rising { is_rising (live_paths (state_of self.now)) ≡ true }
@@ -151,14 +151,14 @@ impl<'j> Round<'j> {
         paths_of(alloc, &tasks)
     }
 
-    /// Whether it holds this job, by value, and this limit. It takes no memory.
+    /// Returns true if it holds this job, by value, and this limit. Doesn't allocate.
     pub fn is_of(&self, job: &Job, limit: u32) -> bool
         ensures { IsTrue result ↔ ((self.now.job ≡ job.now) × (self.now.limit ≡ limit)) }
     {
         self.limit == limit && self.job.same_as(job)
     }
 
-    /// What the job leaves, once it has ended: a copy.
+    /// Returns a copy of what the job leaves, once it has ended.
     pub fn report(&self, alloc: Global) -> Result<Option<Report>, AllocError>
         ensures { IfOk result (λ report. report ≡ report_in self.now.limit (state_of self.now)) }
     {
@@ -176,22 +176,22 @@ impl<'j> Round<'j> {
         }))
     }
 
-    /// The arrays as the next superstep begins, or as the job left them. It takes no memory.
+    /// Returns the arrays as the next superstep begins, or as the job left them. Doesn't allocate.
     pub fn arrays(&self) -> &Arrays
         ensures { result.now ≡ self.now.arrays }
     {
         &self.start_arrays
     }
 
-    /// For how many live tasks nothing was delivered yet: none exactly where closing doesn't answer `Missing`. It takes no
-    /// memory.
+    /// Returns the number of live tasks for which nothing was delivered yet. It is 0 exactly if closing doesn't return
+    /// `Missing`. Doesn't allocate.
     pub fn missing(&self) -> usize
         ensures { result ≡ missing_in self.now.slots }
     {
         self.missing
     }
 
-    /// What the segment of the live task at this place needs.
+    /// Returns what the segment of the live task at this place needs.
     pub(crate) fn order_at(&self, place: usize) -> Result<Order<'j>, AllocError>
         requires running { status_in self.now ≡ None }
         requires place { place < length self.now.slots }
@@ -204,8 +204,8 @@ impl<'j> Round<'j> {
         Ok(Order::new(self.job, self.step, place, tasks, arrays))
     }
 
-    /// What the segment of the live task of this path needs, the step and the arrays as it began included; `None` where no
-    /// live task has it, and where the job has ended. Nothing is copied.
+    /// Returns what the segment of the live task of this path needs, the step and the arrays as it began included. Returns
+    /// `None` if no live task has this path, or if the job has ended. Copies nothing.
     pub fn order(&self, _alloc: Global, path: &[u16]) -> Result<Option<Order<'j>>, AllocError>
         ensures { IfOk result (λ order. MatchOption order
             (status_in self.now ≡ None → is_live self.now.slots path.now ≡ false)
@@ -214,8 +214,8 @@ impl<'j> Round<'j> {
         self.order_near(0, path)
     }
 
-    /// As [`order`](Round::order). Where the task is the one at this place of the live ones, in path order, it is found
-    /// at once; else it takes about as many looks as `order`, which halves.
+    /// Returns what [`order`](Round::order) returns. If the task is the one at place `near` of the live ones, in path order, it
+    /// is found at once; else it takes about as many looks as `order`, which halves.
     pub fn order_near(&self, near: usize, path: &[u16]) -> Result<Option<Order<'j>>, AllocError>
         ensures { IfOk result (λ order. MatchOption order
             (status_in self.now ≡ None → is_live self.now.slots path.now ≡ false)
@@ -249,7 +249,7 @@ impl<'j> Round<'j> {
         self.accept_known(delivery)
     }
 
-    // Why a delivery isn't of this step and this job, if it isn't.
+    // Returns why a delivery isn't of this step and this job, if it isn't.
     fn disowns(&self, delivery: &Delivery<'j>) -> Option<AcceptFault>
         ensures { MatchOption result
             ((delivery.now.step ≡ self.now.step) × (delivery.now.job ≡ self.now.job))
@@ -264,7 +264,7 @@ impl<'j> Round<'j> {
         None
     }
 
-    /// How many supersteps were taken. It takes no memory.
+    /// Returns the number of supersteps that were taken. Doesn't allocate.
     pub fn step(&self) -> u32
         ensures { result ≡ self.now.step }
     {
@@ -292,7 +292,7 @@ impl<'j> Round<'j> {
         }
     }
 
-    // Why a delivery of this job isn't taken, if it isn't.
+    // Returns why a delivery of this job isn't taken, if it isn't.
     fn refuses(&self, delivery: &Delivery<'j>) -> Option<AcceptFault>
         requires running { status_in self.now ≡ None }
         requires job { delivery.now.job ≡ self.now.job }
@@ -331,8 +331,8 @@ impl<'j> Round<'j> {
         self.fault = Some(blame);
     }
 
-    /// Takes one superstep, where each live task has its delivery, or refuses to and changes nothing. A task's fault, over
-    /// 4096 tasks that would live on, or a put that overflows, is no refusal: it ends the job, and the superstep leaves nothing
+    /// Takes one superstep if each live task has its delivery, or refuses to and changes nothing. A task's fault, over 4096
+    /// tasks that would live on, or a put that overflows, is no refusal: it ends the job, and the superstep leaves nothing
     /// else.
     pub fn close_round(&mut self, alloc: Global) -> Result<Outcome, CloseFault>
         requires running { status_in self.old ≡ None }
@@ -359,8 +359,8 @@ impl<'j> Round<'j> {
         self.land(alloc, count)
     }
 
-    // Takes one superstep in which no task faults, after which so many live, or ends the job by the first put that overflows. Without
-    // memory nothing changes.
+    // Takes one superstep in which no task faults, after which `count` tasks live, or ends the job by the first put that
+    // overflows. Without memory nothing changes.
     fn land(&mut self, alloc: Global, count: usize) -> Result<Outcome, CloseFault>
         requires running { status_in self.old ≡ None }
         requires whole { first_missing (slots_in self.old) ≡ None }

@@ -9,7 +9,7 @@ pub trait Watch {
     /// What a call says of its superstep, of the arrays as it begins, and of how many tasks live: nothing, unless it says more.
     ghost seen: { ℕ → List (List ℕ × List ℤ) → ℕ → Type 0 } = { λ step arrays tasks. Unit {0} };
 
-    /// Superstep `step`, from 0, begins with these arrays and so many live tasks.
+    /// Is called when superstep `step`, from 0, begins with these arrays and `tasks` live tasks.
     fn superstep(&mut self, step: u32, arrays: &Arrays, tasks: usize)
         ensures seen { seen step arrays.now tasks };
 }

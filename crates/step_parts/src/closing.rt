@@ -12,7 +12,7 @@ use std::alloc::{AllocError, Global};
 use superstep_memory::path::Path;
 use task_lang::task::After;
 
-/// The first path for whose task nothing was delivered.
+/// Returns the first path for whose task nothing was delivered, if there is one.
 pub fn find_missing(slots: &Slots<'_>) -> Option<Path>
     ensures { (ps : List Plan) → option_map path_of result ≡ first_missing (slots_of ps slots.now) }
 {
@@ -26,7 +26,7 @@ pub fn find_missing(slots: &Slots<'_>) -> Option<Path>
     None
 }
 
-/// The first fault, by path.
+/// Returns the first fault by path, if there is one.
 pub fn find_fault(slots: &Slots<'_>) -> Option<Blame>
     ensures { (ps : List Plan) → result ≡ first_fault (delivered (slots_of ps slots.now)) }
 {
@@ -44,7 +44,7 @@ pub fn find_fault(slots: &Slots<'_>) -> Option<Blame>
     None
 }
 
-/// What was printed, by path, then in program order.
+/// Returns what was printed, by path, then in program order.
 pub(crate) fn collect_prints(
     alloc: Global,
     step: u32,
@@ -63,7 +63,7 @@ pub(crate) fn collect_prints(
     Ok(prints)
 }
 
-/// The record of a superstep.
+/// Returns the record of a superstep.
 pub(crate) fn record_of(step: u32, slots: &Slots<'_>) -> PhaseRecord
     requires few { length slots.now ≤ 4096 }
     requires small { AllSmall slots.now }

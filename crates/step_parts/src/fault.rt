@@ -21,7 +21,7 @@ pub enum AcceptFault {
 }
 
 impl AcceptFault {
-    /// The number of this refusal.
+    /// Returns the number of this refusal.
     pub fn number(self) -> u32
         ensures { result ≡ accept_number self }
     {
@@ -45,7 +45,7 @@ pub enum CloseFault {
 }
 
 impl CloseFault {
-    /// The number of this refusal. `Memory` has none.
+    /// Returns the number of this refusal. `Memory` has none.
     pub fn number(&self) -> Option<u32>
         ensures { result ≡ close_number self.now }
     {

@@ -16,7 +16,7 @@ use std::sync::Arc;
 use superstep_memory::arrays::Arrays;
 use superstep_memory::puts::Puts;
 
-// Whether each put that was delivered sets its cell.
+// Returns true if each put that was delivered sets its cell.
 fn are_all_sets(slots: &Slots<'_>) -> bool
     ensures { result ≡ list_all is_set (log_in slots.now) }
 {
@@ -55,7 +55,7 @@ fn join(alloc: Global, slots: &Slots<'_>) -> Result<Puts, AllocError>
     Ok(puts)
 }
 
-// The fault of the task whose put is at this place of all of them.
+// Returns the fault of the task whose put is at this place of all of them, if there is such a put.
 fn blame_at(slots: &Slots<'_>, place: usize) -> Option<Blame>
     ensures { result ≡ option_map told_at (path_at slots.now place) }
 {

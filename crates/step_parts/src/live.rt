@@ -178,21 +178,21 @@ impl Live {
         Slots::of(&self.tasks, &self.done)
     }
 
-    /// Whether no task lives.
+    /// Returns true if no task lives.
     pub fn is_empty(&self) -> bool
         ensures { IsTrue result ↔ (self.now ≡ []) }
     {
         self.slots().split_first().is_none()
     }
 
-    /// The tasks, shared.
+    /// Returns the tasks, shared.
     pub fn tasks(&self) -> Result<Arc<Vec<Task>>, AllocError>
         ensures { IfOk result (λ tasks. (arc_value tasks).items ≡ map task_at self.now) }
     {
         Arc::try_clone(&self.tasks)
     }
 
-    /// Whether the segment of the task at this place was delivered.
+    /// Returns true if the segment of the task at this place was delivered.
     pub fn is_done(&self, place: usize) -> bool
         requires { place < length self.now }
         ensures { result ≡ is_done (slice_get self.now place) }

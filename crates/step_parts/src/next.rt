@@ -9,7 +9,7 @@ use programs::next::put_task;
 use std::alloc::AllocError;
 use task_lang::task::{After, Segment, Task};
 
-/// How many tasks live on.
+/// Returns the number of tasks that live on.
 pub fn count_living(slots: &Slots<'_>) -> usize
     requires few { length slots.now ≤ 4096 }
     requires small { AllSmall slots.now }
@@ -27,7 +27,7 @@ pub fn count_living(slots: &Slots<'_>) -> usize
 // The next live tasks are collected with the last by path first. Tasks come from the last slot to the first, so that
 // each passes only those that its path begins. They are moved into existing room.
 
-/// Puts tasks in their places among those that live on, the last by path first. It takes no memory.
+/// Puts tasks in their places among those that live on, the last by path first. Doesn't allocate.
 pub fn put_tasks(living: &mut Vec<Task>, tasks: Vec<Task>)
     requires room { vec_len living.old + length tasks.items ≤ vec_capacity living.old }
     ensures items { living.new.items ≡ reverse (put_all path_in tasks.items (reverse living.old.items)) }
@@ -62,7 +62,7 @@ fn put_done(living: &mut Vec<Task>, done: Option<Segment>)
     }
 }
 
-// The tasks that live on, the last by path first.
+// Collects the tasks that live on, the last by path first.
 fn collect_living(done: &mut Vec<Option<Segment>>, living: &mut Vec<Task>)
     requires none_yet { living.old.items ≡ [] }
     requires room { length (living_by done.old.items) ≤ vec_capacity living.old }
@@ -104,7 +104,7 @@ pub(crate) fn set_undone(done: &mut Vec<Option<Segment>>, tasks: &[Task])
     }
 }
 
-/// Puts the next live tasks into a list, with nothing delivered for them. It takes no memory: there is room in the other two.
+/// Puts the next live tasks into a list, with nothing delivered for them. Doesn't allocate: there is room in the other two.
 pub(crate) fn go_on(done: &mut Vec<Option<Segment>>, living: &mut Vec<Task>, list: &mut Vec<Task>)
     requires none_yet { living.old.items ≡ [] }
     requires room { length (living_by done.old.items) ≤ vec_capacity living.old }

@@ -59,7 +59,7 @@ impl<'j> Model for Delivery<'j> {
     ghost invariant = { λ d. IsDeliveryInside d.job.now d.step d.place d.path.items d.segment };
 }
 
-/// The paths of tasks.
+/// Returns the paths of tasks.
 pub fn paths_of(alloc: Global, tasks: &[Task]) -> Result<Vec<Path>, AllocError>
     ensures { IfOk result (λ paths. map path_of paths.items ≡ map path_in tasks.now) }
 {
@@ -72,7 +72,7 @@ pub fn paths_of(alloc: Global, tasks: &[Task]) -> Result<Vec<Path>, AllocError>
     Ok(paths)
 }
 
-// The path of the task at this place.
+// Returns the path of the task at this place, if there is one.
 fn path_at(tasks: &[Task], place: usize) -> Option<&[u16]>
     ensures { option_map now_of result ≡ slice_get (map path_in tasks.now) place }
 {
@@ -117,7 +117,7 @@ impl<'j> Order<'j> {
         &self.tasks[self.place]
     }
 
-    // The path of its task, and what its segment does.
+    // Returns the path of its task, and what its segment does.
     fn run(&self, alloc: Global) -> Result<(Path, Segment), AllocError>
         ensures path { IfOk result (λ r. r.0.items ≡ self.now.task.path) }
         ensures segment { IfOk result (λ r. meant (plans self.now.job.bodies) r.1
@@ -128,21 +128,21 @@ impl<'j> Order<'j> {
         Ok((task_path(task), done))
     }
 
-    /// The path of its task. It takes no memory.
+    /// Returns the path of its task. Doesn't allocate.
     pub fn path(&self) -> &[u16]
         ensures { result.now ≡ self.now.task.path }
     {
         self.task().path.as_slice()
     }
 
-    /// The place of its task among the live ones, in path order.
+    /// Returns the place of its task among the live ones, in path order.
     pub fn place(&self) -> usize
         ensures { result ≡ self.now.place }
     {
         self.place
     }
 
-    /// The superstep, from 0.
+    /// Returns the superstep, from 0.
     pub fn step(&self) -> u32
         ensures { result ≡ self.now.step }
     {
@@ -177,7 +177,7 @@ impl<'j> Delivery<'j> {
         })
     }
 
-    /// The path of its task. It takes no memory.
+    /// Returns the path of its task. Doesn't allocate.
     pub fn path(&self) -> &[u16]
         ensures path { result.now ≡ self.now.path }
         ensures known { IsDelivery self.now }
@@ -185,7 +185,7 @@ impl<'j> Delivery<'j> {
         self.path.as_slice()
     }
 
-    /// The paths of the tasks that were spawned, in order.
+    /// Returns the paths of the tasks that were spawned, in order.
     #[tactic(auto, using(crate::proofs::Deeds::paths_mapped))]
     pub fn spawns(&self, alloc: Global) -> Result<Vec<Path>, AllocError>
         ensures { IfOk result (λ paths. map path_of paths.items ≡ spawned_paths (delivered_segment self.now)) }
@@ -193,7 +193,7 @@ impl<'j> Delivery<'j> {
         paths_of(alloc, &self.segment.spawns)
     }
 
-    /// How many tasks were spawned. It takes no memory.
+    /// Returns the number of tasks that were spawned. Doesn't allocate.
     #[tactic(auto, using(crate::proofs::Deeds::paths_counted))]
     pub fn spawn_count(&self) -> usize
         ensures { result ≡ length (spawned_paths (delivered_segment self.now)) }
@@ -201,7 +201,7 @@ impl<'j> Delivery<'j> {
         self.segment.spawns.len()
     }
 
-    /// The path of the spawned task of this number, from 0, in order. It takes no memory.
+    /// Returns the path of the spawned task of this number, from 0, in order. Doesn't allocate.
     #[tactic(auto, using(crate::proofs::Deeds::paths_mapped))]
     pub fn spawn_path(&self, number: usize) -> Option<&[u16]>
         ensures { option_map now_of result ≡ slice_get (spawned_paths (delivered_segment self.now)) number }
@@ -209,7 +209,7 @@ impl<'j> Delivery<'j> {
         path_at(&self.segment.spawns, number)
     }
 
-    /// Whether its task synced. It takes no memory.
+    /// Returns true if its task synced. Doesn't allocate.
     pub fn synced(&self) -> bool
         ensures { result ≡ has_synced (delivered_segment self.now) }
     {
@@ -223,21 +223,21 @@ impl<'j> Delivery<'j> {
         self.job
     }
 
-    /// Whether it is of this step.
+    /// Returns true if it is of this step.
     pub fn is_of_step(&self, step: u32) -> bool
         ensures { IsTrue result ↔ (self.now.step ≡ step) }
     {
         self.step == step
     }
 
-    /// The place of its task among the live ones, in path order.
+    /// Returns the place of its task among the live ones, in path order.
     pub fn place(&self) -> usize
         ensures { result ≡ self.now.place }
     {
         self.place
     }
 
-    /// What the segment did.
+    /// Returns what the segment did.
     pub fn into_segment(self) -> Segment
         ensures same { result ≡ self.entry.segment }
         ensures known { IsDelivery self.entry }

@@ -10,7 +10,7 @@ use smallvec::SmallVec;
 use std::alloc::{AllocError, Global};
 use superstep_memory::path::is_before;
 
-// The place of a task of this path, if paths rise.
+// Returns the place of a task of this path, if paths rise.
 fn guess(slots: &Slots<'_>, path: &[u16]) -> usize {
     let mut low = 0;
     let mut high = slots.len();
@@ -24,7 +24,7 @@ fn guess(slots: &Slots<'_>, path: &[u16]) -> usize {
     low
 }
 
-// The place of the first task of this path.
+// Returns the place of the first task of this path, if there is one.
 fn scan(slots: &Slots<'_>, path: &[u16]) -> Option<usize>
     requires few { length slots.now ≤ 4096 }
     ensures { MatchOption result (is_live slots.now path.now ≡ false) (λ place. IsPlaceOf slots.now path.now place) }
@@ -41,8 +41,8 @@ fn scan(slots: &Slots<'_>, path: &[u16]) -> Option<usize>
     None
 }
 
-// The place of a task of this path. Live paths rise, so that halving finds it; the answer doesn't rest on that, since
-// else all are looked at.
+// Returns the place of a task of this path, if there is one. Live paths rise, so that halving finds it; the answer doesn't
+// depend on that, since else all are looked at.
 fn find_place(slots: &Slots<'_>, path: &[u16]) -> Option<usize>
     requires few { length slots.now ≤ 4096 }
     ensures { MatchOption result (is_live slots.now path.now ≡ false) (λ place. IsPlaceOf slots.now path.now place) }
@@ -56,7 +56,7 @@ fn find_place(slots: &Slots<'_>, path: &[u16]) -> Option<usize>
     scan(slots, path)
 }
 
-/// The place of a task of this path, which is looked for at this place first.
+/// Returns the place of a task of this path, if there is one. Looks at the place `near` first.
 pub fn find_near(slots: &Slots<'_>, near: usize, path: &[u16]) -> Option<usize>
     requires few { length slots.now ≤ 4096 }
     ensures { MatchOption result (is_live slots.now path.now ≡ false) (λ place. IsPlaceOf slots.now path.now place) }
@@ -69,7 +69,7 @@ pub fn find_near(slots: &Slots<'_>, near: usize, path: &[u16]) -> Option<usize>
     find_place(slots, path)
 }
 
-/// What was printed, superstep by superstep.
+/// Returns what was printed, superstep by superstep.
 pub fn prints_of(alloc: Global, finished: &[Finished]) -> Result<Vec<Print>, AllocError>
     ensures { IfOk result (λ prints. prints.items ≡ all_prints finished.now) }
 {
@@ -99,7 +99,7 @@ fn copy_prints(prints: &mut Vec<Print>, more: &[Print]) -> Result<(), AllocError
     Ok(())
 }
 
-/// The records, superstep by superstep.
+/// Returns the records, superstep by superstep.
 pub fn records_of(alloc: Global, finished: &[Finished]) -> Result<Vec<PhaseRecord>, AllocError>
     ensures { IfOk result (λ records. records.items ≡ all_told finished.now) }
 {

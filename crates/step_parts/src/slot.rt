@@ -59,7 +59,7 @@ impl<'a> Slots<'a> {
         }
     }
 
-    /// The first one, and the rest.
+    /// Returns the first one and the rest, or `None` if there is none.
     pub(crate) fn split_first(&self) -> Option<(Slot<'a>, Slots<'a>)>
         ensures { MatchOption result (self.now ≡ []) (λ split. self.now ≡ split.0 ∷ split.1) }
     {
@@ -72,7 +72,7 @@ impl<'a> Slots<'a> {
         Some((Slot { task, done }, Slots { tasks, done: rest }))
     }
 
-    /// The one at this place, if there is one.
+    /// Returns the one at this place, if there is one.
     pub fn at(&self, place: usize) -> Option<Slot<'a>>
         ensures { MatchOption result (slice_get self.now place ≡ None) (λ slot. slice_get self.now place ≡ Some slot) }
     {
@@ -85,7 +85,7 @@ impl<'a> Slots<'a> {
         Some(Slot { task, done })
     }
 
-    /// How many places there are to look at.
+    /// Returns the number of places to look at.
     pub(crate) fn len(&self) -> usize {
         self.tasks.len()
     }
@@ -117,7 +117,7 @@ impl<'a> Slot<'a> {
         self.done.is_some()
     }
 
-    /// Whether its task has this path.
+    /// Returns true if its task has this path.
     pub(crate) fn is_of(&self, path: &[u16]) -> bool
         ensures { result ≡ bytes_eq self.now.task.path path.now }
     {
@@ -125,7 +125,7 @@ impl<'a> Slot<'a> {
         task.path.as_slice() == path
     }
 
-    /// How many tasks live on, as far as was delivered.
+    /// Returns the number of tasks that live on, as far as was delivered.
     pub(crate) fn count_living(&self) -> usize
         requires { IsSmall self.now.done }
         ensures { result ≡ length (living_of self.now.done) }
@@ -139,7 +139,7 @@ impl<'a> Slot<'a> {
         }
     }
 
-    /// Whether none of the puts that were delivered adds.
+    /// Returns true if none of the puts that were delivered adds.
     pub(crate) fn are_sets(&self) -> bool
         ensures { result ≡ list_all is_set (puts_in self.now) }
     {
@@ -170,7 +170,7 @@ impl<'a> Slot<'a> {
         }
     }
 
-    /// How many puts were delivered.
+    /// Returns the number of puts that were delivered.
     pub(crate) fn count_puts(&self) -> usize
         ensures { result ≡ length (puts_in self.now) }
     {

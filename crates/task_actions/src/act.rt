@@ -15,7 +15,7 @@ use superstep_memory::arrays::{Put, PutKind};
 use superstep_memory::path::child_of;
 use task_code::code::{Action, Cell, Expr, Index, Operand, Operator};
 
-// The task of this number that the scene's task spawns.
+// Creates the task of this number that the scene's task spawns.
 fn spawned(
     alloc: Global,
     scene: &Scene<'_>,

@@ -30,7 +30,7 @@ pub enum Fault {
 }
 
 impl Fault {
-    /// The number that a report has for this fault.
+    /// Returns the number that a report has for this fault.
     pub fn code(self) -> u8
         ensures { result ≡ code_of self }
     {

@@ -128,7 +128,7 @@ impl Task {
     }
 }
 
-// How many locals the body at this place has.
+// Returns the number of locals of the body at this place.
 fn local_count(bodies: &[Body], body: u16) -> usize
     ensures { result ≡ (plan_at (plans bodies.now) body).locals }
 {

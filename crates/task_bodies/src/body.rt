@@ -24,7 +24,7 @@ pub struct View<'a> {
 }
 
 impl View<'_> {
-    /// The cells of the array at this place, in declared order. Empty if there is no such array.
+    /// Returns the cells of the array at this place, in declared order. Empty if there is no such array.
     #[inline(always)]
     pub fn cells(&self, array: u16) -> &[i64]
         ensures cells { result.now ≡ cells_in (slice_get self.now.arrays.now array) }
@@ -36,7 +36,7 @@ impl View<'_> {
         }
     }
 
-    /// The value of a cell, if there is such a cell.
+    /// Returns the value of a cell, if there is such a cell.
     pub fn cell(&self, array: u16, index: u32) -> Option<i64>
         ensures { result ≡ cell_at self.now.arrays.now array (pos index) }
     {

@@ -46,7 +46,7 @@ pub struct Reduce<F> {
     pub f: F,
 }
 
-/// How a task ends that runs up to this superstep.
+/// Returns how a task that runs up to superstep `last` ends in superstep `step`.
 #[inline(always)]
 pub(crate) fn ending_in(last: u32, step: u32) -> Ending
     ensures { result ≡ ends_in last step }
@@ -58,7 +58,7 @@ pub(crate) fn ending_in(last: u32, step: u32) -> Ending
     }
 }
 
-// The sum of two values, unless it is outside of 64 signed bits.
+// Returns the sum of two values, unless it is outside of 64 signed bits.
 #[inline(always)]
 fn sum_of(so_far: i64, value: i64) -> Option<i64>
     ensures { result ≡ (if is_over PutKinds.Add value so_far then None else Some (so_far +ℤ value)) }
@@ -66,7 +66,7 @@ fn sum_of(so_far: i64, value: i64) -> Option<i64>
     so_far.checked_add(value)
 }
 
-// Whether all cells of a span are among `count` cells.
+// Returns true if all cells of a span are among `count` cells.
 fn have_all(count: usize, span: Cells) -> bool
     ensures { result ≡ are_there count span }
 {

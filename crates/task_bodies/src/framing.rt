@@ -30,7 +30,7 @@ pub(crate) fn open<K: Drop>(alloc: Global, work: &mut Work<Member<K>>) -> Out<K>
     }
 }
 
-// Why `count` tasks may not be spawned.
+// Returns why `count` tasks may not be spawned, if they may not.
 fn refuse_spawns(path: usize, begun: u16, count: usize) -> Option<u8>
     ensures { (p : List ℕ) → length p ≡ path → result ≡ refused_spawns p begun count }
 {
@@ -46,7 +46,7 @@ fn refuse_spawns(path: usize, begun: u16, count: usize) -> Option<u8>
     None
 }
 
-// Why what a body wrote is a fault.
+// Returns why what a body wrote is a fault, if it is one.
 fn refuse<K: Drop>(task: &Member<K>, arrays: &Arrays, out: &Out<K>) -> Option<u8>
     ensures { result ≡ refused arrays.now task.now.path task.now.begun out.now.puts (length out.now.spawns) }
 {

@@ -71,7 +71,7 @@ struct Three<'a> {
     down: &'a [i64],
 }
 
-// The cell of this number, or what is beyond.
+// Returns the cell of this number, or `beyond` if there is no such cell.
 #[inline(always)]
 fn cell_or(cells: &[i64], place: usize, beyond: i64) -> i64
     ensures { result ≡ near beyond cells.now (place + 1) }
@@ -79,7 +79,7 @@ fn cell_or(cells: &[i64], place: usize, beyond: i64) -> i64
     cells.get(place).copied().unwrap_or(beyond)
 }
 
-// The cells of this column.
+// Returns the cells of this column.
 #[inline(always)]
 fn column_of(rows: Three<'_>, place: usize, beyond: i64) -> Column
     ensures up { result.up ≡ near beyond rows.entry.up.now (place + 1) }
@@ -135,7 +135,7 @@ fn cells_from(cells: &[i64], place: usize, width: usize) -> &[i64]
     &rest[..width]
 }
 
-// The row before the row of this number, which begins at this cell.
+// Returns the row before the row of this number, which begins at this cell.
 fn row_above(cells: &[i64], row: usize, at: usize, width: usize) -> &[i64]
     requires { at ≡ row * width }
     ensures { result.now ≡ row_before cells.now width row }
@@ -146,7 +146,7 @@ fn row_above(cells: &[i64], row: usize, at: usize, width: usize) -> &[i64]
     cells_from(cells, at - width, width)
 }
 
-// The row of this number, which begins at this cell, with those round it.
+// Returns the row of this number, which begins at this cell, with those round it.
 fn rows_round(cells: &[i64], row: usize, at: usize, width: usize) -> Three<'_>
     requires at { at ≡ row * width }
     requires there { at + width ≤ length cells.now }
@@ -161,7 +161,7 @@ fn rows_round(cells: &[i64], row: usize, at: usize, width: usize) -> Three<'_>
     }
 }
 
-// Whether these rows are among `count` cells. There is at least one row.
+// Returns true if these rows are among `count` cells. There is at least one row.
 fn have_all(count: usize, width: usize, rows: BoardRows) -> bool
     ensures { result ≡ are_rows count width rows }
 {

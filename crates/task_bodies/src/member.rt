@@ -38,7 +38,7 @@ impl<K: Drop> OnPath for Member<K> {
 impl<K: Drop> Member<K> {
     ghost use Rattle.std.specs.Prelude.{◌≡◌};
 
-    /// What it keeps.
+    /// Returns what it keeps.
     pub fn kept(&self) -> &K
         ensures { result.now ≡ self.now.kept }
     {
@@ -72,7 +72,7 @@ pub(crate) fn number<K: Drop>(
     Ok(())
 }
 
-/// The tasks that a run begins with, which keep this.
+/// Creates the tasks that a run begins with, which keep this.
 pub fn starts<K: Drop>(alloc: Global, kept: Vec<K>) -> Result<Vec<Member<K>>, AllocError>
     requires few { length kept.items ≤ 65535 }
     ensures tasks { IfOk result (λ tasks. tasks.items ≡ numbered [] 0 kept.items) }

@@ -114,7 +114,7 @@ impl Builder {
     }
 }
 
-// The line at a place.
+// Returns the line at a place, if there is one.
 fn line_of(code: &Vec<Line>, place: usize) -> Option<Line>
     ensures line { result ≡ slice_get code.now.items place }
     ensures within { IfSome result (λ _. place < length code.now.items) }
@@ -151,7 +151,7 @@ fn close(code: &mut Vec<Line>, place: usize) -> Result<(), AllocError>
     }
 }
 
-/// Whether each jump of these lines leads to its line, and each open line has its end.
+/// Returns true if each jump of these lines leads to its line, and each open line has its end.
 pub fn is_matched(alloc: Global, code: &[Line]) -> Result<bool, AllocError>
     ensures { IfOk result (λ fits. IsTrue fits ↔ IsMatched code.now) }
 {

@@ -58,14 +58,14 @@ impl Model for Job {
     ghost invariant = { IsJobInside };
 }
 
-// Whether each cell holds a number of 64 signed bits.
+// Returns true if each cell holds a number of 64 signed bits.
 fn are_numbers(cells: &[i64]) -> bool
     ensures { result ≡ list_all fits_i64 cells.now }
 {
     cells.iter().all(|cell| is_number(*cell))
 }
 
-// Whether each cell of the arrays does.
+// Returns true if each cell of the arrays holds a number of 64 signed bits.
 fn are_cells(arrays: &Arrays) -> bool
     ensures { result ≡ list_all (λ a. list_all fits_i64 a.1) arrays.now }
 {
@@ -79,14 +79,14 @@ fn are_cells(arrays: &Arrays) -> bool
     true
 }
 
-// Whether a job may have an array of this name with these cells.
+// Returns true if a job may have an array of this name with these cells.
 fn is_array(name: &[u8], cells: &[i64]) -> bool
     ensures { result ≡ is_array (name.now, cells.now) }
 {
     is_free(name) && !cells.is_empty() && cells.len() <= MOST_CELLS
 }
 
-// Whether a job may have each of these arrays, whose names differ.
+// Returns true if a job may have each of these arrays, whose names differ.
 fn are_arrays(arrays: &Arrays) -> bool
     ensures arrays { result ≡ list_all is_array arrays.now }
     ensures named { IsTrue result → IsTrue (names.are_names (map (λ a. a.0) arrays.now)) }
@@ -101,7 +101,7 @@ fn are_arrays(arrays: &Arrays) -> bool
     true
 }
 
-// Whether a body of these has the name.
+// Returns true if one of these bodies has the name.
 fn is_among(bodies: &[Body], name: &[u8]) -> bool
     ensures { result ≡ names.is_among (map (λ b. b.name) bodies.now) name.now }
 {
@@ -115,7 +115,7 @@ fn is_among(bodies: &[Body], name: &[u8]) -> bool
     false
 }
 
-// Whether the names of these bodies differ.
+// Returns true if the names of these bodies differ and may be used.
 fn are_named_apart(bodies: &[Body]) -> bool
     ensures { result ≡ names.are_names (map (λ b. b.name) bodies.now) }
 {
@@ -130,7 +130,7 @@ fn are_named_apart(bodies: &[Body]) -> bool
     true
 }
 
-// Whether the lines of each body name only arrays and bodies below these numbers.
+// Returns true if the lines of each body name only arrays and bodies below these numbers.
 fn are_within(bodies: &[Body], arrays: usize, count: usize) -> bool
     ensures within { result ≡ list_all (λ b. list_all (limits.is_line arrays count) b.code) bodies.now }
     ensures each { IsTrue result → AllByRecursion IsBody bodies.now }
@@ -145,7 +145,7 @@ fn are_within(bodies: &[Body], arrays: usize, count: usize) -> bool
     true
 }
 
-// Whether a job of format 1 may have this body.
+// Returns true if a job of format 1 may have this body.
 fn is_of_first(body: &Body) -> bool
     ensures { IsTrue result ↔ IsOfFirst body.now }
 {
@@ -155,7 +155,7 @@ fn is_of_first(body: &Body) -> bool
     lines_of_first(body.code())
 }
 
-// Whether a job of format 1 may have each of these bodies.
+// Returns true if a job of format 1 may have each of these bodies.
 fn are_of_first(bodies: &[Body]) -> bool
     ensures { IsTrue result ↔ AllByRecursion IsOfFirst bodies.now }
 {
@@ -169,7 +169,7 @@ fn are_of_first(bodies: &[Body]) -> bool
     true
 }
 
-// Whether there is this format, and a job of it may have these bodies.
+// Returns true if there is this format, and a job of it may have these bodies.
 fn has_format(format: u32, bodies: &[Body]) -> bool
     ensures { IsTrue result ↔ (IsTrue (is_format format) × (format ≡ 1 → AllByRecursion IsOfFirst bodies.now)) }
 {
@@ -180,21 +180,21 @@ fn has_format(format: u32, bodies: &[Body]) -> bool
     }
 }
 
-// Whether each start line names a body below this number.
+// Returns true if each start line names a body below this number.
 fn are_starts(starts: &[Start], bodies: usize) -> bool
     ensures { result ≡ list_all (λ s. nat_lt s.body bodies) starts.now }
 {
     starts.iter().all(|start| usize::from(start.body) < bodies)
 }
 
-// Whether the argument of each start line is a number of 64 signed bits.
+// Returns true if the argument of each start line is a number of 64 signed bits.
 fn are_args(starts: &[Start]) -> bool
     ensures { result ≡ list_all (λ s. fits_i64 s.arg) starts.now }
 {
     starts.iter().all(|start| is_number(start.arg))
 }
 
-// Whether a job of this format may have these arrays, bodies and start lines.
+// Returns true if a job of this format may have these arrays, bodies and start lines.
 fn is_job(format: u32, arrays: &Arrays, bodies: &Vec<Body>, starts: &Vec<Start>) -> bool
     ensures { IsTrue result ↔ IsJob (job_value format arrays.now bodies.now starts.now) }
 {
@@ -235,7 +235,7 @@ impl Job {
         })
     }
 
-    /// What the job was made of: its format, arrays, bodies and start lines.
+    /// Returns what the job was made of: its format, arrays, bodies and start lines.
     pub fn into_parts(self) -> (u32, Arrays, Vec<Body>, Vec<Start>)
         ensures parts { job_value result.0 result.1 result.2 result.3 ≡ self }
         ensures kept { IsJob self }
@@ -249,7 +249,7 @@ impl Job {
         (format, arrays, bodies, starts)
     }
 
-    /// The format, 1 or 2.
+    /// Returns the format, 1 or 2.
     pub fn format(&self) -> u32
         ensures format { result ≡ self.now.format }
         ensures kept { IsJob self.now }
@@ -257,14 +257,14 @@ impl Job {
         self.format
     }
 
-    /// The arrays as the job begins, in declared order.
+    /// Returns the arrays as the job begins, in declared order.
     pub fn arrays(&self) -> &Arrays
         ensures { result.now ≡ self.now.arrays }
     {
         &self.arrays
     }
 
-    /// The bodies, in declared order.
+    /// Returns the bodies, in declared order.
     pub fn bodies(&self) -> &[Body]
         ensures bodies { result.now ≡ self.now.bodies }
         ensures kept { IsJob self.now }
@@ -272,14 +272,14 @@ impl Job {
         self.bodies.as_slice()
     }
 
-    /// The start lines, in declared order.
+    /// Returns the start lines, in declared order.
     pub fn starts(&self) -> &[Start]
         ensures { result.now ≡ self.now.starts }
     {
         self.starts.as_slice()
     }
 
-    /// Whether the other job is the same: format, arrays, bodies and start lines, each in declared order.
+    /// Returns true if the other job is the same: format, arrays, bodies and start lines, each in declared order.
     pub fn same_as(&self, other: &Job) -> bool
         ensures { IsTrue result ↔ (self.now ≡ other.now) }
     {

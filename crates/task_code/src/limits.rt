@@ -10,7 +10,7 @@ use crate::code::{Action, Line, Operand};
 use crate::operands::{Operands, operands_of};
 use superstep_memory::arrays::PutKind;
 
-/// Whether a number is one of 64 signed bits, as each of its type is.
+/// Returns true if a number is one of 64 signed bits, as each of its type is.
 #[tactic(auto, using(text_lines::proofs::NumbersLemmas::fits_back))]
 pub(crate) fn is_number(number: i64) -> bool
     ensures result { result ≡ fits_i64 number }
@@ -19,7 +19,7 @@ pub(crate) fn is_number(number: i64) -> bool
     true
 }
 
-// Whether a line is a statement.
+// Returns true if a line is a statement.
 fn is_statement(line: &Line) -> bool
     ensures { result ≡ spec.is_statement line.now }
 {
@@ -29,7 +29,7 @@ fn is_statement(line: &Line) -> bool
     }
 }
 
-/// How many statements these lines are.
+/// Returns how many statements these lines are.
 pub(crate) fn statements(code: &[Line]) -> usize
     ensures { result ≡ spec.statements code.now }
 {
@@ -44,7 +44,7 @@ pub(crate) fn statements(code: &[Line]) -> usize
     count
 }
 
-// How many lines are open after this one, given how many were before it.
+// Returns how many lines are open after this one, given how many were before it.
 fn opened(before: usize, line: &Line) -> usize
     requires { before ≤ 16 }
     ensures { result ≡ spec.opened before line.now }
@@ -56,7 +56,7 @@ fn opened(before: usize, line: &Line) -> usize
     }
 }
 
-/// Whether at most 16 lines are open at once.
+/// Returns true if at most 16 lines are open at once.
 pub(crate) fn are_shallow(code: &[Line]) -> bool
     ensures { IsTrue result ↔ (spec.deepest 0 code.now ≤ MOST_OPEN) }
 {
@@ -89,7 +89,7 @@ fn are_operands(operands: &Operands, arrays: usize) -> bool
         && is_operand(operands.right, arrays)
 }
 
-// Whether the body that a line spawns a task of is below this number.
+// Returns true unless a line spawns a task of a body that isn't below this number.
 fn has_body(line: &Line, bodies: usize) -> bool
     ensures { result ≡ spec.has_body_in bodies line.now }
 {
@@ -105,7 +105,7 @@ fn is_line(line: &Line, arrays: usize, bodies: usize) -> bool
     has_body(line, bodies) && are_operands(&operands_of(line, true), arrays)
 }
 
-// Whether a line is one of format 1, which has no add.
+// Returns true if a line is one of format 1, which has no add.
 fn is_of_first(line: &Line) -> bool
     ensures { result ≡ spec.is_of_first line.now }
 {
@@ -115,14 +115,14 @@ fn is_of_first(line: &Line) -> bool
     }
 }
 
-/// Whether lines are those of format 1.
+/// Returns true if lines are those of format 1.
 pub(crate) fn are_of_first(code: &[Line]) -> bool
     ensures { result ≡ list_all spec.is_of_first code.now }
 {
     code.iter().all(|line| is_of_first(line))
 }
 
-/// Whether lines name only arrays and bodies below these numbers.
+/// Returns true if lines name only arrays and bodies below these numbers.
 pub(crate) fn are_lines(code: &[Line], arrays: usize, bodies: usize) -> bool
     ensures { result ≡ list_all (spec.is_line arrays bodies) code.now }
 {

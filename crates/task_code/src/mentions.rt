@@ -9,7 +9,7 @@ use crate::code::{Action, Cell, Index, Line, Operand};
 use crate::limits::is_number;
 use crate::operands::{Operands, operands_of};
 
-// Whether the local of an index, if it is one, is below this number. Shows on the way that a number has 64 bits.
+// Returns true unless an index is a local that isn't below this number. Shows on the way that a number has 64 bits.
 fn is_below_index(index: Index, count: usize) -> bool
     ensures below { result ≡ spec.are_below count (spec.in_index index) }
     ensures fits { IsTrue (fits_index index) }
@@ -46,7 +46,7 @@ fn are_below_operands(operands: &Operands, count: usize) -> bool
     cell && left && right
 }
 
-// Whether the local that a line sets is below this number.
+// Returns true unless a line sets a local that isn't below this number.
 fn sets_below(line: &Line, count: usize) -> bool
     ensures { result ≡ spec.are_below count (spec.set_in line.now) }
 {
@@ -65,7 +65,7 @@ fn is_below(line: &Line, count: usize) -> bool
     set && operands
 }
 
-/// Whether the locals that lines mention are below this number. Shows on the way that the lines' numbers have 64 bits.
+/// Returns true if the locals that lines mention are below this number. Shows on the way that the lines' numbers have 64 bits.
 pub(crate) fn are_below(code: &[Line], count: usize) -> bool
     ensures below { result ≡ spec.are_below count (spec.mentions code.now) }
     ensures fits { IsTrue result → IsTrue (list_all fits_line code.now) }
@@ -80,7 +80,7 @@ pub(crate) fn are_below(code: &[Line], count: usize) -> bool
     true
 }
 
-// How many locals have been mentioned after this one, given how many were before it.
+// Returns how many locals have been mentioned after this one, given how many were before it. `None` if one is left out.
 fn mention(known: usize, local: u8) -> Option<usize>
     ensures { result ≡ spec.mentioned known (local ∷ []) }
 {
@@ -119,7 +119,7 @@ fn mention_operands(known: usize, operands: &Operands) -> Option<usize>
     mention_operand(with_left, operands.right)
 }
 
-// The local that a line sets.
+// Returns how many locals have been mentioned after the one that a line sets, given how many were before it.
 fn mention_set(known: usize, line: &Line) -> Option<usize>
     ensures { result ≡ spec.mentioned known (spec.set_in line.now) }
 {
@@ -136,7 +136,7 @@ fn mention_line(known: usize, line: &Line) -> Option<usize>
     mention_operands(with_set, &operands_of(line, false))
 }
 
-/// Whether lines mention this many locals, each for the first time after those before it.
+/// Returns true if lines mention `count` locals, each for the first time after those before it.
 pub(crate) fn are_in_order(code: &[Line], count: usize) -> bool
     ensures { IsTrue result ↔ (spec.mentioned 0 (spec.mentions code.now) ≡ Some count) }
 {

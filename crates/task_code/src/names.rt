@@ -4,21 +4,21 @@ ghost use Rattle.std.specs.List.{list_all};
 ghost use Rattle.std.specs.Str.{bytes_eq};
 ghost use Rattle.task_code.specs.Names as spec;
 
-// Whether a name may have this byte.
+// Returns true if a name may have this byte.
 fn is_in_name(c: u8) -> bool
     ensures { result ≡ spec.is_in_name c }
 {
     c.is_ascii_lowercase() || c.is_ascii_digit() || c == b'_'
 }
 
-// Whether a name may have all these bytes.
+// Returns true if a name may have all these bytes.
 fn are_in_name(word: &[u8]) -> bool
     ensures { result ≡ list_all spec.is_in_name word.now }
 {
     word.iter().all(|c| is_in_name(*c))
 }
 
-// Whether a word begins with a lower-case letter.
+// Returns true if a word begins with a lower-case letter.
 fn begins_lower(word: &[u8]) -> bool
     ensures { result ≡ spec.begins_lower word.now }
 {
@@ -28,8 +28,7 @@ fn begins_lower(word: &[u8]) -> bool
     }
 }
 
-/// Whether a word is a lower-case letter and up to 15 lower-case letters, digits and underscores. A reserved
-/// word is too.
+/// Returns true if a word is a lower-case letter and up to 15 lower-case letters, digits and underscores. So is a reserved word.
 pub fn is_name(word: &[u8]) -> bool
     ensures { result ≡ spec.is_name word.now }
 {
@@ -39,21 +38,21 @@ pub fn is_name(word: &[u8]) -> bool
     are_in_name(word)
 }
 
-/// Whether two words are the same.
+/// Returns true if two words are the same.
 pub(crate) fn are_same(word: &[u8], other: &[u8]) -> bool
     ensures { result ≡ bytes_eq word.now other.now }
 {
     word == other
 }
 
-// Whether a word is one of these four, or else is reserved.
+// Returns true if a word is one of these four, or if `or_else` is true.
 fn is_one_of(word: &[u8], a: &[u8], b: &[u8], c: &[u8], d: &[u8], or_else: bool) -> bool
     ensures { result ≡ (bytes_eq word.now a.now || bytes_eq word.now b.now || bytes_eq word.now c.now || bytes_eq word.now d.now || or_else) }
 {
     are_same(word, a) || are_same(word, b) || are_same(word, c) || are_same(word, d) || or_else
 }
 
-/// Whether a word is reserved: no array, body or local may have it as its name.
+/// Returns true if a word is reserved: no array, body or local may have it as its name.
 #[tactic(auto, unfolding(crate::specs::Names::is_reserved))]
 pub fn is_reserved(word: &[u8]) -> bool
     ensures { result ≡ spec.is_reserved word.now }
@@ -65,14 +64,14 @@ pub fn is_reserved(word: &[u8]) -> bool
     is_one_of(word, b"arg", b"step", b"let", b"put", actions)
 }
 
-/// Whether an array, a body or a local may have this name.
+/// Returns true if an array, a body or a local may have this name.
 pub fn is_free(word: &[u8]) -> bool
     ensures { result ≡ spec.is_free word.now }
 {
     is_name(word) && !is_reserved(word)
 }
 
-// Whether a name is among these.
+// Returns true if a name is among these.
 fn is_among(names: &[String], name: &[u8]) -> bool
     ensures { result ≡ spec.is_among (map string_bytes names.now) name.now }
 {
@@ -86,7 +85,7 @@ fn is_among(names: &[String], name: &[u8]) -> bool
     false
 }
 
-/// Whether these are names that may be used, each once.
+/// Returns true if these are names that may be used, each once.
 pub(crate) fn are_names(names: &[String]) -> bool
     ensures { result ≡ spec.are_names (map string_bytes names.now) }
 {

@@ -12,7 +12,7 @@ pub(crate) struct Operands {
     pub(crate) right: Option<Operand>,
 }
 
-// The operands of an expression, after the cell that is put to.
+// Returns the operands of an expression, after the cell that is put to.
 fn of_expr(cell: Option<Operand>, expr: &Expr) -> Operands
     ensures { spec.listed result ≡ spec.if_any [] spec.alone cell ++ spec.over_expr ◌++◌ [] spec.alone expr.now }
 {
@@ -48,7 +48,8 @@ fn of_action(action: &Action) -> Operands
     }
 }
 
-/// The operands of a line; and whether the end of a loop has those of its first line again, which the text doesn't say.
+/// Returns the operands of a line. If `again` is true, the end of a loop has those of its first line again, which the text
+/// doesn't say.
 pub(crate) fn operands_of(line: &Line, again: bool) -> Operands
     ensures { spec.listed result ≡ spec.line_operands again line.now }
 {

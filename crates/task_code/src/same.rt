@@ -99,7 +99,7 @@ fn same_line(a: Line, b: Line) -> bool
     }
 }
 
-/// Whether lines are the same.
+/// Returns true if lines are the same.
 pub(crate) fn same_code(a: &[Line], b: &[Line]) -> bool
     ensures { IsTrue result ↔ (a.now ≡ b.now) }
 {
@@ -114,14 +114,14 @@ pub(crate) fn same_code(a: &[Line], b: &[Line]) -> bool
     true
 }
 
-// Whether two names are the same.
+// Returns true if two names are the same.
 fn same_name(a: &str, b: &str) -> bool
     ensures { IsTrue result ↔ (a.now ≡ b.now) }
 {
     a == b
 }
 
-// Whether names are the same.
+// Returns true if names are the same.
 fn same_names(a: &[String], b: &[String]) -> bool
     ensures { IsTrue result ↔ (map string_bytes a.now ≡ map string_bytes b.now) }
 {
@@ -136,7 +136,7 @@ fn same_names(a: &[String], b: &[String]) -> bool
     true
 }
 
-// Whether two bodies are the same.
+// Returns true if two bodies are the same.
 fn same_body(a: &Body, b: &Body) -> bool
     ensures { IsTrue result ↔ (a.now ≡ b.now) }
 {
@@ -149,7 +149,7 @@ fn same_body(a: &Body, b: &Body) -> bool
     same_code(a.code(), b.code())
 }
 
-/// Whether bodies are the same.
+/// Returns true if bodies are the same.
 pub(crate) fn same_bodies(a: &[Body], b: &[Body]) -> bool
     ensures { IsTrue result ↔ (a.now ≡ b.now) }
 {
@@ -164,14 +164,14 @@ pub(crate) fn same_bodies(a: &[Body], b: &[Body]) -> bool
     true
 }
 
-// Whether two start lines are the same.
+// Returns true if two start lines are the same.
 fn same_start(a: Start, b: Start) -> bool
     ensures { IsTrue result ↔ (a ≡ b) }
 {
     a == b
 }
 
-/// Whether start lines are the same.
+/// Returns true if start lines are the same.
 pub(crate) fn same_starts(a: &[Start], b: &[Start]) -> bool
     ensures { IsTrue result ↔ (a.now ≡ b.now) }
 {
