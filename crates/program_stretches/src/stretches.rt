@@ -262,7 +262,7 @@ impl<'t, 'p, P: Program> Stretches<'t, 'p, P> {
         }
     }
 
-    // Why a stretch isn't taken back, if it isn't.
+    // Returns why a stretch isn't taken back, if it isn't.
     fn refuses(&self, stretch: &Stretch<'p, P>) -> Option<Unwanted>
         ensures { MatchOption result (Accepts self.now stretch.now) (λ fault. Refuses fault self.now stretch.now) }
     {
@@ -536,7 +536,7 @@ impl<'t, 'p, P: Program> Stretches<'t, 'p, P> {
         }
     }
 
-    // Whether no stretch is taken or has run, if tasks still live.
+    // Returns true if no task lives any more (`lives` is false), or if no stretch is taken or has run.
     fn is_at_rest(&self, lives: bool) -> bool
         ensures { result ≡ (not lives || covers false self.now.count 0 self.now.parts) }
     {
@@ -641,7 +641,7 @@ pub struct Left<'p, P: Program> {
     pub writer: Writer<Opened<'p, P, P::Task>>,
 }
 
-// Whether a run ended at its limit.
+// Returns true if a run ended at its limit.
 fn is_limit(status: &JobStatus) -> bool
     requires { IsShort (status_seen status.now) }
     ensures { result ≡ is_at_limit (status_seen status.now) }
@@ -649,7 +649,7 @@ fn is_limit(status: &JobStatus) -> bool
     matches!(status, JobStatus::Limit(_))
 }
 
-// The arrays: themselves if nobody else has them, else a copy.
+// Returns the arrays: themselves if nobody else has them, else a copy.
 fn own_arrays(alloc: Global, shared: Arc<Arrays>) -> Result<Arrays, AllocError>
     ensures { IfOk result (λ arrays. arrays ≡ arc_value shared) }
 {
@@ -659,7 +659,7 @@ fn own_arrays(alloc: Global, shared: Arc<Arrays>) -> Result<Arrays, AllocError>
     }
 }
 
-// The arrays that a run leaves, and the tasks of its stretches if they still live.
+// Returns the arrays that a run leaves, and the tasks of its stretches if they still live.
 fn finish<T: OnPath>(
     alloc: Global,
     shared: Arc<Arrays>,

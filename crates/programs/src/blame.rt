@@ -33,7 +33,7 @@ impl Blame {
     ghost use Rattle.phase_records.specs.StatusSeen.{status_seen};
     ghost use Rattle.phase_records.specs.Status.{Fault, IsShort};
 
-    /// The status of a run that it ended in this step.
+    /// Returns the status of a run that this fault ended in superstep `step`.
     pub fn status(&self, step: u32) -> JobStatus
         ensures status { status_seen result ≡ Fault self.now.0 step self.now.1 }
         ensures short { IsShort (status_seen result) }
@@ -46,7 +46,7 @@ impl Blame {
     }
 }
 
-/// Copies this path. It takes no memory.
+/// Copies this path. Doesn't allocate.
 pub fn copy_path(path: &Path) -> Path
     requires { length path.now.items ≤ 8 }
     ensures { result.items ≡ path.now.items }
@@ -57,7 +57,7 @@ pub fn copy_path(path: &Path) -> Path
     }
 }
 
-/// Copies the path of a task. It takes no memory.
+/// Copies the path of a task. Doesn't allocate.
 pub fn task_path<T: OnPath>(task: &T) -> Path
     ensures path { result.items ≡ T.path_of task.now }
     ensures short { length result.items ≤ 8 }
@@ -65,7 +65,7 @@ pub fn task_path<T: OnPath>(task: &T) -> Path
     copy_path(task.path())
 }
 
-/// The fault of too many live tasks.
+/// Returns the fault of too many live tasks.
 pub fn too_many(alloc: Global) -> Blame
     ensures { result ≡ (7, []) }
 {
@@ -75,7 +75,7 @@ pub fn too_many(alloc: Global) -> Blame
     }
 }
 
-/// The fault of a put of this task that overflows.
+/// Returns the fault of a put of this task that overflows.
 pub fn overflowed<T: OnPath>(task: &T) -> Blame
     ensures { result ≡ (8, T.path_of task.now) }
 {

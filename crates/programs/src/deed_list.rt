@@ -54,7 +54,7 @@ impl<'a> Model for LastDeeds<'a> {
     ghost view = { λ l. l.front.now ++ replicate l.alike (going l.puts) };
 }
 
-// The deed of a task that goes on and spawned nothing.
+// Returns the deed of a task that goes on, made `puts` puts and spawned nothing.
 #[inline(always)]
 fn one_going(puts: usize) -> Deed
     ensures { result ≡ going puts }
@@ -66,7 +66,7 @@ fn one_going(puts: usize) -> Deed
     }
 }
 
-// Appends so many deeds of tasks that go on and spawned nothing.
+// Appends `alike` deeds of tasks that go on, made `puts` puts each and spawned nothing.
 #[inline(never)]
 fn write_out(front: &mut Vec<Deed>, alike: u32, puts: usize) -> Result<(), AllocError>
     ensures written { OnOk result (front.new.items ≡ front.old.items ++ replicate alike (going puts)) }
@@ -95,14 +95,14 @@ impl DeedList {
         self.alike = 0;
     }
 
-    /// How many there are.
+    /// Returns the number of deeds.
     pub(crate) fn len(&self) -> usize
         ensures { result ≡ length self.now }
     {
         self.front.len() + self.alike as usize
     }
 
-    // Counts those anew that make so many puts.
+    // Begins a new count: of tasks that go on and made `puts` puts each.
     #[inline(never)]
     fn begin_going(&mut self, puts: usize) -> Result<(), AllocError>
         ensures added { OnOk result (self.new ≡ self.old ++ going puts ∷ []) }
@@ -173,7 +173,7 @@ impl DeedList {
 }
 
 impl<'a> LastDeeds<'a> {
-    /// The first of them, and the others.
+    /// Returns the first of them and the others, or `None` if there is none.
     #[inline(always)]
     pub(crate) fn split_first(&self) -> Option<(Deed, LastDeeds<'a>)>
         ensures { MatchOption result (self.now ≡ []) (λ r. self.now ≡ r.0 ∷ r.1) }

@@ -60,7 +60,7 @@ impl<T: OnPath> Regrouping<T> {
         }
     }
 
-    /// Empties the lists, and makes room for so many tasks in each.
+    /// Empties the lists. Makes room for `count` living tasks and for `spawned` waiting ones.
     pub fn reserve(&mut self, count: usize, spawned: usize) -> Result<(), AllocError>
         ensures empty { (self.new.living.items ≡ []) × (self.new.waiting.items ≡ []) }
         ensures room { OnOk result ((count ≤ vec_capacity self.new.living) × (spawned ≤ vec_capacity self.new.waiting)) }
@@ -136,7 +136,7 @@ fn let_wait<T: OnPath>(waiting: &mut Vec<T>, spawns: &mut Vec<T>, count: usize)
     waiting[from..].reverse();
 }
 
-// Whether a task comes before the bound, if there is one.
+// Returns true if a task comes before the bound, or if there is no bound.
 fn is_inside<T: OnPath>(task: &T, bound: &Option<Path>) -> bool
     ensures { IsTrue result → IsBefore T.path_of (option_map (λ p. p.items) bound.now) task.now }
 {
@@ -146,7 +146,8 @@ fn is_inside<T: OnPath>(task: &T, bound: &Option<Path>) -> bool
     }
 }
 
-// Whether a task comes before the next one: the last of these. If there is none, whether it comes before the bound.
+// Returns true if a task comes before the next one, which is the last of these. If there is none, returns true if the task
+// comes before the bound.
 fn is_early<T: OnPath>(task: &T, tasks: &[T], bound: &Option<Path>) -> bool
     ensures { IsTrue result → IsBeforeNext T.path_of (option_map (λ p. p.items) bound.now) (reverse tasks.now) task.now }
 {
@@ -230,7 +231,7 @@ fn put_next<T: OnPath>(
     }
 }
 
-// The tasks that go on and those that they spawned, in path order; those after the bound wait. The lists of tasks and of
+// Puts the tasks that go on and those that they spawned in path order; those after the bound wait. The lists of tasks and of
 // spawned tasks are read from their ends.
 fn put_in_order<T: OnPath>(
     tasks: &mut Vec<T>,
@@ -264,7 +265,7 @@ fn put_in_order<T: OnPath>(
     move_within(living, waiting, bound);
 }
 
-// Whether the sum of `count` and `others` is at most `most`.
+// Returns true if the sum of `count` and `others` is at most `most`.
 #[inline(always)]
 fn fit(count: usize, others: usize, most: usize) -> bool
     ensures { IsTrue result ↔ (count + others ≤ most) }
@@ -272,7 +273,7 @@ fn fit(count: usize, others: usize, most: usize) -> bool
     count <= most && others <= most - count
 }
 
-// How many tasks stopped, with one task more.
+// Returns the number of tasks that stopped, with one task more, which stopped unless `synced` is true.
 #[inline(always)]
 fn with_one(stopped: usize, synced: bool) -> usize
     requires { stopped < 18446744073709551615 }
@@ -340,7 +341,7 @@ impl<T: OnPath> Deeds<T> {
         Ok(())
     }
 
-    /// The fault of the task whose put is at this place of the log. `None` if fewer were made.
+    /// Returns the fault of the task whose put is at this place of the log. `None` if fewer were made.
     pub fn blame_at(&self, tasks: &[T], place: usize) -> Option<Blame>
         ensures { result ≡ option_map told_at (maker T.path_of tasks.now self.now place) }
     {
@@ -361,7 +362,7 @@ impl<T: OnPath> Deeds<T> {
         None
     }
 
-    /// Whether at most `most` tasks live on: those that go on, and those that were spawned.
+    /// Returns true if at most `most` tasks live on: those that go on, and those that were spawned.
     pub fn are_few(&self, most: u32) -> bool
         ensures { IsTrue result ↔ (length self.now + spawned_in self.now ≤ most + left_in self.now) }
     {
@@ -375,7 +376,7 @@ impl<T: OnPath> Deeds<T> {
         fit(stay, spawned, most)
     }
 
-    /// The record of the superstep in which tasks did this.
+    /// Returns the record of the superstep in which tasks did this.
     pub fn record(&self, step: u32) -> PhaseRecord
         requires { length self.now + spawned_in self.now < 2 ^ 32 }
         ensures { result ≡ told_in step self.now }
@@ -459,7 +460,7 @@ pub struct Change {
     pub spawned: Vec<Path>,
 }
 
-// The paths of tasks.
+// Returns the paths of tasks.
 fn paths_in<T: OnPath>(alloc: Global, tasks: &[T]) -> Result<Vec<Path>, AllocError>
     ensures { IfOk result (λ paths. map (λ p. p.items) paths.items ≡ map T.path_of tasks.now) }
 {
@@ -472,7 +473,7 @@ fn paths_in<T: OnPath>(alloc: Global, tasks: &[T]) -> Result<Vec<Path>, AllocErr
     Ok(paths)
 }
 
-// What each task did to the list of tasks.
+// Returns what each task did to the list of tasks.
 fn changes_of<T: OnPath>(
     alloc: Global,
     each: LastDeeds<'_>,
@@ -498,7 +499,7 @@ fn changes_of<T: OnPath>(
     Ok(changes)
 }
 
-// How many puts were made, unless that number is too large to be kept.
+// Returns the number of puts that were made, or `None` if it is too large to be kept.
 fn count_puts(each: LastDeeds<'_>) -> Option<usize>
     ensures { IfSome result (λ count. count ≡ made_by each.entry) }
 {
@@ -512,42 +513,42 @@ fn count_puts(each: LastDeeds<'_>) -> Option<usize>
 }
 
 impl<T: OnPath> Deeds<T> {
-    /// Whether the same tasks live on: nobody stopped, and nobody was spawned.
+    /// Returns true if the same tasks live on: nobody stopped, and nobody was spawned.
     pub fn all_stay(&self) -> bool
         ensures { IsTrue result ↔ ((left_in self.now ≡ 0) × (spawned_in self.now ≡ 0)) }
     {
         self.spawns.is_empty() && self.stopped == 0
     }
 
-    /// What each task did to the list of tasks.
+    /// Returns what each task did to the list of tasks.
     pub fn changes(&self, alloc: Global) -> Result<Vec<Change>, AllocError>
         ensures { IfOk result (λ changes. map change_of changes.items ≡ map (change_in T.path_of) self.now) }
     {
         changes_of(alloc, self.each.all(), self.each.len(), &self.spawns)
     }
 
-    /// How many tasks stopped.
+    /// Returns the number of tasks that stopped.
     pub fn left(&self) -> usize
         ensures { result ≡ left_in self.now }
     {
         self.stopped
     }
 
-    /// How many tasks were spawned.
+    /// Returns the number of tasks that were spawned.
     pub fn spawned(&self) -> usize
         ensures { result ≡ spawned_in self.now }
     {
         self.spawns.len()
     }
 
-    /// How many puts they made. `None` if that number is too large to be kept.
+    /// Returns the number of puts that they made. `None` if that number is too large to be kept.
     pub fn put_count(&self) -> Option<usize>
         ensures { IfSome result (λ count. count ≡ made_in self.now) }
     {
         count_puts(self.each.all())
     }
 
-    /// How many tasks did something.
+    /// Returns the number of tasks that did something.
     pub fn len(&self) -> usize
         ensures { result ≡ length self.now }
     {

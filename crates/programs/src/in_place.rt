@@ -68,7 +68,7 @@ fn keep<T: OnPath>(
     deeds.push(synced, puts, &mut work.spawns)
 }
 
-// How many puts a task has made: those that the log holds beyond what was noted. Notes how many it holds.
+// Returns how many puts a task has made: those that the log holds beyond what was noted. Notes how many it holds.
 #[inline(always)]
 fn made<T>(work: &Work<T>, logged: &mut usize) -> usize
     requires more { logged.old ≤ length work.now.puts }
@@ -80,10 +80,10 @@ fn made<T>(work: &Work<T>, logged: &mut usize) -> usize
     *logged - before
 }
 
-// Does the segment of a task, which goes on in its place, and keeps what it did after what others did: its puts in `work`,
-// which held `logged` before and holds so many then, its prints and its deed; the buffers are empty again. Or returns the code
-// of its fault; then nothing was printed, and what else `work`, the deeds and the task hold means nothing, except the task's
-// path.
+// Does the segment of a task, which goes on in its place, and keeps what it did after what others did: its puts in `work`, its
+// prints and its deed; the buffers are empty again. `logged` is the number of puts in `work`, before and after. Or returns the
+// code of its fault; then nothing was printed, and what else `work`, the deeds and the task hold means nothing, except the
+// task's path.
 #[inline(always)]
 fn do_one<P: Program>(
     alloc: Global,

@@ -58,7 +58,7 @@ fn no_space<T: OnPath>(alloc: Global) -> Space<T> {
     }
 }
 
-// Whether the same tasks live on.
+// Returns true if the same tasks live on.
 fn all_stay(told: PhaseRecord) -> bool
     ensures { IsTrue result ↔ ((told.left ≡ 0) × (told.spawned ≡ 0)) }
 {
@@ -84,7 +84,7 @@ fn make_room<T: OnPath>(
     room.reserve(count, told.spawned as usize)
 }
 
-// Replaces the tasks by those that live on. Only where tasks came or left they are moved. It takes no memory.
+// Replaces the tasks by those that live on. Moves them only if tasks came or left. Doesn't allocate.
 fn renew<T: OnPath>(
     tasks: &mut Vec<T>,
     deeds: &mut Deeds<T>,
@@ -110,7 +110,7 @@ fn renew<T: OnPath>(
     }
 }
 
-// Records what the tasks did, whose log has landed, and goes on to the next live tasks. It takes no memory.
+// Records what the tasks did, whose log has landed, and goes on to the next live tasks. Doesn't allocate.
 fn go_on<T: OnPath>(course: &mut Course<T>, space: &mut Space<T>, told: PhaseRecord)
     requires same { length course.old.tasks.items ≡ length space.old.deeds }
     requires left { told.left ≡ left_in space.old.deeds }
@@ -218,7 +218,7 @@ impl<T: OnPath> Model for Steps<T> {
     ghost invariant = { λ s. (s.most < 2 ^ 31) × (length s.course.tasks.items ≤ s.most) × (s.course.step ≤ s.limit) };
 }
 
-// What a run leaves that ended so.
+// Returns what a run that ended so leaves.
 fn leave<T: OnPath>(course: Course<T>, status: JobStatus) -> Ran<T>
     requires { IsShort (status_seen status) }
     ensures report { result.report ≡ record { prints = course.prints.items; records = course.records.items; arrays = course.arrays; status = status_seen status } }
@@ -409,7 +409,7 @@ impl<T: OnPath> Steps<T> {
         Some(leave(course, status))
     }
 
-    /// Returns what a run leaves that ends here, as at a limit of so many supersteps.
+    /// Returns what a run that ends here leaves, as at a limit equal to the number of supersteps that it has taken.
     pub fn stop(self) -> Ran<T>
         ensures report { result.report ≡ left_by self (Limit self.step) }
         ensures tasks { result.tasks.items ≡ self.tasks }

@@ -11,8 +11,8 @@ pub trait Watch {
     /// When it may let a superstep begin: always, unless it says more.
     ghost goes: { ℕ → List (List ℕ × List ℤ) → ℕ → Type 0 } = { λ step arrays tasks. Unit {0} };
 
-    /// Is called before each superstep, with its number from 0, the arrays, and how many tasks live. Returns `false` to stop the
-    /// run there: it then ends as at a limit of so many supersteps.
+    /// Is called before each superstep, with its number from 0, the arrays, and how many tasks live. Returns `false` to stop
+    /// the run there: it then ends as at a limit of `step` supersteps.
     fn goes_on(&mut self, step: u32, arrays: &Arrays, tasks: usize) -> bool
         ensures stops { result ≡ false → stops step arrays.now tasks }
         ensures goes { result ≡ true → goes step arrays.now tasks };

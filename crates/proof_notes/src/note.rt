@@ -26,7 +26,7 @@ impl<A, B> Notes<A, B> {
         Notes { of: PhantomData }
     }
 
-    /// What is noted, and after it what these two are.
+    /// Returns what is noted, and after it what these two are.
     pub fn and(&self, first: &A, second: &B) -> Notes<A, B>
         ensures { result.items ≡ self.now.items ++ (first.now, second.now) ∷ [] }
     {

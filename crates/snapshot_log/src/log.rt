@@ -129,7 +129,7 @@ impl<X: Drop> Writer<X> {
         }
     }
 
-    /// What the log is now.
+    /// Returns a snapshot of what the log is now.
     pub fn snapshot(&mut self, log: &Log<X>) -> Snapshot<X>
         requires { self.old.name ≡ log.now }
         ensures same { self.new ≡ self.old }

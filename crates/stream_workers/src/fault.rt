@@ -22,7 +22,7 @@ pub enum Unstreamed {
     NotStarted(u32),
 }
 
-/// Why a run doesn't end that workers refused when the lines of `written` supersteps were written.
+/// Returns why a run that workers refused doesn't end, after the lines of `written` supersteps were written.
 pub(crate) fn why_unstreamed(refused: Refused, written: u32) -> Unstreamed
     ensures streams { (workers limit : ℕ) (p : Program) (old new : Option (List ℕ)) → IsOfWorkers workers refused → Appends old new (lines_of p limit written)
         → StreamsOn workers p limit old new (Err result) }

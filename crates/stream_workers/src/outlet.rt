@@ -43,7 +43,7 @@ impl<'w, W: CountedWrite, J: Streaming> Model for Outlet<'w, W, J> {
 }
 
 impl<'w, W: CountedWrite, J: Streaming> Outlet<'w, W, J> {
-    /// The writer as the run begins.
+    /// Creates the writer as the run begins.
     pub(crate) fn new(lent: Lent<'w, W>, job: &'w Job, limit: u32) -> Self
         requires writer { lent.writer.ghost_name ≡ J.writer }
         requires job { job.now ≡ J.job }

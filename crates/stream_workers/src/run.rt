@@ -159,7 +159,7 @@ fn stream_begun<
     ended
 }
 
-// The same with a writer that is handed back. Sets how the run ended.
+// Does the same with a writer that is handed back. Sets how the run ended.
 fn stream_lent<
     'w,
     't,

@@ -11,7 +11,7 @@ use superstep_memory::path::Path;
 // The most tasks of a stretch.
 const MOST_TASKS: usize = 512;
 
-/// How many tasks each of about `pieces` stretches has.
+/// Returns how many tasks each of about `pieces` stretches has.
 pub(crate) fn size_for(count: usize, pieces: usize) -> usize
     requires { 1 ≤ pieces }
     ensures { 1 ≤ result }
@@ -74,8 +74,8 @@ pub(crate) fn cut_off<T: OnPath>(
     }
 }
 
-// Sets the bound of a stretch to the path of the first task behind it. Returns the path of its own first task, if it has one, else
-// that path.
+// Sets the bound of a stretch to the path of the first task after it. Returns the path of its own first task, if it has one,
+// else that path.
 fn bound_one<T: OnPath>(slot: &mut Option<Part<T>>, low: Option<Path>) -> Option<Path>
     ensures { slot.new ≡ slot.old }
 {
@@ -93,7 +93,7 @@ fn bound_one<T: OnPath>(slot: &mut Option<Part<T>>, low: Option<Path>) -> Option
     }
 }
 
-/// Sets the bound of each stretch to the path of the first task behind it.
+/// Sets the bound of each stretch to the path of the first task after it.
 pub(crate) fn set_bounds<T: OnPath>(parts: &mut Vec<Option<Part<T>>>)
     ensures { parts.new.items ≡ parts.old.items }
 {

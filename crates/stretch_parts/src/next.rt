@@ -22,7 +22,7 @@ struct Piece<T: OnPath> {
     tasks: Vec<T>,
 }
 
-// Whether there is a stray, and the first of them comes before this path, if there is one.
+// Returns true if there is a stray, and the first of them comes before this path or there is no path.
 fn is_first_below<T: OnPath>(strays: &[T], low: &Option<Path>) -> bool
     ensures below { result ≡ true → IsFirstBefore T.path_of (option_map (λ p. p.items) low.now) (reverse strays.now) }
     ensures all { result ≡ false → low.now ≡ None → strays.now ≡ [] }
@@ -36,7 +36,7 @@ fn is_first_below<T: OnPath>(strays: &[T], low: &Option<Path>) -> bool
     }
 }
 
-// Whether a task comes after this path, if there is one.
+// Returns true if there is a path, and a task comes after it.
 fn is_above<T: OnPath>(task: &T, low: &Option<Path>) -> bool
     ensures { result ≡ false → IsWithin T.path_of (option_map (λ p. p.items) low.now) task.now }
 {
@@ -97,7 +97,7 @@ fn keep_early<T: OnPath>(
     Ok(())
 }
 
-// Whether the first of these strays doesn't come after the last of these tasks. `false` if there are no strays or no tasks.
+// Returns true if the first of these strays doesn't come after the last of these tasks. `false` if there are no strays or no tasks.
 fn is_stray_next<T: OnPath>(tasks: &[T], strays: &[T]) -> bool
     ensures stray { result ≡ true → IsStrayNext T.path_of (reverse tasks.now) (reverse strays.now) }
     ensures task { result ≡ false → PassesBy T.path_of (reverse tasks.now) (reverse strays.now) }
@@ -150,7 +150,7 @@ fn receive<T: OnPath>(
     Ok(())
 }
 
-// The same for the tasks of a piece.
+// Does the same for the tasks of a piece.
 fn receive_in<T: OnPath>(
     alloc: Global,
     piece: &mut Piece<T>,
@@ -200,7 +200,7 @@ fn place<T: OnPath>(
     add_all(&mut pieces[0], strays)
 }
 
-// The path of the first task of pieces, of which the last comes first.
+// Returns the path of the first task of pieces, of which the last comes first, if there is one.
 fn first_in<T: OnPath>(pieces: &[Piece<T>]) -> Option<Path>
     ensures { option_map (λ p. p.items) result ≡ slice_get (map T.path_of (all_in pieces.now)) 0 }
 {
@@ -226,7 +226,7 @@ fn put_front<T: OnPath>(piece: &mut Piece<T>, tasks: Vec<T>) -> Result<(), Alloc
     Ok(())
 }
 
-// Whether a list of tasks is joined with the tasks behind it: one has none, or they are at most `most` together.
+// Returns true if a list of tasks is joined with the tasks after it: one has none, or they are at most `most` together.
 fn are_joined<T: OnPath>(tasks: &[T], behind: &[T], most: usize) -> bool {
     if tasks.is_empty() || behind.is_empty() {
         return true;
@@ -234,7 +234,7 @@ fn are_joined<T: OnPath>(tasks: &[T], behind: &[T], most: usize) -> bool {
     tasks.len() <= most && behind.len() <= most - tasks.len()
 }
 
-// Adds a piece in front of others, or its tasks to the one behind it, if these are few.
+// Adds a piece in front of others, or its tasks to the one after it, if these are few.
 fn push_piece<T: OnPath>(
     pieces: &mut Vec<Piece<T>>,
     piece: Piece<T>,
@@ -276,7 +276,7 @@ fn add_part<T: OnPath>(
     push_piece(pieces, Piece { part, tasks }, most)
 }
 
-// The next live tasks of all stretches, in pieces, of which the last comes first.
+// Returns the next live tasks of all stretches, in pieces, of which the last comes first.
 fn next_pieces<T: OnPath>(
     alloc: Global,
     parts: Vec<Option<Part<T>>>,
@@ -296,7 +296,7 @@ fn next_pieces<T: OnPath>(
     Ok(pieces)
 }
 
-// How many tasks a stretch has at most before it is cut, if each is to have about this many.
+// Returns how many tasks a stretch has at most before it is cut, if each is to have about `size`.
 fn most_for(size: usize) -> usize
     requires { 1 ≤ size }
     ensures { size ≤ result }
@@ -337,9 +337,9 @@ fn make_parts<T: OnPath>(
     Ok(parts)
 }
 
-/// Makes the stretches of the next superstep, in which `count` tasks live, of stretches in which tasks came or left. Where no task
-/// came or left they stay as they are, but those over twice the size of `pieces` equal ones are cut, and those under half of it
-/// joined.
+/// Makes the stretches of the next superstep, in which `count` tasks live, of stretches in which tasks came or left. Those in
+/// which no task came or left stay as they are, but those over twice the size of `pieces` equal ones are cut, and those under
+/// half of it joined.
 pub fn next_parts<T: OnPath>(
     alloc: Global,
     parts: Vec<Option<Part<T>>>,

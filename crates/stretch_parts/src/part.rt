@@ -76,7 +76,7 @@ impl<T: OnPath> Model for Part<T> {
     ghost invariant = { IsPartInside T.path_of };
 }
 
-/// Copies a blame. It takes no memory.
+/// Copies a blame. Doesn't allocate.
 pub fn blame_again(blame: &Blame) -> Blame
     ensures { result ≡ blame.now }
 {
@@ -138,7 +138,7 @@ impl<T: OnPath> Part<T> {
         self
     }
 
-    /// How many tasks it has, or had when they ran.
+    /// Returns the number of tasks that it has, or had when they ran.
     pub fn len(&self) -> usize
         ensures { result ≡ length self.now.tasks }
     {
@@ -148,21 +148,21 @@ impl<T: OnPath> Part<T> {
         }
     }
 
-    /// The place of its first task among the live ones.
+    /// Returns the place of its first task among the live ones.
     pub fn first(&self) -> usize
         ensures { result ≡ self.now.first }
     {
         self.state.first
     }
 
-    /// Whether its tasks have run.
+    /// Returns true if its tasks have run.
     pub fn is_done(&self) -> bool
         ensures { result ≡ self.now.done }
     {
         self.state.done
     }
 
-    /// The path of its first task, if it has one.
+    /// Returns the path of its first task, if it has one.
     pub fn first_path(&self) -> Option<Path>
         ensures { option_map (λ p. p.items) result ≡ slice_get (map T.path_of self.now.tasks) 0 }
     {
@@ -172,7 +172,7 @@ impl<T: OnPath> Part<T> {
         }
     }
 
-    /// The path of the task at this place in it, if it has one. Fails if it is settled.
+    /// Returns the path of the task at this place in it, if it has one. Fails if it is settled.
     pub fn path_at(&self, place: usize) -> Result<Option<Path>, AllocError>
         ensures { IfOk result (λ path. option_map (λ p. p.items) path ≡ slice_get (map T.path_of self.now.tasks) place) }
     {
@@ -195,27 +195,27 @@ impl<T: OnPath> Part<T> {
         }
     }
 
-    /// Whether one of its tasks has faulted.
+    /// Returns true if one of its tasks has faulted.
     pub fn has_faulted(&self) -> bool
         ensures { result ≡ is_some self.now.fault }
     {
         self.state.fault.is_some()
     }
 
-    /// How much its tasks computed in the last superstep in which they ran: what they counted, such as statements, and their puts.
-    /// It is 0 if they haven't run yet. Only a hint for whoever shares out stretches, so no clause says what it is.
+    /// Returns how much its tasks computed in the last superstep in which they ran: what they counted, such as statements, and
+    /// their puts. It is 0 if they haven't run yet. Only a hint for whoever shares out stretches, so no clause says what it is.
     pub fn effort(&self) -> u64 {
         self.state.work.effort
     }
 
-    /// How many values it printed.
+    /// Returns the number of values that it printed.
     pub fn print_count(&self) -> usize
         ensures { result ≡ length self.now.prints }
     {
         self.state.prints.len()
     }
 
-    /// How many of its tasks stopped.
+    /// Returns the number of its tasks that stopped.
     pub fn left(&self) -> usize
         ensures { result ≡ left_in self.now.deeds }
     {
@@ -225,7 +225,7 @@ impl<T: OnPath> Part<T> {
         }
     }
 
-    /// How many tasks its tasks spawned.
+    /// Returns the number of tasks that its tasks spawned.
     pub fn spawned(&self) -> usize
         ensures { result ≡ spawned_in self.now.deeds }
     {
@@ -235,7 +235,7 @@ impl<T: OnPath> Part<T> {
         }
     }
 
-    /// Whether the same tasks live on.
+    /// Returns true if the same tasks live on.
     pub fn all_stay(&self) -> bool
         ensures { IsTrue result ↔ ((left_in self.now.deeds ≡ 0) × (spawned_in self.now.deeds ≡ 0)) }
     {
@@ -245,7 +245,8 @@ impl<T: OnPath> Part<T> {
         }
     }
 
-    /// What each of its tasks did to the list of tasks, up to the first fault. Fails if memory runs out, or if it is settled.
+    /// Returns what each of its tasks did to the list of tasks, up to the first fault. Fails if memory runs out, or if it is
+    /// settled.
     pub fn changes(&self, alloc: Global) -> Result<Vec<Change>, AllocError>
         ensures { IfOk result (λ changes. map change_of changes.items ≡ map (change_in T.path_of) self.now.deeds) }
     {
@@ -255,7 +256,7 @@ impl<T: OnPath> Part<T> {
         }
     }
 
-    /// Whether none of its puts adds.
+    /// Returns true if none of its puts adds.
     pub fn are_sets(&self) -> bool
         ensures { result ≡ list_all is_set self.now.puts }
     {
@@ -305,7 +306,7 @@ impl<T: OnPath> Part<T> {
         }
     }
 
-    /// The same tasks before their segments of the next superstep, if all of them live on.
+    /// Resets it to the same tasks before their segments of the next superstep. All of them must live on.
     pub fn renew(&mut self)
         requires { (left_in self.old.deeds ≡ 0) × (spawned_in self.old.deeds ≡ 0) }
         ensures { self.new ≡ fresh_part self.old.first self.old.tasks }
@@ -322,7 +323,7 @@ impl<T: OnPath> Part<T> {
         forget(state);
     }
 
-    /// How many puts its tasks made, by their deeds. `None` if that number is too large to be kept.
+    /// Returns how many puts its tasks made, by their deeds. `None` if that number is too large to be kept.
     pub fn put_count(&self) -> Option<usize>
         ensures { IfSome result (λ count. count ≡ made_in self.now.deeds) }
     {
@@ -332,7 +333,7 @@ impl<T: OnPath> Part<T> {
         }
     }
 
-    /// The fault of the task that made the put at this place of its puts. `None` if fewer were made, or if it is settled.
+    /// Returns the fault of the task that made the put at this place of its puts. `None` if fewer were made, or if it is settled.
     pub fn blame_at(&self, place: usize) -> Option<Blame>
         ensures { IfSome result (λ blame. Some blame ≡ option_map told_at (maker T.path_of self.now.tasks self.now.deeds place)) }
     {
@@ -361,8 +362,8 @@ impl<T: OnPath> Part<T> {
         settle_state(&mut self.state)
     }
 
-    /// Takes the next live tasks out of it, in path order. The last of them, which may come after live tasks behind it, are put into
-    /// a list, the first by path last.
+    /// Takes the next live tasks out of it, in path order. The last of them, which may come after live tasks of the stretches
+    /// after it, are put into a list, the first by path last.
     pub fn take_next(&mut self, alloc: Global, strays: &mut Vec<T>) -> Result<Vec<T>, AllocError>
         requires done { self.old.done ≡ true }
         requires same { length self.old.tasks ≡ length self.old.deeds }
@@ -393,7 +394,7 @@ fn path_again(path: &Option<Path>) -> Option<Path>
     }
 }
 
-/// The path of the first of these tasks, if there is one.
+/// Returns the path of the first of these tasks, if there is one.
 pub(crate) fn first_of<T: OnPath>(tasks: &[T]) -> Option<Path>
     ensures path { option_map (λ p. p.items) result ≡ slice_get (map T.path_of tasks.now) 0 }
     ensures short { IfSome result (λ p. length p.items ≤ 8) }

@@ -15,7 +15,7 @@ use programs::program::OnPath;
 use std::alloc::{AllocError, Global};
 use superstep_memory::puts::Puts;
 
-// Whether a stretch begins at this place, has run or not as said, and goes no further than to the end.
+// Returns true if a stretch begins at place `at`, has run or not as `done` says, and goes no further than to `end`.
 fn is_at<T: OnPath>(part: &Part<T>, done: bool, at: usize, end: usize) -> bool
     requires { at ≤ end }
     ensures { result ≡ ((part.now.first == at) && is_done done part.now.done && nat_le (at + length part.now.tasks) end) }
@@ -23,7 +23,7 @@ fn is_at<T: OnPath>(part: &Part<T>, done: bool, at: usize, end: usize) -> bool
     part.first() == at && part.is_done() == done && part.len() <= end - at
 }
 
-/// Whether these stretches are all there, have run or not as said, and follow one another up to this place.
+/// Returns true if these stretches are all there, have run or not as `done` says, and follow one another up to `end`.
 pub fn cover<T: OnPath>(parts: &[Option<Part<T>>], done: bool, end: usize) -> bool
     ensures { result ≡ covers done end 0 parts.now }
 {
@@ -43,7 +43,7 @@ pub fn cover<T: OnPath>(parts: &[Option<Part<T>>], done: bool, end: usize) -> bo
     at == end
 }
 
-/// The first fault.
+/// Returns the first fault, if there is one.
 pub fn find_fault<T: OnPath>(parts: &[Option<Part<T>>]) -> Option<Blame>
     ensures { result ≡ fault_in parts.now }
 {
@@ -60,7 +60,7 @@ pub fn find_fault<T: OnPath>(parts: &[Option<Part<T>>]) -> Option<Blame>
     None
 }
 
-// How many tasks of this stretch stopped.
+// Returns the number of tasks of this stretch that stopped.
 fn left_by<T: OnPath>(slot: &Option<Part<T>>) -> usize
     ensures { result ≡ left_in (of_slot (λ part. part.deeds) slot.now) }
 {
@@ -70,7 +70,7 @@ fn left_by<T: OnPath>(slot: &Option<Part<T>>) -> usize
     }
 }
 
-// How many tasks those of this stretch spawned.
+// Returns the number of tasks that those of this stretch spawned.
 fn spawned_by<T: OnPath>(slot: &Option<Part<T>>) -> usize
     ensures { result ≡ spawned_in (of_slot (λ part. part.deeds) slot.now) }
 {
@@ -80,7 +80,7 @@ fn spawned_by<T: OnPath>(slot: &Option<Part<T>>) -> usize
     }
 }
 
-/// How many tasks stopped, at most `most`.
+/// Returns the number of tasks that stopped, which is at most `most`.
 pub fn count_left<T: OnPath>(parts: &[Option<Part<T>>], most: usize) -> usize
     requires { left_in (deeds_in parts.now) ≤ most }
     ensures { result ≡ left_in (deeds_in parts.now) }
@@ -95,7 +95,7 @@ pub fn count_left<T: OnPath>(parts: &[Option<Part<T>>], most: usize) -> usize
     count
 }
 
-/// How many tasks were spawned, unless more than `most`.
+/// Returns the number of tasks that were spawned, or `None` if it is more than `most`.
 pub fn count_spawned<T: OnPath>(parts: &[Option<Part<T>>], most: usize) -> Option<usize>
     ensures { MatchOption result (most < spawned_in (deeds_in parts.now)) (λ count. (count ≡ spawned_in (deeds_in parts.now)) × (count ≤ most)) }
 {
@@ -113,7 +113,7 @@ pub fn count_spawned<T: OnPath>(parts: &[Option<Part<T>>], most: usize) -> Optio
     Some(count)
 }
 
-/// How many values were printed, unless that number is too large to be kept.
+/// Returns the number of values that were printed, or `None` if it is too large to be kept.
 pub fn count_prints<T: OnPath>(parts: &[Option<Part<T>>]) -> Option<usize>
     ensures { MatchOption result (18446744073709551615 < length (prints_in parts.now)) (λ count. count ≡ length (prints_in parts.now)) }
 {
@@ -129,7 +129,7 @@ pub fn count_prints<T: OnPath>(parts: &[Option<Part<T>>]) -> Option<usize>
     Some(count)
 }
 
-// Whether no put of this stretch adds.
+// Returns true if no put of this stretch adds.
 fn sets_of<T: OnPath>(slot: &Option<Part<T>>) -> bool
     ensures { result ≡ list_all is_set (of_slot (λ part. part.puts) slot.now) }
 {
@@ -139,7 +139,7 @@ fn sets_of<T: OnPath>(slot: &Option<Part<T>>) -> bool
     }
 }
 
-/// Whether no put adds.
+/// Returns true if no put adds.
 pub fn are_all_sets<T: OnPath>(parts: &[Option<Part<T>>]) -> bool
     ensures { result ≡ list_all is_set (puts_in parts.now) }
 {
@@ -154,8 +154,8 @@ pub fn are_all_sets<T: OnPath>(parts: &[Option<Part<T>>]) -> bool
     true
 }
 
-/// The fault of the task that made the put at this place of all puts. `None` if fewer were made, if their number is too large to be
-/// kept, or if the stretch of the task is settled.
+/// Returns the fault of the task that made the put at this place of all puts. `None` if fewer were made, if their number is too
+/// large to be kept, or if the stretch of the task is settled.
 pub fn find_blame<T: OnPath>(parts: &[Option<Part<T>>], place: usize) -> Option<Blame>
     requires { EachDid parts.now }
     ensures { IfSome result (λ blame. Some blame ≡ option_map told_at (maker T.path_of (tasks_in parts.now) (deeds_in parts.now) place)) }

@@ -27,7 +27,7 @@ pub enum Refused {
 }
 
 impl Refused {
-    /// The number of this refusal.
+    /// Returns the number of this refusal.
     pub fn number(self) -> u32
         ensures { result ≡ refusal_number self }
     {
@@ -61,7 +61,7 @@ pub enum Reason {
 }
 
 impl Reason {
-    /// The refusal that the run returns for this reason.
+    /// Returns the refusal that the run returns for this reason.
     pub fn refusal(self) -> Refused
         ensures told { result ≡ refusal_of self }
         ensures workers { (workers : ℕ) → IsOfWorkers workers result }
@@ -80,7 +80,7 @@ impl From<AllocError> for Reason {
     }
 }
 
-/// The reason to note if a superstep can't be closed. Only memory can be the cause: once all tasks have arrived, each
+/// Returns the reason to note if a superstep can't be closed. Only memory can be the cause: once all tasks have arrived, each
 /// stretch was delivered.
 pub fn reason_of_closing(fault: Unclosed) -> Reason
     ensures { result ≡ closing_reason fault }

@@ -248,7 +248,7 @@ impl<'p, P: Program, J: Running> RanStretch<'p, P, J> {
         stretch.give_up();
     }
 
-    /// The stretch, its pass, the members of its tasks, and how many tasks came and left.
+    /// Returns the stretch, its pass, the members of its tasks, and how many tasks came and left.
     pub fn into_parts(self) -> (Stretch<'p, P>, Pass<()>, Tokens<J>, Moves)
         ensures stretch { result.0 ≡ self.entry }
         ensures done { result.0.part.done ≡ true }

@@ -41,7 +41,7 @@ impl<J: Running> Led<J> {
     }
 }
 
-// The sign, if `led` is true.
+// Returns the sign, if `led` is true.
 fn sign<J: Running>(led: bool) -> Option<Led<J>>
     ensures { is_some result ≡ led }
 {

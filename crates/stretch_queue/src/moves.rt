@@ -25,7 +25,7 @@ pub struct Moves {
     pub at_leaves: Vec<LeafMoves>,
 }
 
-// Returns the number of the leaf of a descendant of a task at leaf `at`, given the numbers of its path behind those of the task.
+// Returns the number of the leaf of a descendant of a task at leaf `at`, given the numbers of its path after those of the task.
 fn leaf_below(leaves: u16, at: usize, path: &[u16]) -> usize
     requires leaves { 1 ≤ leaves }
     requires at { at < leaves }
@@ -70,7 +70,7 @@ impl Moves {
         }
     }
 
-    /// Returns the number of members after these moves, of so many.
+    /// Returns the number of members after these moves, if there were `size` before.
     pub fn size_after(&self, size: usize) -> usize {
         let most = size.saturating_add(self.all.joining as usize);
         most.saturating_sub(self.all.leaving as usize)

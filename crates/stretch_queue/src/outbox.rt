@@ -60,7 +60,7 @@ impl<'p, P: Program, J: Running> DoneStretch<'p, P, J> {
     ghost use Rattle.std.specs.Prelude.{◌≡◌, true};
     ghost use Rattle.stretch_queue.specs.HandedOut.{IsFor};
 
-    /// The stretch, its pass, and how many members it has after this superstep.
+    /// Returns the stretch, its pass, and how many members it has after this superstep.
     pub fn into_parts(self) -> (Stretch<'p, P>, Pass<()>, usize)
         ensures stretch { result.0 ≡ self.entry }
         ensures done { result.0.part.done ≡ true }

@@ -130,7 +130,7 @@ fn numbers_below(alloc: Global, count: usize) -> Result<VecDeque<usize>, AllocEr
     Ok(numbers)
 }
 
-// The numbers of all stretches, which are ready, and the refusal of the run if memory runs out.
+// Returns the numbers of all stretches, which are ready, and the refusal of the run if memory runs out.
 fn begin_ready(
     alloc: Global,
     count: usize,

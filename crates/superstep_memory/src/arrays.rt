@@ -119,7 +119,7 @@ impl Arrays {
         self.add(name, cells)
     }
 
-    /// How many arrays there are.
+    /// Returns the number of arrays.
     pub fn len(&self) -> usize
         ensures count { result ≡ length self.now }
         ensures distinct { IsTrue (are_distinct self.now) }
@@ -127,7 +127,7 @@ impl Arrays {
         self.by_name.len()
     }
 
-    /// The name and the cells of the array at this place, in declared order.
+    /// Returns the name and the cells of the array at this place, in declared order.
     pub fn get(&self, array: usize) -> Option<(&str, &[i64])>
         ensures seen { option_map seen result ≡ slice_get self.now array }
         ensures small { IfSome result (λ a. length a.1.now ≤ 2 ^ 32) }
@@ -136,7 +136,7 @@ impl Arrays {
         Some((name.as_str(), cells.as_slice()))
     }
 
-    /// The value of a cell, if there is such a cell.
+    /// Returns the value of a cell, if there is such a cell.
     pub fn cell(&self, array: u16, index: i64) -> Option<i64>
         ensures { result ≡ cell_at self.now array index }
     {
@@ -145,7 +145,7 @@ impl Arrays {
         cells.get(index).copied()
     }
 
-    /// The number of a cell in its array, if there is such a cell.
+    /// Returns the number of a cell in its array, if there is such a cell.
     pub fn place(&self, array: u16, index: i64) -> Option<u32>
         ensures { result ≡ place_at self.now array index }
     {
@@ -158,14 +158,14 @@ impl Arrays {
         }
     }
 
-    /// Whether the cell of a put exists.
+    /// Returns true if the cell of a put exists.
     pub fn has_cell(&self, put: Put) -> bool
         ensures { result ≡ is_cell self.now put }
     {
         self.place(put.array, i64::from(put.index)).is_some()
     }
 
-    /// What the cell of a put holds, 0 if there is no such cell.
+    /// Returns what the cell of a put holds, or 0 if there is no such cell.
     #[inline(always)]
     pub(crate) fn value_at(&self, put: Put) -> i64
         ensures { result ≡ value_at self.now put.array put.index }
@@ -173,7 +173,7 @@ impl Arrays {
         self.value_in(usize::from(put.array), put.index as usize)
     }
 
-    /// What the cell of this number in the array at this place holds, 0 if there is no such cell.
+    /// Returns what the cell of this number in the array at this place holds, or 0 if there is no such cell.
     #[inline(always)]
     pub(crate) fn value_in(&self, array: usize, index: usize) -> i64
         ensures { result ≡ value_at self.now array index }
@@ -234,7 +234,7 @@ impl Arrays {
         Ok(copy)
     }
 
-    /// Whether the other arrays are the same: names, order and cells.
+    /// Returns true if the other arrays are the same: names, order and cells.
     pub fn same_as(&self, other: &Arrays) -> bool
         ensures { IsTrue result ↔ (self.now ≡ other.now) }
     {
@@ -287,21 +287,21 @@ fn write_cells(cells: &mut Vec<i64>, first: usize, values: &[i64])
     }
 }
 
-// Whether two names are the same.
+// Returns true if two names are the same.
 fn is_same_name(name: &str, other: &str) -> bool
     ensures { IsTrue result ↔ (name.now ≡ other.now) }
 {
     name == other
 }
 
-// Whether two lists of cells are the same.
+// Returns true if two lists of cells are the same.
 fn are_same_cells(cells: &[i64], other: &[i64]) -> bool
     ensures { IsTrue result ↔ (cells.now ≡ other.now) }
 {
     cells == other
 }
 
-// Whether two arrays have the same name and cells.
+// Returns true if two arrays have the same name and cells.
 fn is_same(array: Option<(&str, &[i64])>, other: Option<(&str, &[i64])>) -> bool
     ensures { IsTrue result ↔ (option_map seen array.entry ≡ option_map seen other.entry) }
 {

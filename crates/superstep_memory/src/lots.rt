@@ -43,7 +43,7 @@ impl Lot {
         }
     }
 
-    /// The place of a row that begins at this cell.
+    /// Returns the place of a row that begins at this cell.
     #[inline(always)]
     pub(crate) fn row(array: u16, first: u32) -> Lot
         ensures array { result.array ≡ array }
@@ -59,7 +59,7 @@ impl Lot {
         }
     }
 
-    /// The put of a lot that is one.
+    /// Returns the put of a lot that is one.
     #[inline(always)]
     pub(crate) fn put(self) -> Put
         ensures { result ≡ put_of self }

@@ -34,7 +34,7 @@ fn write_lot<'a>(arrays: &mut Arrays, lot: Lot, rows: &'a [Row]) -> &'a [Row]
     }
 }
 
-/// Lands lots that all set their cells. It takes no memory.
+/// Lands lots that all set their cells. Doesn't allocate.
 pub(crate) fn write_lots(arrays: &mut Arrays, lots: &[Lot], rows: &[Row])
     requires { IsTrue (list_all is_set (puts_in lots.now rows.now)) }
     ensures { arrays.new ≡ landed (puts_in lots.now rows.now) arrays.old }
@@ -47,14 +47,14 @@ pub(crate) fn write_lots(arrays: &mut Arrays, lots: &[Lot], rows: &[Row])
     }
 }
 
-// Whether a row of `count` values, beginning at the place `first`, ends within `cells` cells.
+// Returns true if a row of `count` values, beginning at the place `first`, ends within `cells` cells.
 fn is_within(cells: usize, first: usize, count: usize) -> bool
     ensures { result ≡ nat_le (first + count) cells }
 {
     count <= cells && first <= cells - count
 }
 
-// Whether `count` adjacent cells exist, beginning with the cell `first`.
+// Returns true if `count` adjacent cells exist, beginning with the cell `first`.
 fn is_row_in(arrays: &Arrays, array: u16, first: u32, count: usize) -> bool
     ensures { (vs : List ℤ) → length vs ≡ count → result ≡ list_all (is_cell arrays.now) (row_puts array first vs) }
 {
@@ -67,7 +67,7 @@ fn is_row_in(arrays: &Arrays, array: u16, first: u32, count: usize) -> bool
     }
 }
 
-// Whether the cells of a lot exist.
+// Returns true if the cells of a lot exist.
 fn is_lot_in(arrays: &Arrays, lot: Lot, rows: &[Row]) -> bool
     ensures { result ≡ list_all (is_cell arrays.now) (puts_of lot rows.now) }
 {
@@ -80,7 +80,7 @@ fn is_lot_in(arrays: &Arrays, lot: Lot, rows: &[Row]) -> bool
     }
 }
 
-// The rows that are left after a lot.
+// Returns the rows that are left after a lot.
 #[inline(always)]
 fn after_lot<'a>(lot: Lot, rows: &'a [Row]) -> &'a [Row]
     ensures { result.now ≡ rows_after lot rows.now }
@@ -94,7 +94,7 @@ fn after_lot<'a>(lot: Lot, rows: &'a [Row]) -> &'a [Row]
     }
 }
 
-/// Whether the cells of each of these exist.
+/// Returns true if the cells of each of these exist.
 pub(crate) fn are_all_in(arrays: &Arrays, lots: &[Lot], rows: &[Row]) -> bool
     ensures { result ≡ list_all (is_cell arrays.now) (puts_in lots.now rows.now) }
 {

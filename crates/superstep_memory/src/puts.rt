@@ -53,7 +53,7 @@ fn note_kind(sets: &mut bool, put: Put)
     }
 }
 
-// The sum, if it is at most `MOST_MORE`.
+// Returns the sum, if it is at most `MOST_MORE`.
 fn add_more(more: usize, others: usize) -> Result<usize, AllocError>
     requires { more ≤ 4611686018427387904 }
     ensures sum { IfOk result (λ sum. sum ≡ more + others) }
@@ -65,7 +65,7 @@ fn add_more(more: usize, others: usize) -> Result<usize, AllocError>
     Ok(more + others)
 }
 
-// Whether both hold.
+// Returns true if both hold.
 #[inline(always)]
 fn both(one: bool, other: bool) -> bool
     ensures { result ≡ (one && other) }
@@ -100,7 +100,7 @@ impl Puts {
         self.sets = true;
     }
 
-    /// How many puts there are. A row counts as many as it has values.
+    /// Returns the number of puts. A row counts as many as it has values.
     #[inline(always)]
     pub fn len(&self) -> usize
         ensures { result ≡ length self.now }
@@ -108,7 +108,7 @@ impl Puts {
         self.lots.len() + self.more
     }
 
-    /// Whether there are none.
+    /// Returns true if there are no puts.
     pub fn is_empty(&self) -> bool
         ensures { result ≡ true ↔ self.now ≡ [] }
     {
@@ -123,7 +123,7 @@ impl Puts {
         list_of(alloc, &self.lots, &self.rows)
     }
 
-    /// Whether none of them adds, so that no sum can overflow. It takes no time.
+    /// Returns true if none of them adds, so that no sum can overflow. It takes no time.
     #[inline(always)]
     pub fn are_sets(&self) -> bool
         ensures { result ≡ list_all is_set self.now }
@@ -238,7 +238,7 @@ impl Puts {
         Ok(())
     }
 
-    /// Whether the cell of each put exists.
+    /// Returns true if the cell of each put exists.
     pub fn are_in(&self, arrays: &Arrays) -> bool
         ensures { result ≡ list_all (is_cell arrays.now) self.now }
     {
@@ -268,7 +268,7 @@ impl Puts {
         land_adds(arrays, &self.lots, &self.rows, self.len(), olds)
     }
 
-    /// Lands puts that don't add, one after another. A put to no cell is left out. It takes no memory.
+    /// Lands puts that don't add, one after another. A put to no cell is left out. Doesn't allocate.
     pub fn land_sets(&self, arrays: &mut Arrays)
         requires { IsTrue (list_all is_set self.now) }
         ensures { arrays.new ≡ landed self.now arrays.old }

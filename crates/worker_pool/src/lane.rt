@@ -109,7 +109,7 @@ impl<'p, P: TaskLoop, H: Hook<P>, J: Running> Lane<'p, P, H, J> {
     }
 }
 
-/// Makes the lanes of so many workers.
+/// Makes the lanes of `workers` workers.
 pub(crate) fn lanes_for<'p, P: TaskLoop, H: Hook<P>, J: Running>(
     alloc: Global,
     workers: u32,
@@ -153,7 +153,7 @@ pub(crate) fn take_of_fullest<'p, P: TaskLoop, H: Hook<P>, J: Running, R: Wait>(
     unreachable!()
 }
 
-/// Returns the number after those of the stretches of worker `k`, of so many workers, if there are `count` stretches.
+/// Returns the number after those of the stretches of worker `k`, of `workers` workers, if there are `count` stretches.
 pub(crate) fn end_of(count: usize, k: usize, workers: usize) -> usize
     requires { k < workers }
     ensures all { k + 1 ≡ workers → result ≡ count }

@@ -28,7 +28,7 @@ impl<J: Running> Leaves<J> {
         }
     }
 
-    /// The number of leaves.
+    /// Returns the number of leaves.
     pub(crate) fn count(&self) -> u16
         ensures count { result ≡ length (leaves_of J.tree.key.shape) }
         ensures some { 1 ≤ result }
@@ -39,7 +39,7 @@ impl<J: Running> Leaves<J> {
         }
     }
 
-    /// The tier of the leaf with this number.
+    /// Returns the tier of the leaf with this number.
     pub(crate) fn tier(&self, number: usize) -> u16
         ensures leaf { result ≡ leaf_at (leaves_of J.tree.key.shape) number }
         ensures within { result < length J.tree.key.shape }

@@ -31,7 +31,7 @@ fn word_of<P: TaskLoop, H: Hook<P>, J: Running>(queue: &Queue<'_, '_, P, H, J>) 
 }
 
 impl Published {
-    /// The first superstep.
+    /// Creates the state of the first superstep.
     pub(crate) fn new() -> Self {
         Published {
             word: AtomicU64::new(0),

@@ -65,14 +65,14 @@ struct Opening<F: Fn(u32, u32) -> bool> {
     lists: Lists,
 }
 
-// The barrier's action: it does nothing and never fails.
+// Does nothing and never fails: the barrier's action.
 fn do_nothing(_generation: u64) -> bool
     ensures { result ≡ false }
 {
     false
 }
 
-// The barrier at which workers wait for each other before they begin.
+// Creates the barrier at which workers wait for each other before they begin.
 fn barrier_for<A: Fn(u64) -> bool + Drop>(
     alloc: Global,
     workers: u32,
@@ -87,7 +87,7 @@ fn barrier_for<A: Fn(u64) -> bool + Drop>(
     }
 }
 
-// How many of `count` start tasks each leaf gets: start task i has the leaf with number i, modulo the number of leaves.
+// Returns how many of `count` start tasks each leaf gets: start task i has the leaf with number i, modulo the number of leaves.
 fn start_counts(alloc: Global, leaves: usize, count: usize) -> Result<Vec<u32>, AllocError>
     requires leaves { 1 ≤ leaves }
     requires count { count ≤ 65536 }
@@ -101,7 +101,7 @@ fn start_counts(alloc: Global, leaves: usize, count: usize) -> Result<Vec<u32>, 
     Ok(counts)
 }
 
-// Why a tree doesn't begin with the members of the start tasks.
+// Returns why a tree doesn't begin with the members of the start tasks.
 fn refusal_of_start(fault: Unregistered) -> Refused
     ensures { (workers : ℕ) → IsOfWorkers workers result }
 {
@@ -112,7 +112,7 @@ fn refusal_of_start(fault: Unregistered) -> Refused
     }
 }
 
-// What the tree is made with: its leaves, how many start tasks each gets, and the lists of passes.
+// Returns what the tree is made with: its leaves, how many start tasks each gets, and the lists of passes.
 fn prepared(
     alloc: Global,
     shape: &Shape,
@@ -162,7 +162,7 @@ fn opening_of<R: Wait, F: Fn(u32, u32) -> bool + Drop>(
     }
 }
 
-// The members of the start tasks, as those of the run.
+// Returns the members of the start tasks, as those of the run.
 fn bundles_of<J: Running>(
     alloc: Global,
     mut groups: Vec<Group>,
@@ -176,7 +176,7 @@ fn bundles_of<J: Running>(
     Ok(bundles)
 }
 
-// The members of the start tasks, by the number of their stretch.
+// Returns the members of the start tasks, by the number of their stretch.
 fn tokens_of<P: TaskLoop, J: Running, F: Fn(u32, u32) -> bool>(
     alloc: Global,
     stretches: &Stretches<'_, '_, P>,
@@ -379,7 +379,7 @@ pub fn stretches_wanted<G: Gate>(gate: &G, workers: u32) -> usize
     }
 }
 
-// How often a worker spins before it sleeps or calls the tree.
+// Returns how often a worker spins before it sleeps or calls the tree.
 fn spins_of<R: Threads>(rt: &R, workers: u32) -> u32 {
     match thread::available_parallelism(rt) {
         Ok(count) if workers as usize <= count.get() => MOST_SPINS,

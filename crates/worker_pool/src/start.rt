@@ -51,8 +51,8 @@ fn call_off<
     stopped
 }
 
-// What a started worker does: it waits for the others at the barrier, then works. If it runs out of memory there, it
-// stops the others. If the barrier is broken, a worker has noted why before, and this one stops as soon as it sees the note.
+// Does what a started worker does: it waits for the others at the barrier, then works. If it runs out of memory there, it stops
+// the others. If the barrier is broken, a worker has noted why before, and this one stops as soon as it sees the note.
 fn wait_and_work<
     P: TaskLoop,
     H: Hook<P>,

@@ -108,7 +108,7 @@ impl<J: Running, F: Fn(u32, u32) -> bool> WorkerTree<J, F> {
         WorkerTree { phaser, leaves }
     }
 
-    /// The number of leaves.
+    /// Returns the number of leaves.
     pub(crate) fn leaf_count(&self) -> u16
         ensures some { 1 ≤ result }
     {
@@ -433,7 +433,7 @@ impl<J: Running, F: Fn(u32, u32) -> bool> WorkerTree<J, F> {
         Bundle::new(self.phaser.split_group(&mut bundle.group, count))
     }
 
-    // Takes so many members of the last groups.
+    // Takes `count` members of the last groups.
     fn take_members(
         &self,
         alloc: Global,
