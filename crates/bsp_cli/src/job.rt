@@ -200,7 +200,8 @@ pub(crate) fn run_status<T: Wait, P: Progress>(
     Ok(number)
 }
 
-// What a job leaves within this limit of supersteps that workers share, with this gate before and after each segment.
+// Runs a job on `workers` workers at a tree of this shape, with this gate before and after each segment. Returns what the job
+// leaves within `limit` supersteps.
 fn share<T: Threads + Wait + Sync, G: Gate + Sync>(
     rt: &T,
     alloc: Global,

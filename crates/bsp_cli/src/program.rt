@@ -196,7 +196,7 @@ fn tell_why<T: AllocGlobal + Eprint>(
     }
 }
 
-// The words of the command line of this process.
+// Returns the words of the command line of this process.
 fn words_of<T: env::Env + AllocGlobal>(rt: &T) -> Result<Vec<String>, io::ErrorKind> {
     match env::args(rt) {
         Ok(words) => match words.collect::<Vec<String>>(rt.alloc()) {

@@ -160,7 +160,7 @@ impl Seen {
         *state = seen_after(rt, *state, step, tasks);
     }
 
-    // The job has left its report: reports the superstep that was seen last, if there was one.
+    // Reports the superstep that was seen last, if there was one. To be called when the job has left its report.
     fn end<T: Clock + Eprint + Wait>(&self, rt: &T) {
         let mut state = self.state.lock(rt);
         state.over = true;

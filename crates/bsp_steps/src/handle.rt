@@ -60,7 +60,7 @@ impl Handle {
         Handle::of_loose(Loose::of(state))
     }
 
-    /// The state of the handle.
+    /// Returns the state of the handle.
     pub fn into_box(self, alloc: Global) -> Box<State>
         requires { IsSome self.state }
         ensures { Some result.value ≡ self.state }

@@ -82,8 +82,9 @@ fn begin(
     }
 }
 
-/// Begins a run of these arrays and of so many start tasks. At most `most` tasks may live at once, and at most `limit` supersteps
-/// are taken. Returns 0; 4 if an array is refused; 5 if the start tasks are; 6 if an allocation failed; 8 if the slot is open.
+/// Begins a run of these arrays and of `starts` start tasks. At most `most` tasks may live at once, and at most `limit`
+/// supersteps are taken. Returns 0; 4 if an array is refused; 5 if the start tasks are; 6 if an allocation failed; 8 if the
+/// slot is open.
 #[unsafe(no_mangle)]
 pub extern "C" fn bsp_steps_open(
     alloc: Global,

@@ -29,7 +29,7 @@ fn add(alloc: Global, arrays: &mut Arrays, given: &ArrayGiven<'_>) -> Result<boo
     arrays.add(name, cells)
 }
 
-/// The arrays that C gives.
+/// Returns the arrays that C gives.
 pub fn open_arrays(alloc: Global, given: &[ArrayGiven<'_>]) -> Result<Arrays, OpenFault>
     ensures made { IfOk result (λ arrays. (arrays ≡ map array_given given.now) × MayFollow [] given.now) }
     ensures refused { IfErr result (λ e. e ≡ RefusedFault → MayFollow [] given.now → ⊥) }

@@ -79,7 +79,7 @@ fn copy_placed(tasks: &[Task], copies: &mut Vec<Task>) -> Result<(), AllocError>
     Ok(())
 }
 
-// Moves what the last superstep printed behind what was printed before. If memory runs out, nothing is changed.
+// Appends what the last superstep printed to what was printed before. If memory runs out, nothing is changed.
 fn join_prints(steps: &mut Steps<Task>, printed: &mut Vec<Print>) -> Result<(), AllocError>
     ensures joined { OnOk result ((steps.new ≡ record steps.old { prints = [] }) × (printed.new.items ≡ printed.old.items ++ steps.old.prints)) }
     ensures memory { OnErr result ((steps.new ≡ steps.old) × (printed.new.items ≡ printed.old.items)) }
@@ -95,8 +95,8 @@ fn join_prints(steps: &mut Steps<Task>, printed: &mut Vec<Print>) -> Result<(), 
     }
 }
 
-// Takes a superstep in which each live task leaves what was told of it. If memory runs out, nothing is changed: the tasks do their
-// segments in copies.
+// Takes a superstep in which each live task leaves what `deeds` report of it. If memory runs out, nothing is changed: the tasks
+// do their segments in copies.
 fn take_told(
     alloc: Global,
     deeds: &[Deed<'_>],
@@ -122,7 +122,7 @@ fn take_told(
     }
 }
 
-// Whether a deed ends in one of the ways that there are.
+// Returns true if a deed ends in one of the ways that there are.
 #[inline(always)]
 fn ends(deed: &Deed<'_>) -> bool
     ensures { result ≡ is_ending deed.now }
@@ -130,7 +130,7 @@ fn ends(deed: &Deed<'_>) -> bool
     deed.ending <= 1 || deed.ending >= 16
 }
 
-// Whether each deed does.
+// Returns true if each deed ends in one of the ways that there are.
 fn all_end(deeds: &[Deed<'_>]) -> bool
     ensures { result ≡ list_all is_ending deeds.now }
 {
@@ -144,14 +144,14 @@ fn all_end(deeds: &[Deed<'_>]) -> bool
     true
 }
 
-// Whether these deeds fit so many live tasks.
+// Returns true if these deeds fit `live` live tasks.
 fn fit(deeds: &[Deed<'_>], live: usize) -> bool
     ensures { IsTrue result ↔ Fit deeds.now live }
 {
     deeds.len() == live && all_end(deeds)
 }
 
-// The status of a run that has ended so, or goes on.
+// Returns the status of a run that has ended so, or that goes on.
 fn number_of(status: &Option<JobStatus>) -> i32
     ensures { result ≡ closing (option_map status_seen status.now) }
 {
@@ -163,7 +163,7 @@ fn number_of(status: &Option<JobStatus>) -> i32
     }
 }
 
-// The status of a superstep that was taken, or for which memory ran out.
+// Returns the status of a superstep that was taken, or for which memory ran out.
 fn told_as(taken: Result<Option<JobStatus>, AllocError>) -> i32
     ensures status { MatchResult taken (λ s. result ≡ closing (option_map status_seen s)) (λ _. result ≡ pos 6) }
     ensures fits { FitsSigned w32 result }
@@ -206,7 +206,7 @@ impl Run {
         }
     }
 
-    /// Begins a run of so many start tasks.
+    /// Begins a run of `count` start tasks.
     pub fn begin(
         alloc: Global,
         arrays: Arrays,
@@ -233,7 +233,7 @@ impl Run {
         told_as(take_told(alloc, deeds, &mut self.steps, &mut self.room))
     }
 
-    /// Takes a superstep in which each live task leaves what was told of it.
+    /// Takes a superstep in which each live task leaves what `deeds` report of it.
     pub fn close(&mut self, alloc: Global, deeds: &[Deed<'_>]) -> i32
         ensures { IsClosed self.old self.new deeds.now result }
     {
@@ -308,7 +308,7 @@ impl Run {
         self.steps.fault()
     }
 
-    /// The text of the report of a run that is over.
+    /// Returns the text of the report of a run that is over, or `None` if it isn't.
     pub fn text(&mut self, alloc: Global) -> Result<Option<Vec<u8>>, AllocError>
         ensures text { IfOk result (λ text. option_map (λ t. t.items) text ≡ text_by self.old (ended self.old)) }
         ensures same { self.new ≡ self.old }

@@ -66,7 +66,7 @@ fn push_spawned(
     Ok(())
 }
 
-/// So many start tasks.
+/// Creates `count` start tasks.
 pub fn start_tasks(alloc: Global, count: u32) -> Result<Vec<Task>, AllocError>
     requires few { count ≤ 65535 }
     ensures { IfOk result (λ tasks. tasks.items ≡ numbered [] 0 (start_origins 0 count)) }
@@ -90,14 +90,14 @@ pub fn start_tasks(alloc: Global, count: u32) -> Result<Vec<Task>, AllocError>
 }
 
 impl Task {
-    /// Where it comes from.
+    /// Returns where the task comes from.
     pub fn origin(&self) -> Origin
         ensures { result ≡ self.now.kept }
     {
         self.origin
     }
 
-    /// A copy of it that has this place now. It takes no memory.
+    /// A copy of it that has this place now. Doesn't allocate.
     pub fn placed(&self, place: usize) -> Task
         ensures { result ≡ placed_at place self.now }
     {
@@ -112,7 +112,7 @@ impl Task {
         }
     }
 
-    /// Tells it the place that it has now.
+    /// Sets the place that the task has now.
     pub fn stay(&mut self, place: usize)
         ensures { self.new ≡ placed_at place self.old }
     {
@@ -123,7 +123,7 @@ impl Task {
         };
     }
 
-    /// Why it may not spawn so many tasks.
+    /// Returns why the task may not spawn `count` tasks, if it may not.
     pub fn refuse(&self, count: u16) -> Option<u8>
         ensures { result ≡ refused_spawns self.now.path self.now.begun count }
     {
@@ -139,7 +139,7 @@ impl Task {
         None
     }
 
-    /// Spawns so many tasks, which follow those in `tasks`.
+    /// Spawns `count` tasks, which follow those in `tasks`.
     pub fn spawn(&mut self, count: u16, tasks: &mut Vec<Task>) -> Result<(), AllocError>
         requires fits { refused_spawns self.old.path self.old.begun count ≡ None }
         ensures task { OnOk result (self.new ≡ went self.old count self.old.kept) }

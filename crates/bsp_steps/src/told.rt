@@ -28,7 +28,7 @@ pub struct Told<'a> {
     pub deeds: &'a [Deed<'a>],
 }
 
-// A put, as it was told.
+// Returns a put as it was given.
 #[inline(always)]
 fn put_of(put: &PutGiven) -> Put
     ensures { result ≡ put_given put.now }
@@ -46,7 +46,7 @@ fn put_of(put: &PutGiven) -> Put
     }
 }
 
-// Whether this put and the seven after it set cells side by side, by a look at the last of them.
+// Returns true if this put and the seven after it set cells side by side, judging by the last of them.
 #[inline(always)]
 fn begins_row(put: &PutGiven, after: &[PutGiven]) -> bool
     ensures { result ≡ true → put.now.adds ≡ 0 }

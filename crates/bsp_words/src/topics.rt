@@ -232,7 +232,7 @@ Use another name. In expressions, arg is the task's argument and step the
 superstep.
 ";
 
-// What a code of a refusal means, a text that gets it, and how to mend it.
+// Returns what a code of a refusal means, a text that gets it, and how to mend it.
 fn code_text(number: u32) -> &'static str
     requires { (1 ≤ number) × (number ≤ 14) }
     ensures { goes_on (heading (Code number)) result.now ≡ true }
@@ -384,7 +384,7 @@ A text that gets it:
 Add to several cells, or add less: the sum is checked after each value.
 ";
 
-// What a fault means, a text that gets it, and how to mend it.
+// Returns what a fault means, a text that gets it, and how to mend it.
 fn fault_text(number: u32) -> &'static str
     requires { (1 ≤ number) × (number ≤ 8) }
     ensures { goes_on (heading (Fault number)) result.now ≡ true }
@@ -506,7 +506,7 @@ at most 256 tokens.
 Split the trace into several.
 ";
 
-// What a code of a trace's refusal means, a trace that gets it, and how to mend it.
+// Returns what a code of a trace's refusal means, a trace that gets it, and how to mend it.
 fn trace_code_text(number: u32) -> &'static str
     requires { (1 ≤ number) × (number ≤ 12) }
     ensures { goes_on (heading (TraceCode number)) result.now ≡ true }

@@ -25,7 +25,7 @@ enum Arrival {
     Last(u32),
 }
 
-// The turn of a caller whose wait ended in this way.
+// Returns the turn of a caller whose wait ended in this way.
 fn turn_after(end: Outcome, index: u32, parties: u32) -> Result<u32, GateFault>
     ensures ok { IfOk result (λ i. (i ≡ index) × (i < parties) × (end ≡ Outcome.Tripped)) }
     ensures broken { IfErr result (λ e. (e ≡ GateFault.Broken) × ((end ≡ Outcome.Tripped) → parties ≤ index)) }

@@ -50,8 +50,8 @@ pub(crate) struct Found<'a> {
     pub(crate) line: &'a [u8],
 }
 
-// Returns the line that comes so many lines after the first of a text; lines that are skipped don't count. The first line
-// has this number.
+// Returns the line that comes `count` lines after the first line of a text; lines that are skipped don't count. The first line
+// has the number `first`.
 fn line_from(text: &[u8], first: usize, count: usize) -> Option<Found<'_>>
     requires { first + length text.now ≤ 2 ^ 63 }
     ensures { option_map line_found result ≡ slice_get (kept_from first (lines_of text.now)) count }
@@ -72,7 +72,7 @@ fn line_from(text: &[u8], first: usize, count: usize) -> Option<Found<'_>>
     None
 }
 
-/// Returns the line of a body that comes so many lines after its first one; lines that are skipped don't count. Bodies are
+/// Returns the line of a body that comes `count` lines after its first one; lines that are skipped don't count. Bodies are
 /// numbered in the order of the text, from 0.
 pub(crate) fn line_in_body(text: &[u8], body: usize, count: usize) -> Option<Found<'_>>
     ensures { option_map line_found result ≡ line_in text.now body count }

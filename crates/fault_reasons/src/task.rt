@@ -135,7 +135,7 @@ fn push_line(out: &mut Vec<u8>, found: Option<Found<'_>>) -> Result<(), AllocErr
     push_words(out, found.line)
 }
 
-/// Appends the line of a body that comes so many lines after its first one.
+/// Appends the line of a body that comes `count` lines after its first one.
 pub(crate) fn push_body_line(
     out: &mut Vec<u8>,
     at: Superstep<'_>,

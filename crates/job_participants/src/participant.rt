@@ -97,14 +97,14 @@ fn is_done(played: Played) -> bool
     matches!(played, Played::Done(_) | Played::Passed(_))
 }
 
-// Returns whether a join was refused.
+// Returns true if a join was refused.
 fn is_refused(played: Played) -> bool
     ensures { result ≡ spec.is_refused played }
 {
     matches!(played, Played::Held(_, _) | Played::Full(_))
 }
 
-// The stage after `arrived` of the spawned tasks have arrived.
+// Returns the stage after `arrived` of the spawned tasks have arrived.
 fn arriving(arrived: usize, spawned: usize) -> Stage
     ensures { result ≡ spec.arriving arrived spawned }
 {
@@ -115,7 +115,7 @@ fn arriving(arrived: usize, spawned: usize) -> Stage
     }
 }
 
-// The stage after `joined` of the spawned tasks have joined.
+// Returns the stage after `joined` of the spawned tasks have joined.
 fn joining(joined: usize, spawned: usize) -> Stage
     ensures { result ≡ spec.joining joined spawned }
 {
@@ -126,7 +126,7 @@ fn joining(joined: usize, spawned: usize) -> Stage
     }
 }
 
-// The stage after a call that is done.
+// Returns the stage after a call that is done.
 fn next_stage(stage: Stage, spawned: usize) -> Stage
     ensures { result ≡ spec.next_stage stage spawned }
 {
@@ -152,7 +152,7 @@ fn next_stage(stage: Stage, spawned: usize) -> Stage
     }
 }
 
-// The move of a task itself: its arrival or departure, or the advance if that is due.
+// Returns the move of a task itself: its arrival or departure, or the advance if that is due.
 fn passing(due: bool, place: usize, token: usize, synced: bool) -> Option<Move>
     ensures { result ≡ passing due place token synced }
 {
@@ -226,7 +226,7 @@ impl Participant {
         Ok(())
     }
 
-    // The token of the spawned task with this number.
+    // Returns the token of the spawned task with this number.
     fn child_token(&self, number: usize) -> usize
         ensures { result ≡ (child_at self.now.children number).token }
     {
@@ -237,7 +237,7 @@ impl Participant {
         }
     }
 
-    // The tier at which the spawned task with this number is to join.
+    // Returns the tier at which the spawned task with this number is to join.
     fn child_home(&self, number: usize) -> u16
         ensures { result ≡ (child_at self.now.children number).home }
     {
@@ -248,7 +248,7 @@ impl Participant {
         }
     }
 
-    /// The next move of its worker.
+    /// Returns the next move of its worker, if it has one.
     pub fn next_move(&self, place: usize, due: bool) -> Option<Move>
         ensures { result ≡ by_stage self.now place due self.now.stage }
     {

@@ -78,7 +78,7 @@ impl Move {
     }
 }
 
-/// The move of a step of this kind: its worker's next move, if steps of this kind take it.
+/// Returns the move of a step of this kind: its worker's next move, if steps of this kind take it.
 pub fn asked(kind: u8, next: Option<Move>) -> Option<Move>
     ensures { result ≡ spec.asked kind next }
 {

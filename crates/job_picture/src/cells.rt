@@ -72,7 +72,7 @@ pub(crate) fn push_escaped(out: &mut Vec<u8>, name: &[u8]) -> Result<(), AllocEr
     Ok(())
 }
 
-// The least value, 0 of none.
+// Returns the least value, or 0 if there is none.
 fn least(values: &[i64]) -> i64
     ensures { result ≡ least_of values.now }
 {
@@ -87,7 +87,7 @@ fn least(values: &[i64]) -> i64
     low
 }
 
-// The greatest value, 0 of none.
+// Returns the greatest value, or 0 if there is none.
 fn most(values: &[i64]) -> i64
     ensures { result ≡ most_of values.now }
 {
@@ -109,7 +109,7 @@ pub(crate) struct Extent {
     pub(crate) high: i64,
 }
 
-/// The least and the greatest of these values.
+/// Returns the least and the greatest of these values.
 pub(crate) fn range_of(values: &[i64]) -> Extent
     ensures { result ≡ extent_of values.now }
 {
@@ -119,7 +119,7 @@ pub(crate) fn range_of(values: &[i64]) -> Extent
     }
 }
 
-/// How far up a value is between the least and the greatest, in ninths.
+/// Returns how far up a value is between the least and the greatest, in ninths.
 pub(crate) fn shade(extent: Extent, value: &i64) -> u128
     ensures { result ≡ shade_of extent value.now }
 {

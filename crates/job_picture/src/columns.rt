@@ -76,7 +76,7 @@ pub(crate) fn columns_of(
     Ok(columns)
 }
 
-// The greater of each count, from where the first begins on.
+// Returns the greater of each count of two columns. The column begins where the first one does.
 fn greater(a: Column, b: Column) -> Column
     ensures { result ≡ greater_of a b }
 {
@@ -109,7 +109,7 @@ fn nothing() -> Column
     }
 }
 
-/// The greatest of each count.
+/// Returns the greatest of each count of all columns.
 pub(crate) fn greatest(columns: &[Column]) -> Column
     ensures { result ≡ greatest_of columns.now }
 {

@@ -231,7 +231,7 @@ fn push_supersteps(
     push_below(out, steps.max(1), columns)
 }
 
-// The columns of a report, and the most parties.
+// Returns the columns of a report, and the most parties.
 fn shown_columns(alloc: Global, report: &Report) -> Result<(Vec<Column>, u32), AllocError>
     ensures columns { IfOk result (λ shown. shown.0.items ≡ told_shown report.now) }
     ensures most { IfOk result (λ shown. shown.1 ≡ most_parties report.now) }
@@ -281,8 +281,8 @@ fn push_plain(
     push_text(out, b"</svg>\n")
 }
 
-/// The picture of a report, as the text of an SVG file: a title, for each superstep a column whose parts are the parties
-/// that live on, that left and that were spawned, with a tick where tasks printed, and each array as a strip of cells.
+/// Returns the picture of a report, as the text of an SVG file: a title, for each superstep a column whose parts are the
+/// parties that live on, that left and that were spawned, with a tick where tasks printed, and each array as a strip of cells.
 /// Over 4000 supersteps share columns, so that there are at most 4000.
 pub fn picture_of(alloc: Global, report: &Report) -> Result<Vec<u8>, AllocError>
     ensures { IfOk result (λ text. text.items ≡ picture report.now) }
@@ -301,8 +301,8 @@ pub fn picture_of(alloc: Global, report: &Report) -> Result<Vec<u8>, AllocError>
     Ok(out)
 }
 
-/// The picture of a report as [`picture_of`] draws it, but with this name before its title, and with these panels in place
-/// of its arrays.
+/// Returns the picture of a report as [`picture_of`] draws it, but with this name before its title, and with these panels in
+/// place of its arrays.
 #[tactic(auto, using(crate::proofs::Viewing::shown))]
 pub fn picture_with(
     alloc: Global,

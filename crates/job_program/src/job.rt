@@ -86,7 +86,7 @@ impl<'j> TaskLoop for JobProgram<'j> {
     }
 }
 
-/// The tasks of the start lines.
+/// Creates the tasks of the start lines.
 pub fn start_all(alloc: Global, bodies: &[Body], starts: &[Start]) -> Result<Vec<Task>, AllocError>
     requires { length starts.now ≤ 4096 }
     ensures { IfOk result (λ tasks. map (task_of (plans bodies.now)) tasks.items ≡ start_tasks (plans bodies.now) 0 starts.now) }
@@ -116,7 +116,7 @@ pub struct Beginning {
     pub tasks: Vec<Task>,
 }
 
-/// The arrays and tasks with which a run of this job begins.
+/// Returns the arrays and tasks with which a run of this job begins.
 pub fn begin(alloc: Global, job: &Job) -> Result<Beginning, AllocError>
     ensures arrays { IfOk result (λ b. b.arrays ≡ job.now.arrays) }
     ensures tasks { IfOk result (λ b. map (task_of (plans job.now.bodies)) b.tasks.items ≡ start_tasks (plans job.now.bodies) 0 job.now.starts) }

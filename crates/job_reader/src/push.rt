@@ -119,7 +119,7 @@ fn push_operand(out: &mut Vec<u8>, names: &Writing<'_>, operand: Operand) -> Res
     }
 }
 
-// The word of an operator.
+// Returns the word of an operator.
 fn operator_text(operator: Operator) -> &'static str
     ensures { result.now ≡ operator_word operator }
 {
@@ -183,7 +183,7 @@ fn push_let(out: &mut Vec<u8>, names: &Writing<'_>, local: u8, expr: Expr) -> Re
     Ok(())
 }
 
-// The first word of a put, by what landing does with its value.
+// Returns the first word of a put, by what landing does with its value.
 fn kind_text(kind: PutKind) -> &'static [u8]
     ensures { result.now ≡ kind_word kind }
 {

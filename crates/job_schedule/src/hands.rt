@@ -14,7 +14,7 @@ pub fn empty_hands(alloc: Global, workers: usize) -> Result<Vec<Option<usize>>, 
     Ok(hands)
 }
 
-/// The place of the task that a worker has, if it has one.
+/// Returns the place of the task that a worker has, if it has one.
 pub fn hand_of(hands: &[Option<usize>], worker: usize) -> Option<usize>
     ensures { result ≡ slice_index_or hands.now worker None }
 {

@@ -11,7 +11,7 @@ use superstep_memory::path::is_before;
 // The next participants are collected with the last by path first. They come from the last participant to the first, so that each
 // passes only those that its path begins.
 
-// The place of a participant with this path.
+// Returns the place at which to insert a participant with this path.
 fn place_for(living: &[Participant], path: &[u16]) -> usize
     ensures place { (g : ParticipantValue) → g.path ≡ path.now
         → insert living.now result g ≡ reverse (put_in participant_path g (reverse living.now)) }

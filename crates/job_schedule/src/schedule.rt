@@ -35,7 +35,7 @@ pub(crate) struct Schedule<'j> {
     mode: Mode,
 }
 
-// The move of a worker without a task.
+// Returns the move of a worker without a task, if it has one.
 fn taking(taken: usize, live: usize, over: bool) -> Option<Move>
     ensures { result ≡ taking taken live over }
 {
@@ -48,7 +48,7 @@ fn taking(taken: usize, live: usize, over: bool) -> Option<Move>
     }
 }
 
-// The mode after the job has ended: after a fault the tree is ended by force.
+// Returns the mode after the job has ended: after a fault the tree is ended by force.
 fn mode_after(closer: usize, token: usize, status: &JobStatus) -> Mode
     ensures { result ≡ mode_after closer token (status_seen status.now) }
 {
@@ -199,7 +199,7 @@ impl<'j> Schedule<'j> {
         Ok(())
     }
 
-    // The next move of a worker that has the task at this place.
+    // Returns the next move of a worker that has the task at this place, if it has one.
     fn move_at(&self, place: usize) -> Option<Move>
         ensures { result ≡ by_participant (world_of self.now) (participant_at self.now.participants.items place) place }
     {
@@ -210,7 +210,7 @@ impl<'j> Schedule<'j> {
         participant.next_move(place, self.core.must_advance(participant.token))
     }
 
-    // The next move of a worker within a superstep.
+    // Returns the next move of a worker within a superstep, if it has one.
     fn move_in(&self, worker: usize) -> Option<Move>
         ensures { result ≡ by_hand (world_of self.now) (slice_index_or self.now.hands.items worker None) }
     {
@@ -220,7 +220,7 @@ impl<'j> Schedule<'j> {
         }
     }
 
-    // The next move of a worker.
+    // Returns the next move of a worker, if it has one.
     fn next_move(&self, worker: usize) -> Option<Move>
         ensures { result ≡ move_of (world_of self.now) worker }
     {

@@ -22,7 +22,7 @@ pub enum JobStep {
 }
 
 impl JobStep {
-    /// The number of the worker.
+    /// Returns the number of the worker.
     pub fn worker(self) -> usize
         ensures { result ≡ worker_of self }
     {

@@ -110,7 +110,7 @@ fn finish<W: CountedWrite>(
     }
 }
 
-// What a run left, if it gave away the lines of `written` supersteps.
+// Returns what a run left, if it gave away the lines of `written` supersteps.
 fn rest_of<'t, 'p, 'j>(
     log: &'t Log<Opened<'p, JobProgram<'j>, Task>>,
     left: Left<'p, JobProgram<'j>>,
@@ -156,7 +156,7 @@ fn close_report<W: CountedWrite>(
     }
 }
 
-// How a run ended, from its report.
+// Returns how a run ended, from its report.
 fn status_of(report: Report) -> JobStatus
     ensures { status_seen result ≡ report.status }
 {

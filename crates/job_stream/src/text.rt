@@ -15,7 +15,7 @@ use task_code::job::Job;
 // The number of bytes of the last line of a report of no arrays that ended after no superstep.
 const LAST_LINE: usize = 8;
 
-// The text of a report that has only these supersteps: their lines, and a last line.
+// Returns the text of a report that has only these supersteps: their lines, and a last line.
 fn text_with_end(
     alloc: Global,
     prints: Vec<Print>,
@@ -32,7 +32,7 @@ fn text_with_end(
     text_of(alloc, &report)
 }
 
-// The lines of supersteps.
+// Returns the text of the lines of supersteps.
 fn text_of_lines(alloc: Global, lines: Lines) -> Result<Vec<u8>, AllocError>
     ensures { IfOk result (λ text. text.items ≡ steps_text lines.prints lines.records) }
 {

@@ -6,8 +6,8 @@ ghost use Rattle.job_words.specs.Upgrade.{upgraded, upgraded_tree};
 
 use task_code::job::Job;
 
-/// The job as one of format 2, with the same arrays, bodies, locals in their order, and start lines. A job of format 2 is
-/// handed back as it was. No memory is taken.
+/// Returns the job as one of format 2, with the same arrays, bodies, locals in their order, and start lines. A job of format 2
+/// is returned as it was. Doesn't allocate.
 #[tactic(auto, using(crate::proofs::Upgraded::upgraded_jobs))]
 pub fn upgrade(job: Job) -> Job
     ensures upgraded { result ≡ upgraded job }

@@ -208,7 +208,7 @@ fn push_report<S: Sink>(out: &mut S, report: &Report)
     push_status(out, &report.status)
 }
 
-/// The text of a report of these parts, as [`text_of`] gives it.
+/// Returns the text of a report of these parts, as [`text_of`] gives it.
 pub fn text_of_parts(
     alloc: Global,
     prints: &[Print],
@@ -229,7 +229,7 @@ pub fn text_of_parts(
     Ok(out.text)
 }
 
-/// The text of a report: for each superstep its prints and its record, then the arrays in declared order, then how the
+/// Returns the text of a report: for each superstep its prints and its record, then the arrays in declared order, then how the
 /// job ended, each on a line of its own.
 pub fn text_of(alloc: Global, report: &Report) -> Result<Vec<u8>, AllocError>
     ensures { IfOk result (λ text. text.items ≡ report_text report.now) }

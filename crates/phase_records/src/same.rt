@@ -4,21 +4,21 @@ ghost use Rattle.phase_records.specs.StatusSeen.{status_seen};
 
 use crate::record::{JobStatus, PhaseRecord, Print, Report};
 
-// Whether two paths are the same.
+// Returns true if two paths are the same.
 fn same_path(a: &[u16], b: &[u16]) -> bool
     ensures { IsTrue result ↔ (a.now ≡ b.now) }
 {
     a == b
 }
 
-// Whether two records are the same.
+// Returns true if two records are the same.
 fn same_record(a: PhaseRecord, b: PhaseRecord) -> bool
     ensures { IsTrue result ↔ (a ≡ b) }
 {
     a == b
 }
 
-// Whether two prints are the same.
+// Returns true if two prints are the same.
 fn same_print(a: &Print, b: &Print) -> bool
     ensures { IsTrue result ↔ (a.now ≡ b.now) }
 {
@@ -31,7 +31,7 @@ fn same_print(a: &Print, b: &Print) -> bool
     same_path(a.path.as_slice(), b.path.as_slice())
 }
 
-// Whether prints are the same.
+// Returns true if prints are the same.
 fn same_prints(a: &[Print], b: &[Print]) -> bool
     ensures { IsTrue result ↔ (a.now ≡ b.now) }
 {
@@ -46,7 +46,7 @@ fn same_prints(a: &[Print], b: &[Print]) -> bool
     true
 }
 
-// Whether records are the same.
+// Returns true if records are the same.
 fn same_records(a: &[PhaseRecord], b: &[PhaseRecord]) -> bool
     ensures { IsTrue result ↔ (a.now ≡ b.now) }
 {
@@ -61,7 +61,7 @@ fn same_records(a: &[PhaseRecord], b: &[PhaseRecord]) -> bool
     true
 }
 
-// Whether two jobs end the same way.
+// Returns true if two jobs end the same way.
 fn same_status(a: &JobStatus, b: &JobStatus) -> bool
     ensures { IsTrue result ↔ (status_seen a.now ≡ status_seen b.now) }
 {
@@ -89,7 +89,7 @@ fn same_status(a: &JobStatus, b: &JobStatus) -> bool
 }
 
 impl Report {
-    /// Whether the other report is the same: prints, records, arrays and status.
+    /// Returns true if the other report is the same: prints, records, arrays and status.
     pub fn same_as(&self, other: &Report) -> bool
         ensures { IsTrue result ↔ (self.now ≡ other.now) }
     {

@@ -75,7 +75,7 @@ fn is_outer(line: &[u8]) -> bool
     }
 }
 
-// Returns the number of the line whose block is still open where a line outside bodies is refused, or 0.
+// Returns the number of the line whose block is still open when a line outside bodies is refused, or 0.
 fn open_line(alloc: Global, text: &[u8], refusal: Refusal) -> Result<usize, AllocError>
     ensures { IfOk result (λ line. line ≡ open_line_of refusal.code text.now refusal) }
 {
@@ -126,7 +126,7 @@ fn push_shown(
     push_place(alloc, out, shown, text)
 }
 
-// Appends the line of the block that is still open where a line outside bodies is refused.
+// Appends the line of the block that is still open when a line outside bodies is refused.
 fn push_block(
     alloc: Global,
     out: &mut Vec<u8>,
@@ -157,8 +157,7 @@ fn push_lines(
 
 /// Returns why a text is refused, in words for people, by what the refusal is about: the source, the line and the column, the
 /// code with its name and its meaning, and the line with carets below what counts. Of a long line, only 160 bytes round the
-/// mark are shown; of a text that is too long, none. Where an `end` is missing, the line of the block that is still open is
-/// shown.
+/// mark are shown; of a text that is too long, none. If an `end` is missing, the line of the block that is still open is shown.
 pub fn refusal_reason(
     alloc: Global,
     source: &str,

@@ -284,7 +284,7 @@ impl Tiers {
         self.exchange_early_as::<Brand, B>(group, new_tokens, leaving, word)
     }
 
-    /// The same as `exchange_early_as`, where nobody else is to arrive there. So one of the arrivals is the last.
+    /// Does the same as `exchange_early_as`, if nobody else is to arrive there. So one of the arrivals is the last.
     fn exchange_last_as<J: Gone, B: Begun>(
         &self,
         group: Group,
@@ -341,7 +341,7 @@ impl Tiers {
         LastPass::Owing(errand, others)
     }
 
-    /// The same as `exchange_early`, where nobody else is to arrive there.
+    /// Does the same as `exchange_early`, if nobody else is to arrive there.
     pub(crate) fn exchange_last<B: Begun>(
         &self,
         group: Group,

@@ -651,8 +651,8 @@ impl Tiers {
         self.look_seat_as::<Brand>(seat, tier)
     }
 
-    /// Puts a group behind another one, and looks once at the root for all their tokens. Their members are at one tier and
-    /// in one phase, and all of them have arrived or none.
+    /// Appends a group to another one, and looks once at the root for all their tokens. Their members are at one tier and in
+    /// one phase, and all of them have arrived or none.
     pub fn append(&self, group: &mut Group, other: Group)
         requires own { (group.old.tree ≡ self.now) × (other.tree ≡ self.now) }
         requires together { AreTogether group.old.view other.view }

@@ -235,8 +235,8 @@ impl Tiers {
     /// Leaves with all members, as Java's `arriveAndDeregister` by each of them, by one exchange of their tier's word.
     /// Doesn't wait for the phase to pass.
     ///
-    /// The group's first token becomes a door, and its other tokens are dropped. Makes at most `tries` tries, each of which
-    /// may also bring the tier into the root's phase. The first one needs no load where that of `arrive_all` needs none. See
+    /// The group's first token becomes a door, and its other tokens are dropped. Makes at most `tries` tries, each of which may
+    /// also bring the tier into the root's phase. The first one needs no load if that of `arrive_all` needs none. See
     /// [`LeftAll`] for what to do after each answer.
     pub fn leave_all(&self, mut group: Group, tries: u32) -> LeftAll
         requires own { group.tree ≡ self.now }

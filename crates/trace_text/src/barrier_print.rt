@@ -6,7 +6,7 @@ use crate::print::push_field;
 use cyclic_gate::BarrierFault;
 use std::alloc::AllocError;
 
-/// The line of a refusal. Running out of memory has none.
+/// Returns the line of a refusal. Running out of memory has none.
 pub(crate) fn barrier_fault_line(fault: BarrierFault) -> &'static str
     ensures { result.now ≡ barrier_fault_text fault }
 {
@@ -73,7 +73,7 @@ pub(crate) fn push_reset(out: &mut Vec<u8>, callers: &[u32]) -> Result<(), Alloc
     }
 }
 
-// The end of the line of a show.
+// Returns the end of the line of a show.
 fn broken_line(broken: bool) -> &'static str
     ensures { result.now ≡ broken_mark broken }
 {

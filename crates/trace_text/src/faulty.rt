@@ -154,8 +154,8 @@ fn is_of_phaser(text: &[u8]) -> bool
     false
 }
 
-/// Returns which word of a line of this trace is no number, or none of its range, if one is. The first word has number 0. Tells where
-/// a trace is refused with `BadNumber`.
+/// Returns which word of a line of this trace is no number, or none of its range, if one is. The first word has number 0. A
+/// trace that is refused with `BadNumber` has its fault there.
 pub fn faulty_number(text: &[u8], line: &[u8]) -> Option<usize>
     ensures { result ≡ spec.faulty_number text.now line.now }
 {

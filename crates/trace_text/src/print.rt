@@ -6,7 +6,7 @@ use itoa::{Buffer, Integer};
 use phaser_one::{Advance, OneFault, Reply};
 use std::alloc::AllocError;
 
-/// The line of a refusal.
+/// Returns the line of a refusal.
 pub(crate) fn fault_line(fault: OneFault) -> &'static str
     ensures { result.now ≡ fault_text fault }
 {
@@ -59,7 +59,7 @@ pub(crate) fn push_advance(out: &mut Vec<u8>, advance: Option<Advance>) -> Resul
     out.extend_from_slice(b"\n")
 }
 
-// The end of the line of a show.
+// Returns the end of the line of a show.
 fn ended_text(ended: bool) -> &'static str
     ensures { result.now ≡ (if ended then codes " ended yes\n" else codes " ended no\n") }
 {

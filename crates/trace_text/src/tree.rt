@@ -25,7 +25,7 @@ fn is_token(core: &Core, token: u32) -> bool
     (token as usize) < core.tokens()
 }
 
-// The machine's call, if its tier exists.
+// Returns the machine's call, if its tier exists.
 fn call_of(core: &Core, call: TokenCall) -> Option<Call>
     ensures { result ≡ (if spec.has_tier core.now call then Some (spec.call_of call) else None) }
 {
@@ -54,7 +54,7 @@ fn push_advance_of(out: &mut Vec<u8>, core: &Core, token: usize) -> Result<(), A
     push_advance(out, Some(Advance { phase, parties }))
 }
 
-// How a token goes on with its call.
+// Returns how a token goes on with its call.
 fn going_on(core: &Core, token: usize) -> Step
     ensures { result ≡ spec.going_on core.now token }
 {

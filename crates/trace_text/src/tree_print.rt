@@ -9,7 +9,7 @@ use std::alloc::AllocError;
 use tier_core::call::{Answer, Cause, Played};
 use tier_shape::ShapeFault;
 
-/// The line of a refused shape. Running out of memory has none.
+/// Returns the line of a refused shape. Running out of memory has none.
 pub(crate) fn shape_fault_line(fault: &ShapeFault) -> &'static str
     ensures { result.now ≡ shape_fault_text fault.now }
 {
@@ -23,7 +23,7 @@ pub(crate) fn shape_fault_line(fault: &ShapeFault) -> &'static str
     }
 }
 
-// The end of the line of a join that is held off.
+// Returns the end of the line of a join that is held off.
 fn cause_line(cause: Cause) -> &'static str
     ensures { result.now ≡ cause_text cause }
 {
@@ -108,7 +108,7 @@ pub(crate) fn push_answer(out: &mut Vec<u8>, answer: Answer) -> Result<(), Alloc
     }
 }
 
-// The end of the line of a tier.
+// Returns the end of the line of a tier.
 fn state_line(word: Word) -> &'static str
     ensures { result.now ≡ state_text word }
 {

@@ -9,7 +9,7 @@ use super::Handle;
 use crate::state::State;
 
 impl Handle {
-    /// The state behind an open handle.
+    /// Returns the state of an open handle.
     pub fn get(&mut self) -> &mut State
         requires { IsSome self.old.state }
         ensures* writes_back { sem 𝓛 (Lends the_row state_row self.entry result (with_state self.old)) }

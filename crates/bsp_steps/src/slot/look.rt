@@ -9,7 +9,7 @@ use super::Slot;
 use crate::state::State;
 
 impl Slot {
-    /// The state, to be read. Once it is given back, the slot is as it was.
+    /// Returns the state, to be read. Once it is given back, the slot is as it was.
     pub fn look(&mut self) -> Option<&State>
         ensures state { option_map (λ s. s.now) result ≡ self.old.handle.state }
         ensures* stays { sem 𝓛 (follows_so the_row the_row self.entry.ghost_name none (λ _ _. ⊤) (λ n. n ≡ self.old)) }
