@@ -20,7 +20,7 @@ pub struct Piece {
     pub end: u32,
 }
 
-/// The rod without its ends, in 46 pieces.
+/// Returns the rod without its ends, in 46 pieces.
 pub fn pieces(alloc: Global) -> Result<Vec<Piece>, AllocError> {
     let mut pieces = Vec::new(alloc);
     for number in 0..46 {
@@ -50,7 +50,7 @@ fn quarter(value: i64) -> i64
     value / 4
 }
 
-// What the cell at this place becomes.
+// Returns what the cell at this place becomes.
 fn mixed(cells: &[i64], place: u32) -> i64
     ensures { result ≡ mixed cells.now place }
 {
@@ -60,7 +60,7 @@ fn mixed(cells: &[i64], place: u32) -> i64
     quarter(sum(sum(others, own), own))
 }
 
-// How a task ends that runs up to this superstep.
+// Returns how a task that runs up to superstep `last` ends in superstep `step`.
 fn ending_in(last: u32, step: u32) -> Ending
     ensures { result ≡ ends_in last step }
 {

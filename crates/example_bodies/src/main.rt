@@ -17,7 +17,7 @@ use superstep_memory::arrays::Arrays;
 use task_bodies::kernel::{Cells, Grid, Map, Reduce, Span, Stencil, Window};
 use task_bodies::run::{RunFault, run_bodies, run_bodies_watched, run_exactly};
 
-// How many supersteps were taken.
+// Returns the number of supersteps that were taken.
 fn steps(report: &Report) -> u32 {
     match &report.status {
         JobStatus::Ended(steps) | JobStatus::Limit(steps) => *steps,
@@ -25,7 +25,7 @@ fn steps(report: &Report) -> u32 {
     }
 }
 
-// How many nodes were reached.
+// Returns the number of nodes that were reached.
 fn reached(report: &Report) -> usize {
     match report.arrays.get(usize::from(DISTANCES)) {
         Some((_, cells)) => cells.iter().filter(|it| **it >= 0).count(),
@@ -37,7 +37,7 @@ fn cell(report: &Report, array: u16, index: u32) -> i64 {
     report.arrays.cell(array, i64::from(index)).unwrap_or(0)
 }
 
-// The rod after 1000 supersteps.
+// Returns the rod after 1000 supersteps.
 fn cool(alloc: Global) -> Result<Report, RunFault> {
     let start = start::rod(alloc)?;
     let ran = run_bodies(
@@ -51,7 +51,7 @@ fn cool(alloc: Global) -> Result<Report, RunFault> {
     Ok(ran.report)
 }
 
-// The rod as soon as cell 20 is warm.
+// Returns the rod as soon as cell 20 is warm.
 fn warm(alloc: Global) -> Result<Report, RunFault> {
     let start = start::rod(alloc)?;
     let mut watch = UntilWarm {
@@ -70,7 +70,7 @@ fn warm(alloc: Global) -> Result<Report, RunFault> {
     Ok(ran.report)
 }
 
-// The same rod, by a closure.
+// Returns the same rod as `cool`, by a closure.
 fn cool_by_closure(alloc: Global) -> Result<Report, RunFault> {
     let start = start::rod(alloc)?;
     let mut spans = Vec::new(alloc);
@@ -93,7 +93,7 @@ fn cool_by_closure(alloc: Global) -> Result<Report, RunFault> {
     Ok(ran.report)
 }
 
-// The same rod, by a body whose meaning is written down.
+// Returns the same rod as `cool`, by a body whose meaning is written down.
 fn cool_exactly(alloc: Global) -> Result<Report, RunFault> {
     let start = start::rod(alloc)?;
     let pieces = pieces(alloc)?;
@@ -136,7 +136,7 @@ fn find(alloc: Global) -> Result<Report, RunFault> {
     Ok(ran.report)
 }
 
-// The graph of 1000 nodes after 20 rounds.
+// Returns the graph of 1000 nodes after 20 rounds.
 fn ranked(alloc: Global) -> Result<Report, RunFault> {
     let start = start::ranks(alloc)?;
     let graph = Graph { nodes: 1000 };
@@ -151,7 +151,7 @@ fn ranked(alloc: Global) -> Result<Report, RunFault> {
     Ok(ran.report)
 }
 
-// The board after 30 supersteps.
+// Returns the board after 30 supersteps.
 fn live(alloc: Global) -> Result<Report, RunFault> {
     let start = start::board(alloc)?;
     let life = Grid {
@@ -178,7 +178,7 @@ fn spans(alloc: Global, count: u32, size: u32) -> Result<Vec<Cells>, AllocError>
     Ok(spans)
 }
 
-// The numbers 0 to 999, and a cell for a sum.
+// Creates the numbers 0 to 999, and a cell for a sum.
 fn numbers(alloc: Global) -> Result<Arrays, AllocError> {
     let mut arrays = Arrays::new(alloc);
     let mut numbers = Vec::new(alloc);
@@ -191,7 +191,7 @@ fn numbers(alloc: Global) -> Result<Arrays, AllocError> {
     Ok(arrays)
 }
 
-// The squares of the numbers.
+// Returns the squares of the numbers.
 fn squares(alloc: Global) -> Result<Report, RunFault> {
     let arrays = numbers(alloc)?;
     let spans = spans(alloc, 10, 100)?;
@@ -205,7 +205,7 @@ fn squares(alloc: Global) -> Result<Report, RunFault> {
     Ok(ran.report)
 }
 
-// The sum of the squares.
+// Returns the sum of the squares.
 fn added_up(alloc: Global) -> Result<Report, RunFault> {
     let squares = squares(alloc)?;
     let spans = spans(alloc, 10, 100)?;
@@ -219,7 +219,7 @@ fn added_up(alloc: Global) -> Result<Report, RunFault> {
     Ok(ran.report)
 }
 
-// How many cells of array 0 aren't 0.
+// Returns the number of cells of array 0 that aren't 0.
 fn count(report: &Report) -> usize {
     match report.arrays.get(0) {
         Some((_, cells)) => cells.iter().filter(|it| **it != 0).count(),
@@ -239,7 +239,7 @@ fn warm_numbers(alloc: Global) -> Result<(u32, i64), RunFault> {
     Ok((steps(&report), cell(&report, 0, 20)))
 }
 
-// Whether the closure leaves what the body leaves, and whether the exact body does.
+// Returns whether the closure leaves what the body leaves, and whether the exact body does.
 fn are_same(alloc: Global) -> Result<(bool, bool), RunFault> {
     let one = cool(alloc)?;
     let closure = cool_by_closure(alloc)?;
@@ -250,7 +250,7 @@ fn are_same(alloc: Global) -> Result<(bool, bool), RunFault> {
     ))
 }
 
-// The sum of the squares.
+// Returns the sum of the squares.
 fn square_numbers(alloc: Global) -> Result<i64, RunFault> {
     let report = added_up(alloc)?;
     Ok(cell(&report, 1, 0))
@@ -273,7 +273,7 @@ fn graph_numbers(alloc: Global) -> Result<(u32, usize, i64), RunFault> {
     Ok((steps(&report), reached(&report), cell(&report, ROUNDS, 0)))
 }
 
-// The ranks of the nodes 0, 1 and 7.
+// Returns the ranks of the nodes 0, 1 and 7.
 fn rank_numbers(alloc: Global) -> Result<(i64, i64, i64), RunFault> {
     let report = ranked(alloc)?;
     Ok((

@@ -1,7 +1,8 @@
 //! Conway's game of life: what a cell becomes.
 use task_bodies::kernel::Window;
 
-/// What a cell becomes, which holds 1 if it lives and 0 if not: it lives with three living neighbours, and goes on living with two.
+/// Returns what a cell becomes, which holds 1 if it lives and 0 if not: it lives with three living neighbours, and goes on
+/// living with two.
 pub fn next(cells: Window) -> i64 {
     let above = cells
         .north_west

@@ -24,7 +24,7 @@ pub const WENT: u32 = 1;
 
 pub const TIME: u32 = 2;
 
-// The next number of a random sequence.
+// Returns the next number of a random sequence.
 fn next(state: u32) -> u32 {
     state.wrapping_mul(1664525).wrapping_add(1013904223)
 }

@@ -21,7 +21,7 @@ fn at(cells: &[i64], place: usize) -> i64 {
     cells.get(place).copied().unwrap_or(0)
 }
 
-// What the cell after this place becomes.
+// Returns what the cell after this place becomes.
 fn mixed(cells: &[i64], place: u32) -> i64 {
     let place = place as usize;
     let own = at(cells, place + 1);

@@ -21,7 +21,7 @@ pub const DISTANCES: u16 = 0;
 pub const ROUNDS: u16 = 1;
 
 impl Graph {
-    /// The nodes to which this one has edges.
+    /// Returns the nodes to which `node` has edges.
     pub fn neighbours(&self, node: u32) -> [u32; 2] {
         if self.nodes == 0 {
             return [0, 0];

@@ -29,7 +29,7 @@ impl Meets {
         }
     }
 
-    /// How many segments were entered and left, and 1 if the two first tasks ran at the same time.
+    /// Returns how many segments were entered, how many were left, and 1 if the two first tasks ran at the same time.
     pub(crate) fn counts(&self) -> (u64, u64, u64) {
         (
             self.entered.load(Ordering::SeqCst),
@@ -80,7 +80,7 @@ impl Starts {
         }
     }
 
-    /// The numbers of the workers, as digits.
+    /// Returns the numbers of the workers, as digits.
     pub(crate) fn digits(&self) -> u64 {
         self.digits.load(Ordering::SeqCst)
     }

@@ -52,7 +52,7 @@ fn number_of(arrays: &Arrays) -> i64 {
     number
 }
 
-// What a body leaves on one thread.
+// Returns what a body leaves on one thread.
 fn alone<B: TaskBody>(alloc: Global, body: &B, start: Start<B::Kept>) -> anyhow::Result<i64>
     requires { B.ready body.now }
 {
@@ -60,7 +60,7 @@ fn alone<B: TaskBody>(alloc: Global, body: &B, start: Start<B::Kept>) -> anyhow:
     Ok(number_of(&ran.report.arrays))
 }
 
-// What it leaves on this number of workers at a tree of these widths.
+// Returns what a body leaves on `workers` workers at a tree of these widths.
 fn on_workers<B: TaskBody + Sync, R: Threads + Wait + Sync>(
     rt: &R,
     alloc: Global,
@@ -99,7 +99,7 @@ fn until_warm() -> UntilWarm {
     }
 }
 
-// What the rod leaves that is stopped, and after how many supersteps.
+// Returns what the rod that is stopped leaves, together with its number of supersteps.
 fn warm_alone(alloc: Global) -> anyhow::Result<i64> {
     let start = start::rod(alloc)?;
     let ran = run_bodies_watched(
@@ -218,7 +218,7 @@ fn life_on_workers<R: Threads + Wait + Sync>(
     on_workers(rt, alloc, &life, start::board(alloc)?, workers, widths)
 }
 
-// The ranks after 10 rounds.
+// Creates the body that computes the ranks after 10 rounds.
 fn ranks() -> Ranks {
     Ranks {
         graph: Graph { nodes: 1000 },
@@ -226,7 +226,7 @@ fn ranks() -> Ranks {
     }
 }
 
-// What all runs leave on one thread.
+// Returns what all runs leave on one thread.
 fn all_alone(alloc: Global) -> anyhow::Result<[i64; RUNS]> {
     let rod = alone(alloc, &Rod { last: 199 }, start::rod(alloc)?)?;
     let warm = warm_alone(alloc)?;
@@ -237,7 +237,7 @@ fn all_alone(alloc: Global) -> anyhow::Result<[i64; RUNS]> {
     Ok([rod, warm, i64::from(COUNTED), life, shop, search, ranks])
 }
 
-// What they leave on this number of workers at a tree of these widths.
+// Returns what all runs leave on `workers` workers at a tree of these widths.
 fn all_on_workers<R: Threads + Wait + Sync>(
     rt: &R,
     alloc: Global,
@@ -271,7 +271,7 @@ fn all_on_workers<R: Threads + Wait + Sync>(
     Ok([rod, warm, counted, life, shop, search, ranks])
 }
 
-// Whether this number of workers at a tree of these widths leave what one thread left.
+// Returns true if `workers` workers at a tree of these widths leave what one thread left.
 fn is_same<R: Threads + Wait + Sync>(
     rt: &R,
     alloc: Global,

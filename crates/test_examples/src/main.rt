@@ -99,7 +99,7 @@ struct Ran {
 }
 
 impl Ran {
-    // Whether this was printed, on the output and after it on the errors.
+    // Returns true if this was printed, on the output and after it on the errors.
     fn printed(&self, want: &str) -> bool {
         let (output, errors) = (self.output.as_slice(), self.errors.as_slice());
         match want.as_bytes().split_at_checked(output.len()) {
@@ -128,7 +128,7 @@ fn run_on<R: Threads + Wait + Sync>(rt: &R, alloc: Global, words: &[&str], text:
     }
 }
 
-// Whether a text, run by these words, ends well and prints what is wanted.
+// Returns true if a text, run by these words, ends well and prints what is wanted.
 fn prints<R: Threads + Wait + Sync>(
     rt: &R,
     alloc: Global,
@@ -140,7 +140,7 @@ fn prints<R: Threads + Wait + Sync>(
     left.status == 0 && left.printed(want)
 }
 
-// Whether a job's text is taken, and what is printed of it is printed of that again.
+// Returns true if a job's text is taken, and what is printed of it is printed of that again.
 fn is_taken<R: Threads + Wait + Sync>(rt: &R, alloc: Global, text: &str) -> bool {
     let words = ["bsp", "check"];
     let once = run_on(rt, alloc, &words, text.as_bytes());
@@ -150,7 +150,7 @@ fn is_taken<R: Threads + Wait + Sync>(rt: &R, alloc: Global, text: &str) -> bool
     }
 }
 
-// A job's text in format 2, if upgrading it again leaves it unchanged. `None` if the text is refused.
+// Returns a job's text in format 2, if upgrading it again leaves it unchanged. `None` if the text is refused.
 fn upgraded<R: Threads + Wait + Sync>(
     rt: &R,
     alloc: Global,
@@ -166,7 +166,7 @@ fn upgraded<R: Threads + Wait + Sync>(
     Ok(Some(String::from_str(alloc, canonical)?))
 }
 
-// Whether a job in format 2 prints the same, on one worker and on four.
+// Returns true if a job in format 2 prints the same, on one worker and on four.
 fn stays<R: Threads + Wait + Sync>(
     rt: &R,
     alloc: Global,
@@ -182,7 +182,7 @@ fn stays<R: Threads + Wait + Sync>(
     )
 }
 
-// Whether the text of a row that runs a job leaves the same in format 2, unless it is refused.
+// Returns true if the text of a row that runs a job leaves the same in format 2, unless it is refused.
 fn row_stays<R: Threads + Wait + Sync>(
     rt: &R,
     alloc: Global,
@@ -201,7 +201,7 @@ fn row_stays<R: Threads + Wait + Sync>(
     Ok(left.status == row.status && left.printed(want))
 }
 
-// What the program leaves of a row's text.
+// Returns what the program leaves of a row's text.
 fn run_row<R: Threads + Wait + Sync>(
     rt: &R,
     alloc: Global,
@@ -212,7 +212,7 @@ fn run_row<R: Threads + Wait + Sync>(
     Ok(run_on(rt, alloc, words.as_slice(), text.as_bytes()))
 }
 
-// Whether a row's text gives the row's status and output.
+// Returns true if a row's text gives the row's status and output.
 fn holds<R: Threads + Wait + Sync>(
     rt: &R,
     alloc: Global,
@@ -226,7 +226,7 @@ fn holds<R: Threads + Wait + Sync>(
     row_stays(rt, alloc, row, want.as_str())
 }
 
-// What is said of an example.
+// Returns what is said of an example.
 fn verdict(as_stored: bool) -> &'static str {
     if as_stored {
         "prints what is stored"
@@ -235,13 +235,13 @@ fn verdict(as_stored: bool) -> &'static str {
     }
 }
 
-// The text of a stored file.
+// Returns the text of a stored file.
 fn stored<R: AllocGlobal + Files>(rt: &R, name: &str, kind: &str) -> Result<String, Error> {
     let file = format!(in rt.alloc(); "{name}.{kind}")?;
     Ok(fs::read_to_string(rt, file)?)
 }
 
-// Whether a trace prints what is stored.
+// Returns true if a trace prints what is stored.
 fn is_trace<R: AllocGlobal + Files + Threads + Wait + Sync>(
     rt: &R,
     name: &str,
@@ -273,7 +273,7 @@ struct Sharing {
     times: u32,
 }
 
-// Whether a job prints what is stored each time that several workers run it.
+// Returns true if a job prints what is stored each time that several workers run it.
 fn is_shared<R: Threads + Wait + Sync>(
     rt: &R,
     alloc: Global,
@@ -289,7 +289,7 @@ fn is_shared<R: Threads + Wait + Sync>(
     true
 }
 
-// Whether a job prints what is stored, on one worker and on several, and its text is taken; so too in format 2.
+// Returns true if a job prints what is stored, on one worker and on several, and its text is taken; so too in format 2.
 fn is_job<R: AllocGlobal + Files + Threads + Wait + Sync>(
     rt: &R,
     name: &str,
@@ -319,7 +319,7 @@ fn run_jobs<R: AllocGlobal + Files + Print + Threads + Wait + Sync>(
     Ok(())
 }
 
-// Whether a job for measuring leaves the same in format 2.
+// Returns true if a job for measuring leaves the same in format 2.
 fn is_bench<R: AllocGlobal + Files + Threads + Wait + Sync>(
     rt: &R,
     name: &str,
@@ -346,7 +346,7 @@ fn run_bench<R: AllocGlobal + Files + Print + Threads + Wait + Sync>(rt: &R) -> 
     Ok(())
 }
 
-// Whether the picture of a job is the one that is stored, drawn on one worker and on four.
+// Returns true if the picture of a job is the one that is stored, drawn on one worker and on four.
 fn is_picture<R: AllocGlobal + Files + Threads + Wait + Sync>(
     rt: &R,
     name: &str,
@@ -360,7 +360,7 @@ fn is_picture<R: AllocGlobal + Files + Threads + Wait + Sync>(
     )
 }
 
-// Whether three supersteps share a column in the picture of a long job.
+// Returns true if three supersteps share a column in the picture of a long job.
 fn shares_columns<R: Threads + Wait + Sync>(rt: &R, alloc: Global) -> bool {
     let left = run_on(rt, alloc, &DRAW, LONG.as_bytes());
     match str::from_utf8(left.output.as_slice()) {
@@ -369,7 +369,7 @@ fn shares_columns<R: Threads + Wait + Sync>(rt: &R, alloc: Global) -> bool {
     }
 }
 
-// Whether a picture is drawn of a job that ends so, with that status and nothing on the errors.
+// Returns true if a picture is drawn of a job that ends so, with that status and nothing on the errors.
 fn is_drawn<R: Threads + Wait + Sync>(
     rt: &R,
     alloc: Global,
@@ -423,7 +423,7 @@ fn draw_pictures<R: AllocGlobal + Files + Print + Threads + Wait + Sync>(
     draw_ends(rt)
 }
 
-// Whether a line is a row that holds.
+// Returns true if a line is a row that holds.
 fn is_row<R: Threads + Wait + Sync>(rt: &R, alloc: Global, line: &str) -> Result<bool, AllocError> {
     match row_of(line) {
         Some(row) => holds(rt, alloc, &row),

@@ -13,7 +13,7 @@ pub(crate) struct Row<'a> {
     output: &'a str,
 }
 
-/// The row that a line holds.
+/// Returns the row that a line holds, if it holds one.
 pub(crate) fn row_of(line: &str) -> Option<Row<'_>> {
     let (words, behind_words) = line.split_once(" | ")?;
     let (text, behind_text) = behind_words.split_once(" | ")?;
@@ -28,7 +28,7 @@ pub(crate) fn row_of(line: &str) -> Option<Row<'_>> {
 }
 
 impl<'a> Row<'a> {
-    /// The words of the command line, the program's name first.
+    /// Returns the words of the command line, the program's name first.
     pub(crate) fn command_line(&self, alloc: Global) -> Result<Vec<&'a str>, AllocError> {
         let mut line = Vec::new(alloc);
         line.push("bsp")?;
@@ -38,17 +38,17 @@ impl<'a> Row<'a> {
         Ok(line)
     }
 
-    /// Whether the program is to run a job.
+    /// Returns true if the program is to run a job.
     pub(crate) fn runs(&self) -> bool {
         self.words == "run" || self.words.starts_with("run ")
     }
 
-    /// The text that the program reads.
+    /// Returns the text that the program reads.
     pub(crate) fn whole_text(&self, alloc: Global) -> Result<String, AllocError> {
         written_out(alloc, self.text)
     }
 
-    /// What the program is to print.
+    /// Returns what the program is to print.
     pub(crate) fn whole_output(&self, alloc: Global) -> Result<String, AllocError> {
         written_out(alloc, self.output)
     }

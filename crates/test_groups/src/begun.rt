@@ -38,7 +38,7 @@ pub(crate) fn begun<R: Wait + Abort>(
     Tree::with_groups(alloc, rt, shape, 0, rule, counts)
 }
 
-// The last group is taken out, and it is at this tier.
+// Takes the last group out. It must be at this tier.
 fn last_at(rt: &impl Abort, tree: &Tree<Rule>, groups: &mut Vec<Group>, tier: u16) -> Seat
     requires { All (λ g. g.tree ≡ tree.now.tree) groups.old.items }
     ensures rest { All (λ g. g.tree ≡ tree.now.tree) groups.new.items }
@@ -54,7 +54,7 @@ fn last_at(rt: &impl Abort, tree: &Tree<Rule>, groups: &mut Vec<Group>, tier: u1
     }
 }
 
-// The groups of the first, the third and the fourth leaf, and no others.
+// Takes out the groups of the first, the third and the fourth leaf. There must be no others.
 fn three_of(rt: &impl Abort, tree: &Tree<Rule>, groups: &mut Vec<Group>) -> Three
     requires { All (λ g. g.tree ≡ tree.now.tree) groups.old.items }
     ensures { ThreeAt tree.now.tree result }
@@ -107,7 +107,7 @@ fn a_tree_begins_with_groups(rt: HostRuntime) {
     }
 }
 
-// Whether a tree has no room for these members, at this leaf first.
+// Returns true if a tree has no room for these members, at this leaf first.
 fn is_full_at<R: Wait + Abort>(rt: &R, alloc: Global, counts: &[u32; 4], leaf: u16) -> bool {
     let rule = StoredAdvance::new(is_empty as Rule, WHEN_EMPTY);
     match begun(rt, alloc, rule, counts) {

@@ -66,7 +66,7 @@ fn joins<R: Wait>(
     }
 }
 
-/// What an arrival that waits answers.
+/// Returns what an arrival that waits answers, and its group.
 pub(crate) fn told_of(arrived: GroupArrived) -> (Group, Told)
     ensures { result.0 ≡ tokens_arrived arrived }
 {
@@ -138,7 +138,7 @@ fn arrives_with<R: Wait + Abort>(
     (Seat::Inside(group), told)
 }
 
-// The same with a number of tries.
+// Does the same with a number of tries.
 fn arrives_with_in(
     rt: &impl Abort,
     tree: &Tree<Rule>,
@@ -168,7 +168,7 @@ fn arrives_with_in(
     }
 }
 
-// What a wait answers.
+// Returns what a wait answers.
 fn told_by(awaited: AwaitedAdvance) -> Told {
     match awaited {
         AwaitedAdvance::Passed(phase) => Told::Passed(phase),
@@ -177,7 +177,7 @@ fn told_by(awaited: AwaitedAdvance) -> Told {
     }
 }
 
-// What a poll answers.
+// Polls. Returns what that answers.
 fn polls(tree: &Tree<Rule>, group: &mut Group) -> Told
     requires own { group.old.tree ≡ tree.now.tree }
     ensures { group.new.tree ≡ tree.now.tree }
@@ -205,7 +205,7 @@ fn leaves<R: Wait>(rt: &R, tree: &Tree<Rule>, group: Group) -> (Seat, Told)
     }
 }
 
-// The end by force.
+// Ends the tree by force.
 fn forces(tree: &Tree<Rule>, mut door: Door) -> (Seat, Told)
     requires own { door.tree ≡ tree.now.tree }
     ensures { tree_at result.0 ≡ tree.now.tree }
@@ -217,7 +217,7 @@ fn forces(tree: &Tree<Rule>, mut door: Door) -> (Seat, Told)
     (Seat::Outside(door), told)
 }
 
-// What a group does without another one. New tokens are split off the spare door.
+// Does what a group does without another one. New tokens are split off the spare door.
 fn done_alone<R: Wait + Abort>(
     rt: &R,
     tree: &Tree<Rule>,
@@ -270,7 +270,7 @@ fn splits(rt: &impl Abort, tree: &Tree<Rule>, mut group: Group, kept: u32) -> ((
     ((Seat::Inside(group), Seat::Inside(other)), told)
 }
 
-// Whether all members of a group have arrived, and not none of them.
+// Returns true if all members of a group have arrived, and false if none has.
 fn have_arrived(rt: &impl Abort, tree: &Tree<Rule>, group: &mut Group) -> bool
     requires own { group.old.tree ≡ tree.now.tree }
     ensures own { group.new.tree ≡ tree.now.tree }
@@ -304,7 +304,7 @@ pub(crate) fn merges(
     ((Seat::Inside(group), Seat::Outside(door)), told)
 }
 
-/// What a group does, and the next one if it has to do with it. New tokens are split off the spare door.
+/// Does what a group does, and the next one if it has to do with it. New tokens are split off the spare door.
 pub(crate) fn done<R: Wait + Abort>(
     rt: &R,
     tree: &Tree<Rule>,

@@ -19,7 +19,7 @@ use tier_table::groups::Group;
 use tier_table::tokens::{Door, Token};
 use tier_table::tree::Tree;
 
-// The last group is taken out.
+// Takes the last group out.
 fn last(rt: &impl Abort, tree: &Tree<Rule>, groups: &mut Vec<Group>) -> Group
     requires { All (λ g. g.tree ≡ tree.now.tree) groups.old.items }
     ensures rest { All (λ g. g.tree ≡ tree.now.tree) groups.new.items }
@@ -40,7 +40,7 @@ fn arrived<R: Wait + Abort>(rt: &R, tree: &Tree<Rule>, group: Group) -> Group
     group
 }
 
-// What a tree leaves that is closed with its door and these two groups.
+// Closes a tree with its door and these two groups. Returns what it leaves.
 fn closed_with(
     rt: &impl Abort,
     alloc: Global,
@@ -59,7 +59,7 @@ fn closed_with(
     }
 }
 
-// Whether tokens are these: the tier, the size, how many of the members are unarrived, and the phase.
+// Returns true if tokens are these: the tier, the size, how many of the members are unarrived, and the phase.
 fn tokens_are(tokens: &[ClosedToken], wants: &[(u16, u32, u32, u32)]) -> bool {
     if tokens.len() != wants.len() {
         return false;

@@ -10,7 +10,7 @@ use test_parts::told::Told;
 use tier_core::call::{Call, Played};
 use tier_core::tree::Core;
 
-/// The word of a tier.
+/// Returns the word of a tier.
 pub(crate) fn word_at(rt: &impl Abort, core: &Core, tier: u16) -> Word {
     assert!(rt; usize::from(tier) < core.tiers());
     core.word(tier)
@@ -94,7 +94,7 @@ pub(crate) fn poll(rt: &impl Abort, core: &mut Core, members: &[usize]) -> Told 
     told
 }
 
-// Why members that have polled can't arrive, or join others.
+// Returns why members that have polled can't arrive, or join others, if they can't.
 fn refused(core: &Core, polled: Told) -> Option<Told> {
     match polled {
         Told::Waiting => Some(Told::AlreadyArrived(core.root().phase)),
@@ -193,7 +193,7 @@ pub(crate) fn arrive_with(
     Told::Done(phase, led)
 }
 
-/// The machine ends by force.
+/// Ends the machine by force.
 pub(crate) fn force(rt: &impl Abort, core: &mut Core) -> Told {
     let member = core.add_token().expect(rt, "memory");
     match call(rt, core, member, Call::Force) {

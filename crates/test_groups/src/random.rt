@@ -31,14 +31,14 @@ struct Place {
     members: Vec<usize>,
 }
 
-// The tier of members, and whether they have arrived in the phase of the machine.
+// Returns the tier of members, and whether they have arrived in the phase of the machine.
 fn state(core: &Core, members: &[usize]) -> Option<(u16, bool)> {
     let view = view_of(core, *members.first()?);
     let arrived = view.arrived == view.size && view.phase == core.root().phase;
     Some((view.tier, arrived))
 }
 
-// Whether two groups may come together.
+// Returns true if two groups may come together.
 fn may_merge(core: &Core, own: &Place, next: &Place) -> bool {
     match (state(core, &own.members), state(core, &next.members)) {
         (Some(own), Some(next)) => own == next && !core.root().ended,
@@ -46,8 +46,8 @@ fn may_merge(core: &Core, own: &Place, next: &Place) -> bool {
     }
 }
 
-// What a place without a group does next; late in a list the end by force, too. Many members register only where there is
-// no room for them beside others.
+// Returns what a place without a group does next; late in a list this may be the end by force, too. Many members register only
+// if there is no room for them beside others.
 fn next_outside(rt: &impl Abort, core: &Core, numbers: &mut Numbers, late: bool) -> Deed {
     if late && numbers.below(8) == 0 {
         return Deed::Force;
@@ -73,7 +73,7 @@ fn next_exchange(size: u32, numbers: &mut Numbers) -> Deed {
     }
 }
 
-// What a group does next.
+// Returns what a group does next.
 fn next_inside(core: &Core, own: &Place, next: &Place, numbers: &mut Numbers) -> Deed {
     let size = (own.members.len() % 65536) as u32;
     match numbers.below(12) {
@@ -91,7 +91,7 @@ fn next_inside(core: &Core, own: &Place, next: &Place, numbers: &mut Numbers) ->
     }
 }
 
-// The last members of a group are the first of a new one.
+// Moves the last members of a group to a new one, and leaves `kept`.
 fn part(rt: &impl Abort, own: &mut Vec<usize>, next: &mut Vec<usize>, kept: u32) {
     for _ in 0..own.len() {
         if own.len() > kept as usize {
@@ -102,7 +102,7 @@ fn part(rt: &impl Abort, own: &mut Vec<usize>, next: &mut Vec<usize>, kept: u32)
     next.reverse();
 }
 
-// The members of a group come after those of another one.
+// Appends the members of the next group to those of a group.
 fn append(rt: &impl Abort, own: &mut Vec<usize>, next: &mut Vec<usize>) {
     for member in &*next {
         own.push(*member).expect(rt, "memory");
@@ -110,7 +110,7 @@ fn append(rt: &impl Abort, own: &mut Vec<usize>, next: &mut Vec<usize>) {
     next.clear();
 }
 
-// What members answer on the machine. Both parts of a group answer the same, and so do two that come together.
+// Returns what members answer on the machine. Both parts of a group answer the same, and so do two that come together.
 fn told_of(
     rt: &impl Abort,
     alloc: Global,
@@ -142,7 +142,7 @@ fn told_of(
     }
 }
 
-// The answer without whether a token learns of a new phase by this call.
+// Returns the answer without whether a token learns of a new phase by this call.
 fn plainly(told: Told) -> Told {
     match told {
         Told::Passed(phase) => Told::Here(phase),
@@ -169,7 +169,7 @@ fn held(rt: &impl Abort, tree: &Tree<Rule>, own: Seat, deed: Deed) -> (Seat, Tol
     }
 }
 
-// The size of a group, and 0 for a door.
+// Returns the size of a group, and 0 for a door.
 fn size_of(seat: &Seat) -> usize {
     match seat {
         Seat::Outside(_) => 0,
@@ -206,7 +206,7 @@ fn act<R: Wait + Abort>(
     (own, next)
 }
 
-// The next deed of a group.
+// Does the next deed of a group.
 fn turn<R: Wait + Abort>(
     rt: &R,
     alloc: Global,
@@ -271,7 +271,7 @@ fn with_door(alloc: Global, tree: &Tree<Rule>, spare: &mut Door) -> Place
     }
 }
 
-// Whether the words of a closed tree are those of the machine.
+// Returns true if the words of a closed tree are those of the machine.
 fn are_words(rt: &impl Abort, words: &[Word], core: &Core) -> bool {
     for (tier, word) in words.iter().enumerate() {
         if word.pack() != word_at(rt, core, (tier % 64) as u16).pack() {
@@ -281,7 +281,7 @@ fn are_words(rt: &impl Abort, words: &[Word], core: &Core) -> bool {
     words.len() == core.tiers()
 }
 
-// The words that a list of deeds leaves on a tree of these widths are the machine's. Returns the machine's last phase.
+// Checks that the words that a list of deeds leaves on a tree of these widths are the machine's. Returns the machine's last phase.
 fn list<R: Wait + Abort>(
     rt: &R,
     alloc: Global,

@@ -247,7 +247,7 @@ const RUNS: [Run; 8] = [
     ),
 ];
 
-// The size and the phase of a group, and 0 for a door.
+// Returns the size and the phase of a group, and 0 for a door.
 fn looks(seat: &Seat) -> (u32, u32) {
     match seat {
         Seat::Outside(_) => (0, 0),
@@ -279,7 +279,7 @@ fn acts<R: Wait + Abort>(
     seats
 }
 
-// The group that a row names does what it says.
+// Lets the group that a row names do what it says.
 fn turned<R: Wait + Abort>(
     rt: &R,
     tree: &Tree<Rule>,

@@ -282,7 +282,7 @@ fn players<R: Wait + Abort>(
     vec![in alloc; zero, one, two, three, four, five, six, seven].expect(rt, "memory")
 }
 
-// What the groups say of themselves. Nobody has arrived in the last phase.
+// Returns what the groups say of themselves. Nobody may have arrived in the last phase.
 fn tokens_of(rt: &impl Abort, alloc: Global, players: &[Player]) -> Vec<ClosedToken> {
     let mut tokens = Vec::new(alloc);
     for player in players {

@@ -2,7 +2,7 @@
 use job_reader::{ReadJobFault, read_job};
 use std::alloc::{AllocError, Global};
 
-// Whether the fault of a text that isn't a job prints this.
+// Returns true if the fault of a text that isn't a job prints this.
 fn prints(alloc: Global, text: &[u8], want: &str) -> Result<bool, AllocError> {
     match read_job(alloc, text) {
         Ok(_) => Ok(false),
@@ -13,7 +13,7 @@ fn prints(alloc: Global, text: &[u8], want: &str) -> Result<bool, AllocError> {
     }
 }
 
-// Whether it prints this where memory runs out.
+// Returns true if the fault of running out of memory prints this.
 fn prints_memory(alloc: Global, want: &str) -> Result<bool, AllocError> {
     let printed = format!(in alloc; "{}", ReadJobFault::Memory)?;
     Ok(printed.as_str() == want)

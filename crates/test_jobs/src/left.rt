@@ -6,7 +6,7 @@ use std::alloc::Global;
 use step_core::run_alone;
 use task_code::job::Job;
 
-// The job of a text.
+// Returns the job of a text.
 pub(crate) fn job_of(alloc: Global, text: &str) -> Result<Job, ReadJobFault> {
     read_job(alloc, text.as_bytes())
 }
@@ -17,7 +17,7 @@ fn write_to(alloc: Global, report: &Report, out: &mut Vec<u8>) -> Result<(), Wri
     write_report(alloc, report, &mut writer)
 }
 
-// The text of a report; none if it can't be written.
+// Returns the text of a report, or `None` if it can't be written.
 fn report_text(alloc: Global, report: &Report) -> Option<Vec<u8>> {
     let mut out = Vec::new(alloc);
     match write_to(alloc, report, &mut out) {
@@ -26,7 +26,7 @@ fn report_text(alloc: Global, report: &Report) -> Option<Vec<u8>> {
     }
 }
 
-// Whether a report has this text.
+// Returns true if a report has this text.
 fn has_text(alloc: Global, report: &Report, want: &[u8]) -> bool {
     match report_text(alloc, report) {
         Some(text) => text.as_slice() == want,
@@ -34,7 +34,7 @@ fn has_text(alloc: Global, report: &Report, want: &[u8]) -> bool {
     }
 }
 
-// Whether two reports have the same text.
+// Returns true if two reports have the same text.
 fn are_same(alloc: Global, one: &Report, other: &Report) -> bool {
     match report_text(alloc, one) {
         Some(text) => has_text(alloc, other, text.as_slice()),
@@ -42,7 +42,7 @@ fn are_same(alloc: Global, one: &Report, other: &Report) -> bool {
     }
 }
 
-// Whether a report is the one that a job leaves on one thread within this limit. A limit that is none counts as 1.
+// Returns true if a report is the one that a job leaves on one thread within this limit. A limit that is none counts as 1.
 pub(crate) fn is_left_alone(alloc: Global, job: &Job, limit: u32, report: &Report) -> bool {
     match run_alone(alloc, job, limit.max(1)) {
         Ok(alone) => are_same(alloc, &alone, report),

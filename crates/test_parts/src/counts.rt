@@ -4,7 +4,7 @@ use phaser_word::Word;
 use tier_shape::Shape;
 use tier_table::closing::ClosedToken;
 
-// How many parties of a tier have not arrived in the root's phase: all of them if it lags.
+// Returns how many parties of a tier have not arrived in the root's phase: all of them if it lags.
 fn late(word: &Word, phase: u32) -> u32 {
     if word.parties == 0 {
         0
@@ -15,7 +15,7 @@ fn late(word: &Word, phase: u32) -> u32 {
     }
 }
 
-// The members of tokens at a tier, and how many of them have not arrived in the root's phase.
+// Returns how many members the tokens at a tier have, and how many of them have not arrived in the root's phase.
 fn members(tokens: &[ClosedToken], tier: usize, phase: u32) -> (u32, u32) {
     let mut all = 0u32;
     let mut unarrived = 0u32;
@@ -33,7 +33,7 @@ fn members(tokens: &[ClosedToken], tier: usize, phase: u32) -> (u32, u32) {
     (all, unarrived)
 }
 
-// The tiers below one that have a party, and those that have an unarrived one.
+// Returns how many of the tiers below one have a party, and how many have an unarrived one.
 fn children(shape: &Shape, words: &[Word], tier: usize, phase: u32) -> (u32, u32) {
     let mut all = 0u32;
     let mut unarrived = 0u32;
@@ -47,8 +47,7 @@ fn children(shape: &Shape, words: &[Word], tier: usize, phase: u32) -> (u32, u32
     (all, unarrived)
 }
 
-/// Whether each word counts the tokens at its tier and the tiers below it. This leaves out the root's word if it has
-/// ended.
+/// Returns true if each word counts the tokens at its tier and the tiers below it. This leaves out the root's word if it has ended.
 pub fn tally(shape: &Shape, words: &[Word], tokens: &[ClosedToken]) -> bool {
     let Some(root) = words.first() else {
         return false;
@@ -65,7 +64,7 @@ pub fn tally(shape: &Shape, words: &[Word], tokens: &[ClosedToken]) -> bool {
     words.len() == shape.count()
 }
 
-/// Whether the words are these: the phase, the parties, how many of them are unarrived, and whether it has ended.
+/// Returns true if the words are these: the phase, the parties, how many of them are unarrived, and whether it has ended.
 pub fn are(words: &[Word], wants: &[(u32, u32, u32, bool)]) -> bool {
     if words.len() != wants.len() {
         return false;

@@ -17,7 +17,7 @@ pub fn machine(alloc: Global, widths: &str, tokens: u32) -> Option<Core> {
     Some(core)
 }
 
-/// What a token knows.
+/// Returns what a token knows.
 pub fn view_of(core: &Core, token: usize) -> View {
     if token < core.tokens() {
         return core.view(token);

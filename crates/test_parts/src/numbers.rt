@@ -8,7 +8,7 @@ pub struct Numbers {
 }
 
 impl Numbers {
-    /// The next number below a bound.
+    /// Returns the next number below a bound.
     pub fn below(&mut self, bound: u32) -> u32 {
         self.seed = self.seed.wrapping_mul(1664525).wrapping_add(1013904223);
         (self.seed >> 16) % bound.max(1)

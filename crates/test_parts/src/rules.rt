@@ -13,7 +13,7 @@ pub const WHEN_EMPTY: EndPlan = EndPlan {
     at: None,
 };
 
-/// Whether nobody is registered.
+/// Returns true if nobody is registered.
 pub fn is_empty(_phase: u32, count: u32) -> bool
     ensures { result ≡ (count == 0) }
 {

@@ -119,7 +119,7 @@ fn goes<F: Fn(u32, u32) -> bool>(
     }
 }
 
-// The last member leaves, and the closure has been called so often then.
+// Lets the last member leave. The closure must have been called `want` times then.
 fn empties<F: Fn(u32, u32) -> bool>(
     rt: &impl Abort,
     tree: &Tree<F>,

@@ -42,7 +42,7 @@ fn settled<'a, 'b, R: Wait + Abort>(rt: &R, owed: Owed<'a, Noting<'b>>) -> Hooke
     panic!(rt; "unreachable")
 }
 
-// The only member of a party arrives without waiting. With one try the advance is owed then.
+// Lets the only member of a party arrive without waiting. With one try the advance is owed then.
 fn tried<'a, 'b, R: Wait + Abort>(rt: &R, party: Hooked<'a, 'b>, tries: u32) -> Hooked<'a, 'b> {
     match party.try_meet(tries) {
         Met::Passed(party, _) => {

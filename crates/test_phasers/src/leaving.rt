@@ -52,7 +52,7 @@ fn all_arrive<'a, R: Wait>(rt: &R, own: Parties<'a>) -> (Parties<'a>, Told) {
     }
 }
 
-// What a poll answers.
+// Polls. Returns what that answers.
 fn polled(own: &mut Parties<'_>) -> Told {
     match own.poll() {
         Polled::Passed(phase) => Told::Passed(phase),
@@ -120,7 +120,7 @@ fn ends<'a, R: Wait + Abort>(rt: &R, mut guest: Guest<'a>, one: Parties<'a>) {
     let _ = plays(rt, one, (Ask::LeaveSome(1), Told::Ended(-2147483647), 1));
 }
 
-// The parties of a tree of two leaves.
+// Plays with the parties of a tree of two leaves.
 fn two_parties<R: Wait + Abort>(rt: &R, alloc: Global, tree: &mut PhaserTree) {
     match tree.with_parties(alloc, rt, &[5, 3]) {
         Ok((guest, mut parties)) => {

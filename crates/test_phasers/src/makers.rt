@@ -17,7 +17,7 @@ const WORDS: [(u64, Option<(u32, u32, u32, bool)>); 8] = [
     (0x0000000000010002, None),
 ];
 
-// Whether a number is unpacked so, and packed again.
+// Returns true if a number is unpacked so, and packed again.
 fn is_packed(bits: u64, want: Option<(u32, u32, u32, bool)>) -> bool {
     match (Word::unpack(bits), want) {
         (Some(word), Some(want)) => {
@@ -51,7 +51,7 @@ const ALIKE: [(u16, usize, &str); 3] = [
     (0, 64, "taken"),
 ];
 
-// The answer to a list of parents.
+// Returns the answer to a list of parents.
 fn told(alloc: Global, parents: &[u16]) -> &'static str {
     match Shape::from_parents(alloc, parents) {
         Ok(shape) if shape.count() == parents.len() => "taken",
@@ -60,7 +60,7 @@ fn told(alloc: Global, parents: &[u16]) -> &'static str {
     }
 }
 
-// The answer to `count` tiers with this parent.
+// Returns the answer to `count` tiers with this parent.
 fn told_alike(rt: &impl Abort, alloc: Global, parent: u16, count: usize) -> &'static str {
     let parents = Vec::from_elem(alloc, parent, count).expect(rt, "memory");
     told(alloc, &parents)
@@ -86,7 +86,7 @@ fn has_leaves(rt: &impl Abort, alloc: Global, shape: &Shape) -> bool {
     leaves.as_slice() == [3, 4, 5, 6, 7, 8].as_slice()
 }
 
-// The path of its last leaf.
+// Returns true if its last leaf has its path.
 fn has_path(shape: &Shape) -> bool {
     if shape.count() != 9 {
         return false;

@@ -130,17 +130,17 @@ fn registered<'a, R: Wait + Abort>(rt: &R, tree: &'a mut PhaserTree) -> (Guest<'
     (guest, party)
 }
 
-// Whether a party is at tier 1, in phase 0, with two members that haven't arrived.
+// Returns true if a party is at tier 1, in phase 0, with two members that haven't arrived.
 fn is_new(party: &Party<'_>) -> bool {
     (party.tier(), party.size(), party.unarrived(), party.phase()) == (1, 2, 2, 0)
 }
 
-// Whether one member of two arrives.
+// Returns true if one member of two arrives.
 fn one_arrives<R: Wait>(rt: &R, party: &mut Party<'_>) -> bool {
     matches!(party.arrive(rt), ArrivedInPlace::Done { .. }) && party.unarrived() == 1
 }
 
-// Whether the next member learns that the tree has ended.
+// Returns true if the next member learns that the tree has ended.
 fn learns_the_end<R: Wait>(rt: &R, party: &mut Party<'_>) -> bool {
     matches!(party.arrive(rt), ArrivedInPlace::Ended(_))
 }
@@ -235,12 +235,12 @@ fn two_meet_without_waiting(rt: HostRuntime) {
     }
 }
 
-// Whether the only caller gets its turn, and no caller waits who could be taken away.
+// Returns true if the only caller gets its turn, and no caller waits who could be taken away.
 fn gives_turns<R: Wait>(rt: &R, barrier: &Barrier) -> bool {
     barrier.await_turn(rt, 7) == Ok(0) && barrier.abandon(rt, 7).is_err()
 }
 
-// Whether it is broken until it is reset, and keeps nothing then.
+// Returns true if a barrier is broken until it is reset, and keeps nothing then.
 fn breaks<R: Wait>(rt: &R, barrier: &Barrier) -> bool {
     barrier.break_off(rt).is_empty()
         && barrier.await_turn(rt, 7) == Err(GateFault::Broken)

@@ -38,7 +38,7 @@ pub(crate) fn put(rt: &impl Abort, tree: &Tree<Rule>, tokens: &mut Vec<Token>, t
     tokens.push(token).expect(rt, "memory");
 }
 
-/// What a tree leaves that is closed with these tokens.
+/// Closes a tree with these tokens. Returns what it leaves.
 pub(crate) fn left(rt: &impl Abort, alloc: Global, tree: Tree<Rule>, tokens: Vec<Token>) -> Closed
     requires own { All (λ t. (held t).tree ≡ tree.tree) tokens.items }
 {

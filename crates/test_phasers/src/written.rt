@@ -20,7 +20,7 @@ use tier_table::tokens::{Crew, Door};
 use tier_table::tree::Tree;
 use tier_table::waiting::{ArrivedAtLast, AwaitedAdvance};
 
-// What is written down after one more call, in twelve bits.
+// Returns what is written down after one more call, in twelve bits.
 fn then(before: u64, (phase, count): (u32, u32)) -> u64 {
     before
         .wrapping_mul(4096)
@@ -34,7 +34,7 @@ fn write(log: &AtomicU64, phase: u32, count: u32) {
     log.store(then(before, (phase, count)), Ordering::SeqCst);
 }
 
-// What is written down of these calls.
+// Returns what is written down of these calls.
 fn written(calls: &[(u32, u32)]) -> u64 {
     let mut log = 1;
     for call in calls {
@@ -78,7 +78,7 @@ fn goes<F: Fn(u32, u32) -> bool>(rt: &impl Abort, tree: &Tree<F>, crew: Crew, le
     }
 }
 
-// The last member of a crew leaves.
+// Lets the last member of a crew leave.
 fn empties<F: Fn(u32, u32) -> bool>(rt: &impl Abort, tree: &Tree<F>, crew: Crew)
     requires own { crew.tree ≡ tree.now.tree }
     requires rule { Answers (F.pre tree.now.rule.closure) (F.post tree.now.rule.closure) (end_ends_at tree.now.rule.plan) }
@@ -112,7 +112,7 @@ fn two_crews_pass<F: Fn(u32, u32) -> bool>(
     empties(rt, tree, one);
 }
 
-// What is written down while two crews pass on a tree of these widths.
+// Returns what is written down while two crews pass on a tree of these widths.
 fn told_alone(rt: &impl Abort, alloc: Global, widths: &str, tiers: (u16, u16)) -> u64 {
     let log = AtomicU64::new(1);
     let ends = |phase: u32, count: u32| {
@@ -183,7 +183,7 @@ fn threads_pass<R: Threads + Wait + Abort + Sync, F: Fn(u32, u32) -> bool + Sync
     assert!(rt; passed.expect(rt, "memory").len() == 4);
 }
 
-// What is written down while four threads pass.
+// Returns what is written down while four threads pass.
 fn told_together<R: Threads + Wait + Abort + Sync>(rt: &R, alloc: Global) -> u64 {
     let log = AtomicU64::new(1);
     let ends = |phase: u32, count: u32| {

@@ -7,7 +7,7 @@ use stream_workers::Unstreamed;
 use text_lines::{Code, Refusal};
 use trace_text::TraceFault;
 
-// Whether an error prints this.
+// Returns true if an error prints this.
 fn prints<E: Display + Drop>(alloc: Global, error: E, want: &str) -> bool {
     match format!(in alloc; "{error}") {
         Ok(printed) => printed.as_str() == want,
@@ -15,7 +15,7 @@ fn prints<E: Display + Drop>(alloc: Global, error: E, want: &str) -> bool {
     }
 }
 
-// A text that is refused at its third line.
+// Returns the refusal of a text at its third line.
 fn refusal() -> Refusal {
     Refusal {
         line: 3,

@@ -139,7 +139,7 @@ fn run_curtly<R: Threads + Wait + Sync>(
     }
 }
 
-// Whether the status is as it would be with a writer that takes all.
+// Returns true if the status is as it would be with a writer that takes all.
 fn errors_are_cut<R: Threads + Wait + Sync>(
     rt: &R,
     alloc: Global,

@@ -104,7 +104,7 @@ impl<'a> Sink<'a> {
         }
     }
 
-    // What a write answers that finds no room.
+    // Answers a write that finds no room.
     fn without_room(&mut self) -> io::Result<usize>
         ensures { IfOk result (λ count. count ≡ 0) }
     {

@@ -32,7 +32,7 @@ fn a_front_of_a_text_is_a_job_or_refused(rt: HostRuntime) {
     }
 }
 
-// Whether a front of a text was run to its end, a fault or the limit, or refused, and then nothing is printed.
+// Returns true if a front of a text was run to its end, a fault or the limit, or refused, and then nothing is printed.
 fn has_ended(left: &Ran) -> bool {
     match left.status {
         0 | 2 | 3 => left.errors.is_empty(),

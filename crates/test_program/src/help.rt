@@ -21,7 +21,7 @@ const HELPS: [(&[&str], &str); 13] = [
     (&["bsp", "trace", "-h"], "trace"),
 ];
 
-// Whether a run that was asked for help says this.
+// Returns true if a run that was asked for help says this.
 fn tells(left: &Ran, name: &str) -> bool {
     if !ended_with(left, 0, b"") {
         return false;
@@ -32,7 +32,7 @@ fn tells(left: &Ran, name: &str) -> bool {
     }
 }
 
-// Whether a run with these words says this.
+// Returns true if a run with these words says this.
 fn are_told<R: Threads + Wait + Sync>(rt: &R, alloc: Global, words: &[&str], name: &str) -> bool {
     let left = run_text(rt, alloc, words, b"");
     tells(&left, name)

@@ -37,12 +37,12 @@ fn add(count: &AtomicU64, number: u64) {
     count.fetch_add(number, Ordering::SeqCst);
 }
 
-// What a count is.
+// Returns the value of a count.
 fn of(count: &AtomicU64) -> u64 {
     count.load(Ordering::SeqCst)
 }
 
-// Whether a path is that of the start line of this number.
+// Returns true if a path is that of the start line of this number.
 fn is_start(path: &Path, number: u16) -> bool {
     path.as_slice() == [number].as_slice()
 }
@@ -129,7 +129,8 @@ fn swapped<R: Threads + Wait + Sync>(
     )
 }
 
-// Whether the counts are these: supersteps and tasks on one thread, segments on several, and ends. Each run passes its status on.
+// Returns true if the counts are these: supersteps and tasks on one thread, segments on several, and ends. Each run passes its
+// status on.
 fn are(counts: &Counts, supersteps: u64, tasks: u64, left: u64, ends: u64) -> bool {
     of(&counts.supersteps) == supersteps
         && of(&counts.tasks) == tasks
@@ -139,7 +140,7 @@ fn are(counts: &Counts, supersteps: u64, tasks: u64, left: u64, ends: u64) -> bo
         && of(&counts.gave_up) == 0
 }
 
-// Whether a run by these words reports this much.
+// Returns true if a run by these words reports this much.
 fn tells<R: Threads + Wait + Sync>(
     rt: &R,
     alloc: Global,

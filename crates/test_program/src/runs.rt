@@ -193,17 +193,17 @@ pub(crate) fn whole_of<T: Abort + Threads + Wait + Sync>(
     left.out
 }
 
-// Whether the bytes are these.
+// Returns true if the bytes are these.
 fn are_bytes(bytes: &[u8], want: &[u8]) -> bool {
     bytes == want
 }
 
-/// Whether a run ended with this status, and printed these errors.
+/// Returns true if a run ended with this status, and printed these errors.
 pub(crate) fn ended_with(left: &Ran, status: u8, errors: &[u8]) -> bool {
     left.status == status && are_bytes(left.errors.as_slice(), errors)
 }
 
-/// What a run left is this.
+/// Checks that a run left this.
 pub(crate) fn has_left(
     rt: &impl Abort,
     left: &Ran,

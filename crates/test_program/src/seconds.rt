@@ -104,7 +104,7 @@ fn watched<R: Threads + Wait + Sync>(
     )
 }
 
-// Whether a run by these words prints this of its progress, and ends at its limit.
+// Returns true if a run by these words prints this of its progress, and ends at its limit.
 fn prints<R: Threads + Wait + Sync>(rt: &R, alloc: Global, words: &[&str], want: &str) -> bool {
     let desk = Desk {
         rt,

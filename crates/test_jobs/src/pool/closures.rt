@@ -8,7 +8,7 @@ use std::thread::Threads;
 use task_code::job::Job;
 use worker_pool::{AllStart, OpenGate};
 
-// What the closure gets in a run with two workers, added up; nothing if the run is refused.
+// Returns the sum of what the closure gets in a run with two workers, or 0 if the run is refused.
 fn sum_in<R: Threads + Wait + Sync>(rt: &R, alloc: Global, job: &Job, widths: &str) -> u64 {
     let sum = AtomicU64::new(0);
     match left_by(
@@ -40,7 +40,7 @@ const SUMS: [(&str, &str, u64); 4] = [
     (SPAWNS_ONE, "2", 2001002),
 ];
 
-// Whether it gets this in a run of the job of this text.
+// Returns true if this is the sum in a run of the job of this text.
 fn has_sum<R: Threads + Wait + Sync>(
     rt: &R,
     alloc: Global,

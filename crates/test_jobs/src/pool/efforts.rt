@@ -64,7 +64,7 @@ impl Gate for Order {
     fn leave<R: Wait>(&self, _rt: &R, _path: &Path, _step: u32) {}
 }
 
-// Whether one worker runs the tasks of a job in that order.
+// Returns true if one worker runs the tasks of a job in that order.
 fn runs_in_order<R: Threads + Wait + Sync>(rt: &R, alloc: Global, job: &Job) -> bool {
     let gate = Order {
         lines: Mutex::new(Vec::new(alloc)),
@@ -74,7 +74,7 @@ fn runs_in_order<R: Threads + Wait + Sync>(rt: &R, alloc: Global, job: &Job) -> 
     ran.is_ok() && gate.lines.lock(rt).as_slice() == ORDER.as_slice()
 }
 
-// Whether it does of that job.
+// Returns true if one worker does so with that job.
 fn are_in_order<R: Threads + Wait + Sync>(rt: &R, alloc: Global) -> bool {
     match job_of(alloc, TURNS) {
         Ok(job) => runs_in_order(rt, alloc, &job),

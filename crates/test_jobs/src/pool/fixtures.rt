@@ -86,7 +86,7 @@ start b 0
 start b 0
 ";
 
-// What workers leave of a job, whose tree ends in this phase at the latest. The closure that ends it adds what it gets:
+// Returns what workers leave of a job, whose tree ends in this phase at the latest. The closure that ends it adds what it gets:
 // 1000000 each time, 1000 for each phase, and the parties at the root.
 fn run<R: Threads + Wait + Sync, G: Gate + Sync, S: Starter>(
     rt: &R,
@@ -117,7 +117,8 @@ fn run<R: Threads + Wait + Sync, G: Gate + Sync, S: Starter>(
     run_job(rt, alloc, job, shape, workers, advance, gate, starter)
 }
 
-/// What workers leave of a job within a limit, on a tree of these widths. It refuses what is no number of workers and no limit.
+/// Returns what workers leave of a job within a limit, on a tree of these widths. Fails if the number of workers or the limit
+/// is out of its range.
 pub(crate) fn left_by<R: Threads + Wait + Sync, G: Gate + Sync, S: Starter>(
     rt: &R,
     alloc: Global,

@@ -22,7 +22,7 @@ pub(crate) struct HoldsBack {
     entered: AtomicU32,
 }
 
-// Whether a path is that of the start line of this number.
+// Returns true if a path is that of the start line of this number.
 fn is_start(path: &Path, number: u16) -> bool {
     path.as_slice() == [number].as_slice()
 }
@@ -60,17 +60,17 @@ pub(crate) fn holding(held: u16, awaited: u16) -> HoldsBack {
     }
 }
 
-// Whether a gate held its task until the other had left, and not for ever.
+// Returns true if a gate held its task until the other had left, and not for ever.
 fn has_held(gate: &HoldsBack) -> bool {
     gate.left.load(Ordering::SeqCst) && !gate.gave_up.load(Ordering::SeqCst)
 }
 
-// How many segments were entered.
+// Returns the number of segments that were entered.
 pub(crate) fn count_entered(gate: &HoldsBack) -> u32 {
     gate.entered.load(Ordering::SeqCst)
 }
 
-// Whether a job ended after two supersteps.
+// Returns true if a job ended after two supersteps.
 fn has_ended(ran: &Result<Report, Refused>) -> bool {
     match ran {
         Ok(report) => matches!(report.status, JobStatus::Ended(2)),
@@ -78,7 +78,7 @@ fn has_ended(ran: &Result<Report, Refused>) -> bool {
     }
 }
 
-// Whether two workers end a job of two tasks as they should if one task waits for the other.
+// Returns true if two workers end a job of two tasks as they should if one task waits for the other.
 fn overlap<R: Threads + Wait + Sync>(
     rt: &R,
     alloc: Global,
@@ -91,7 +91,7 @@ fn overlap<R: Threads + Wait + Sync>(
     has_ended(&ran) && has_held(gate)
 }
 
-// Whether they do if either waits for the other, on each of three trees.
+// Returns true if they do so when either waits for the other, on each of three trees.
 fn all_overlap<R: Threads + Wait + Sync>(rt: &R, alloc: Global, job: &Job) -> bool {
     for widths in ["flat", "2", "2x3"] {
         for held in 0..2 {
@@ -103,7 +103,7 @@ fn all_overlap<R: Threads + Wait + Sync>(rt: &R, alloc: Global, job: &Job) -> bo
     true
 }
 
-// Whether two workers of the job of this text do.
+// Returns true if two workers of the job of this text do so.
 fn do_overlap<R: Threads + Wait + Sync>(rt: &R, alloc: Global, text: &str) -> bool {
     match job_of(alloc, text) {
         Ok(job) => all_overlap(rt, alloc, &job),

@@ -58,7 +58,7 @@ impl Gate for Notes {
     }
 }
 
-// How often a number is in a list.
+// Returns how often a number is in a list.
 fn count_of(list: &[u64], number: u64) -> usize {
     let mut count = 0usize;
     for one in list {
@@ -69,7 +69,7 @@ fn count_of(list: &[u64], number: u64) -> usize {
     count
 }
 
-// Whether a list has each of the segments once, in whatever order, and no other.
+// Returns true if a list has each of the segments once, in whatever order, and no other.
 fn are_all(list: &[u64]) -> bool {
     for number in &SEGMENTS {
         if count_of(list, *number) != 1 {
@@ -79,7 +79,7 @@ fn are_all(list: &[u64]) -> bool {
     list.len() == SEGMENTS.len()
 }
 
-// Whether `workers` workers call their gate for each segment, before it and after it.
+// Returns true if `workers` workers call their gate for each segment, before it and after it.
 fn sees_all_with<R: Threads + Wait + Sync>(rt: &R, alloc: Global, job: &Job, workers: u32) -> bool {
     let gate = Notes {
         entered: Mutex::new(Vec::new(alloc)),
@@ -92,7 +92,7 @@ fn sees_all_with<R: Threads + Wait + Sync>(rt: &R, alloc: Global, job: &Job, wor
     ran.is_ok() && are_all(&gate.entered.lock(rt)) && are_all(&gate.left.lock(rt))
 }
 
-// Whether one worker does, and three.
+// Returns true if one worker does so, and three.
 fn sees_all<R: Threads + Wait + Sync>(rt: &R, alloc: Global) -> bool {
     match job_of(alloc, SPAWNS_LATER) {
         Ok(job) => sees_all_with(rt, alloc, &job, 1) && sees_all_with(rt, alloc, &job, 3),
@@ -124,7 +124,7 @@ impl Gate for Stretches {
     fn leave<R: Wait>(&self, _rt: &R, _path: &Path, _step: u32) {}
 }
 
-// Whether `workers` workers call an open gate for stretches with nine tasks in all, whose supersteps add up to 16.
+// Returns true if `workers` workers call an open gate for stretches with nine tasks in all, whose supersteps add up to 16.
 fn counts_all<R: Threads + Wait + Sync>(rt: &R, alloc: Global, job: &Job, workers: u32) -> bool {
     let gate = Stretches {
         tasks: AtomicU64::new(0),
@@ -137,7 +137,7 @@ fn counts_all<R: Threads + Wait + Sync>(rt: &R, alloc: Global, job: &Job, worker
     ran.is_ok() && gate.tasks.load(Ordering::SeqCst) == 9 && gate.steps.load(Ordering::SeqCst) == 16
 }
 
-// Whether one worker does, and three.
+// Returns true if one worker does so, and three.
 fn are_counted<R: Threads + Wait + Sync>(rt: &R, alloc: Global) -> bool {
     match job_of(alloc, SPAWNS_LATER) {
         Ok(job) => counts_all(rt, alloc, &job, 1) && counts_all(rt, alloc, &job, 3),

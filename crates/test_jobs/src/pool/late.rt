@@ -23,7 +23,7 @@ start b 2
 start b 3
 ";
 
-// Whether four workers reach the end of it.
+// Returns true if four workers reach the end of the long job.
 fn come_to_the_end<R: Threads + Wait + Sync>(rt: &R, alloc: Global) -> bool {
     let sum = AtomicU64::new(0);
     match job_of(alloc, LONG) {

@@ -48,7 +48,7 @@ impl Gate for HoldsBoth {
     fn leave<R: Wait>(&self, _rt: &R, _path: &Path, _step: u32) {}
 }
 
-// Whether two workers have a task each in each superstep of a job, on this tree.
+// Returns true if two workers have a task each in each superstep of a job, on this tree.
 fn meet<R: Threads + Wait + Sync>(rt: &R, alloc: Global, job: &Job, widths: &str) -> bool {
     let gate = HoldsBoth {
         entered: AtomicU64::new(0),
@@ -59,7 +59,7 @@ fn meet<R: Threads + Wait + Sync>(rt: &R, alloc: Global, job: &Job, widths: &str
     ran.is_ok() && !gate.gave_up.load(Ordering::SeqCst)
 }
 
-// Whether they have on both trees.
+// Returns true if they have so on both trees.
 fn both_meet<R: Threads + Wait + Sync>(rt: &R, alloc: Global) -> bool {
     match job_of(alloc, LONG) {
         Ok(job) => meet(rt, alloc, &job, "flat") && meet(rt, alloc, &job, "2"),

@@ -10,7 +10,7 @@ use std::thread::Threads;
 use task_code::job::Job;
 use worker_pool::{AllStart, OpenGate};
 
-// Whether `workers` workers leave of a job what it leaves on one thread without workers.
+// Returns true if `workers` workers leave of a job what it leaves on one thread without workers.
 fn leave_the_same<R: Threads + Wait + Sync>(
     rt: &R,
     alloc: Global,
@@ -28,7 +28,7 @@ fn leave_the_same<R: Threads + Wait + Sync>(
     }
 }
 
-// Whether one worker does, and four, on each of three trees.
+// Returns true if one worker does so, and four, on each of three trees.
 fn all_leave_the_same<R: Threads + Wait + Sync>(
     rt: &R,
     alloc: Global,
@@ -45,7 +45,7 @@ fn all_leave_the_same<R: Threads + Wait + Sync>(
     true
 }
 
-// Whether they do of the job of this text.
+// Returns true if they do so with the job of this text.
 fn is_so<R: Threads + Wait + Sync>(rt: &R, alloc: Global, text: &str, limit: u32) -> bool {
     match job_of(alloc, text) {
         Ok(job) => all_leave_the_same(rt, alloc, &job, limit),

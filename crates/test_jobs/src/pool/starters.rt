@@ -20,7 +20,7 @@ impl Starter for AllBut {
     }
 }
 
-// Whether a run of eight workers is refused for the worker of this number, if it is one of them.
+// Returns true if a run of eight workers is refused for the worker of this number, if it is one of them.
 fn is_refused(ran: &Result<Report, Refused>, but: u32) -> bool {
     match ran {
         Ok(_) => but == 8,
@@ -29,7 +29,7 @@ fn is_refused(ran: &Result<Report, Refused>, but: u32) -> bool {
     }
 }
 
-// Whether a run of eight workers ends as it should if the worker of this number can't be started.
+// Returns true if a run of eight workers ends as it should if the worker of this number can't be started.
 fn ends_as_it_should<R: Threads + Wait + Sync>(
     rt: &R,
     alloc: Global,
@@ -42,7 +42,7 @@ fn ends_as_it_should<R: Threads + Wait + Sync>(
     is_refused(&ran, but)
 }
 
-// Whether no task runs unless all workers are started, and then two do, twice.
+// Returns true if no task runs unless all workers are started, and then two do, twice.
 fn all_end_as_they_should<R: Threads + Wait + Sync>(rt: &R, alloc: Global, job: &Job) -> bool {
     let gate = holding(u16::MAX, u16::MAX);
     for but in 0..9 {
@@ -53,7 +53,7 @@ fn all_end_as_they_should<R: Threads + Wait + Sync>(rt: &R, alloc: Global, job: 
     count_entered(&gate) == 4
 }
 
-// Whether workers of a swap do.
+// Returns true if the workers of a swap do so.
 fn swaps_end_as_they_should<R: Threads + Wait + Sync>(rt: &R, alloc: Global) -> bool {
     match job_of(alloc, SWAP) {
         Ok(job) => all_end_as_they_should(rt, alloc, &job),

@@ -62,7 +62,7 @@ impl Gate for HoldsAll {
     fn leave<R: Wait>(&self, _rt: &R, _path: &Path, _step: u32) {}
 }
 
-// Whether three workers have a task each at once, or a stretch each if the gate is open, on this tree.
+// Returns true if three workers have a task each at once, or a stretch each if the gate is open, on this tree.
 fn meet<R: Threads + Wait + Sync>(
     rt: &R,
     alloc: Global,
@@ -81,7 +81,7 @@ fn meet<R: Threads + Wait + Sync>(
     ran.is_ok() && !gate.gave_up.load(Ordering::SeqCst)
 }
 
-// Whether they have on both trees, in the job of this text.
+// Returns true if they have so on both trees, in the job of this text.
 fn all_meet<R: Threads + Wait + Sync>(rt: &R, alloc: Global, text: &str, open: bool) -> bool {
     match job_of(alloc, text) {
         Ok(job) => meet(rt, alloc, &job, "flat", open) && meet(rt, alloc, &job, "2x3", open),

@@ -67,7 +67,7 @@ fn callers_come_to_a_barrier(rt: HostRuntime) -> Result<(), Fail> {
     Ok(())
 }
 
-// The one caller of a gate comes, and again if there was no memory.
+// Lets the one caller of a gate come, and again if there was no memory.
 fn turns<R: Wait + Abort, F: Fn(u64) -> bool>(rt: &R, gate: &CyclicGate<F>)
     requires { AnswersAction (F.pre gate.now.action.closure) (F.post gate.now.action.closure) gate.now.action.plan }
 {

@@ -17,12 +17,12 @@ fn three_cells(alloc: Global) -> Result<Arrays, AllocError> {
     Ok(arrays)
 }
 
-// The cells of this array.
+// Returns the cells of this array.
 fn cells_of(arrays: &Arrays) -> [Option<i64>; 3] {
     [arrays.cell(0, 0), arrays.cell(0, 1), arrays.cell(0, 2)]
 }
 
-// What the task of this path has put: a cell, a kind and a value each.
+// Returns what the task of this path has put: a cell, a kind and a value each.
 fn entry(
     alloc: Global,
     path: &[u16],
@@ -41,7 +41,7 @@ fn entry(
     Ok((path, log))
 }
 
-// What three tasks have put: one of them adds to the first cell alone, the others put to two cells each.
+// Returns what three tasks have put: one of them adds to the first cell alone, the others put to two cells each.
 fn entries(alloc: Global) -> Result<Run, AllocError> {
     let mut entries = Vec::new(alloc);
     entries.push(entry(alloc, &[0], &[(0, Set, 5), (2, Set, 6), (0, Set, 7)])?)?;
@@ -56,14 +56,14 @@ const BEFORE: [Option<i64>; 3] = [Some(1), Some(2), Some(3)];
 // What these puts leave.
 const AFTER: [Option<i64>; 3] = [Some(9), Some(4), Some(8)];
 
-// The logs of these three tasks, and one of a fourth between them, as two runs.
+// Returns the logs of these three tasks, and one of a fourth between them, as two runs.
 fn two_runs(alloc: Global) -> Result<Vec<Run>, AllocError> {
     let mut last = Vec::new(alloc);
     last.push(entry(alloc, &[0, 2], &[(2, Set, 0)])?)?;
     Ok(vec![in alloc; entries(alloc)?, last]?)
 }
 
-// Whether a call landed. If it did not, it found no memory and left the cells as they were.
+// Returns true if a call landed. If it did not, it must have found no memory and left the cells as they were.
 fn has_landed(rt: &impl Abort, arrays: &Arrays, landed: &Result<(), LandFault>) -> bool {
     match landed {
         Ok(()) => true,

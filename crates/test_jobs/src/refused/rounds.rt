@@ -53,7 +53,7 @@ fn closes(rt: &impl Abort, alloc: Global, round: &mut Round<'_>) {
     assert!(rt; round.step() > step);
 }
 
-// The text of a report.
+// Returns the text of a report.
 fn text_of(alloc: Global, report: &Report) -> Result<Vec<u8>, Fail> {
     let mut out = Vec::new(alloc);
     let mut writer = Writer::new(&mut out);
@@ -61,13 +61,13 @@ fn text_of(alloc: Global, report: &Report) -> Result<Vec<u8>, Fail> {
     Ok(out)
 }
 
-// The text of a job that is run alone.
+// Returns the text of a job that is run alone.
 fn text_alone(alloc: Global, job: &Job) -> Result<Vec<u8>, Fail> {
     let report = run_alone(alloc, job, 3)?;
     text_of(alloc, &report)
 }
 
-// The text of what a round left.
+// Returns the text of what a round left.
 fn text_left(alloc: Global, round: &Round<'_>) -> Result<Vec<u8>, Fail> {
     match round.report(alloc)? {
         Some(report) => text_of(alloc, &report),
@@ -75,7 +75,7 @@ fn text_left(alloc: Global, round: &Round<'_>) -> Result<Vec<u8>, Fail> {
     }
 }
 
-// The text of a job whose two rounds are closed.
+// Returns the text of a job whose two rounds are closed.
 fn text_by_rounds(rt: &impl Abort, alloc: Global, job: &Job) -> Result<Vec<u8>, Fail> {
     let mut round = Round::new(alloc, job, 3)?;
     for _ in 0..2 {

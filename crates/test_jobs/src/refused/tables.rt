@@ -37,7 +37,7 @@ fn numbers_of(token: &ClosedToken) -> (u32, u32, u32, u32) {
     )
 }
 
-// Whether a closed tree leaves those words, and the two tokens in their order.
+// Returns true if a closed tree leaves those words, and the two tokens in their order.
 fn is_left(closed: &Closed) -> bool {
     if closed.words.len() != 9 || closed.tokens.len() != 2 {
         return false;
@@ -50,7 +50,7 @@ fn is_left(closed: &Closed) -> bool {
     numbers_of(&closed.tokens[0]) == (3, 2, 2, 5) && numbers_of(&closed.tokens[1]) == (0, 0, 0, 5)
 }
 
-// Whether the two tokens that come back are those that were handed in.
+// Returns true if the two tokens that come back are those that were handed in.
 fn are_both(tokens: &[Token]) -> bool {
     match tokens {
         [Token::Crew(crew), Token::Door(door)] => {
@@ -78,7 +78,7 @@ fn closes<F: Fn(u32, u32) -> bool + Drop>(
     }
 }
 
-// The two tokens, in a list.
+// Returns the two tokens, in a list.
 fn both(alloc: Global, crew: Crew, door: Door) -> Result<Vec<Token>, AllocError>
     requires { crew.tree ≡ door.tree }
     ensures { IfOk result (λ tokens. All (λ t. (held t).tree ≡ door.tree) tokens.items) }

@@ -7,7 +7,7 @@ use std::alloc::{AllocError, Global};
 use task_code::job::Job;
 use tier_shape::Shape;
 
-// The answers of a job to these steps, on a tree of this shape. None if the limit is none.
+// Returns the answers of a job to these steps, on a tree of this shape. There are none if the limit is out of its range.
 fn drive(
     alloc: Global,
     job: &Job,
@@ -21,7 +21,7 @@ fn drive(
     drive_job(alloc, job, shape, limit, steps)
 }
 
-// The answers of a job to these steps, on a tree of these widths, if there are any.
+// Returns the answers of a job to these steps, on a tree of these widths, if there are any.
 pub(crate) fn answers_of(
     alloc: Global,
     job: &Job,
@@ -35,7 +35,7 @@ pub(crate) fn answers_of(
     }
 }
 
-// The report of the answer that finishes a job, if it is the only one.
+// Returns the report of the answer that finishes a job, if it is the only one.
 fn finished(answers: &[Answer]) -> Option<&Report> {
     let mut found = None;
     for answer in answers {
@@ -49,7 +49,7 @@ fn finished(answers: &[Answer]) -> Option<&Report> {
     found
 }
 
-// The step of this kind by this worker.
+// Returns the step of this kind by this worker.
 pub(crate) fn step_of(kind: usize, worker: usize) -> JobStep {
     match kind % 5 {
         0 => JobStep::Take(worker),
@@ -60,7 +60,7 @@ pub(crate) fn step_of(kind: usize, worker: usize) -> JobStep {
     }
 }
 
-// The try of this number, when workers try in turn and each tries these kinds in its turn.
+// Returns the try of this number, if workers try in turn and each tries these kinds in its turn.
 fn try_at(number: usize, workers: usize, kinds: &[usize]) -> JobStep {
     let each = kinds.len().max(1);
     let kind = kinds.get(number % each).copied().unwrap_or(0);
@@ -80,7 +80,7 @@ pub(crate) fn add_tries(
     Ok(())
 }
 
-// Whether these answers finish a job once, with what one thread leaves.
+// Returns true if these answers finish a job once, with what one thread leaves.
 fn are_as_alone(alloc: Global, job: &Job, limit: u32, answers: &[Answer]) -> bool {
     match finished(answers) {
         Some(report) => is_left_alone(alloc, job, limit, report),
@@ -88,7 +88,7 @@ fn are_as_alone(alloc: Global, job: &Job, limit: u32, answers: &[Answer]) -> boo
     }
 }
 
-// Whether this schedule leaves what one thread leaves, and finishes the job once.
+// Returns true if this schedule leaves what one thread leaves, and finishes the job once.
 pub(crate) fn is_as_alone(
     alloc: Global,
     job: &Job,

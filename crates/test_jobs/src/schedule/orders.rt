@@ -40,12 +40,12 @@ fn tries_of(alloc: Global, workers: usize, tries: usize) -> Result<Vec<JobStep>,
     Ok(steps)
 }
 
-// Whether these steps leave of a job what one thread leaves, on both trees.
+// Returns true if these steps leave of a job what one thread leaves, on both trees.
 fn leave_the_same(alloc: Global, job: &Job, limit: u32, steps: &[JobStep]) -> bool {
     is_as_alone(alloc, job, "flat", limit, steps) && is_as_alone(alloc, job, "2x3", limit, steps)
 }
 
-// Whether `tries` tries of workers in turn do.
+// Returns true if `tries` tries of workers in turn do so.
 fn tries_leave_the_same(
     alloc: Global,
     job: &Job,
@@ -59,7 +59,7 @@ fn tries_leave_the_same(
     }
 }
 
-// Whether 400 turns of one worker do, and 200 of each of eight.
+// Returns true if 400 turns of one worker do so, and 200 of each of eight.
 fn is_so(alloc: Global, text: &str, limit: u32) -> bool {
     match job_of(alloc, text) {
         Ok(job) => {

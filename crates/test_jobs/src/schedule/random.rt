@@ -9,17 +9,17 @@ use task_code::job::Job;
 const HEAD: &str =
     "bsp 1\narray a 4 3 1 4 1\nbody p\nlet i = 0\nwhile i < arg\nspawn c i\nlet i = i + 1\nend\nput a[0] = arg\nsync\nprint a[0]\nend\nbody c\nput a[1] = arg\nsync\nspawn d arg\nsync\nprint a[1]\nend\nbody d\nput a[2] = arg\nprint a[3] / arg\nend\n";
 
-// The number that comes after one.
+// Returns the number that comes after one.
 fn next(number: u32) -> u32 {
     number.wrapping_mul(1664525).wrapping_add(1013904223)
 }
 
-// What a number says below a bound.
+// Returns a number below a bound, by this random number.
 fn below(number: u32, bound: u32) -> usize {
     ((number >> 16) % bound.max(1)) as usize
 }
 
-// The number that is `count` places after another.
+// Returns the number that is `count` places after another.
 fn skip(number: u32, count: usize) -> u32 {
     let mut number = number;
     for _ in 0..count {
@@ -31,12 +31,12 @@ fn skip(number: u32, count: usize) -> u32 {
 // The lines that start a task.
 const STARTS: [&str; 4] = ["start p 0\n", "start p 2\n", "start p 7\n", "start d 5\n"];
 
-// The start line that a number says.
+// Returns the start line that a number says.
 fn start_of(number: u32) -> &'static str {
     STARTS[below(number, 4) % 4]
 }
 
-// The text of a job of `starts` start tasks, by the numbers after this.
+// Returns the text of a job of `starts` start tasks, by the numbers after this.
 fn text_of(alloc: Global, starts: usize, number: u32) -> Result<String, AllocError> {
     let mut text = String::from_str(alloc, HEAD)?;
     let mut number = number;
@@ -53,7 +53,7 @@ const KINDS: [usize; 10] = [0, 1, 3, 4, 2, 2, 2, 2, 2, 2];
 // What each worker tries in its turn.
 const TRIES: [usize; 10] = [0, 1, 2, 2, 2, 2, 2, 2, 3, 4];
 
-// The step of one of eight workers, by the two numbers after this.
+// Returns the step of one of eight workers, by the two numbers after this.
 fn step_by(number: u32) -> JobStep {
     let first = next(number);
     step_of(KINDS[below(next(first), 10) % 10], below(first, 8))
@@ -71,7 +71,7 @@ fn steps_of(alloc: Global, number: u32) -> Result<Vec<JobStep>, AllocError> {
     Ok(steps)
 }
 
-// Whether the random schedule by the numbers after this leaves what one thread leaves.
+// Returns true if the random schedule by the numbers after this leaves what one thread leaves.
 fn leaves_the_same(alloc: Global, job: &Job, widths: &str, number: u32) -> bool {
     match steps_of(alloc, number) {
         Ok(steps) => is_as_alone(alloc, job, widths, 6, &steps),
@@ -79,7 +79,7 @@ fn leaves_the_same(alloc: Global, job: &Job, widths: &str, number: u32) -> bool 
     }
 }
 
-// Whether those on each tree do, one after another.
+// Returns true if those on each tree do so, one after another.
 fn all_leave_the_same(alloc: Global, job: &Job, number: u32) -> bool {
     let mut number = number;
     for widths in ["flat", "3", "2x3", "1x4x2"] {
@@ -91,7 +91,7 @@ fn all_leave_the_same(alloc: Global, job: &Job, number: u32) -> bool {
     true
 }
 
-// Whether they do of the job of this text.
+// Returns true if they do so with the job of this text.
 fn is_so(alloc: Global, text: &str, number: u32) -> bool {
     match job_of(alloc, text) {
         Ok(job) => all_leave_the_same(alloc, &job, number),
@@ -99,7 +99,7 @@ fn is_so(alloc: Global, text: &str, number: u32) -> bool {
     }
 }
 
-// Whether they do of the random job of up to four start tasks by the numbers after this.
+// Returns true if they do so with the random job of up to four start tasks by the numbers after this.
 fn is_so_by(alloc: Global, number: u32) -> bool {
     let first = next(number);
     let starts = below(first, 5);

@@ -19,7 +19,7 @@ enum Seen {
     NotNow,
 }
 
-// What an answer says; for a path, how many numbers it has.
+// Returns what an answer says; for a path, how many numbers it has.
 fn told(answer: &Answer) -> Seen {
     match answer {
         Answer::Took(path) => Seen::Took(path.len()),
@@ -102,7 +102,7 @@ const RUNS: [(&str, &str, &[Row]); 4] = [
     ("bsp 1\nbody b\nend\n", "2x3", &NO_TASKS),
 ];
 
-// Whether these answers say what the rows say.
+// Returns true if these answers say what the rows say.
 fn are_told(answers: &[Answer], rows: &[Row]) -> bool {
     for (answer, (_, want)) in answers.iter().zip(rows) {
         if told(answer) != *want {
@@ -112,7 +112,7 @@ fn are_told(answers: &[Answer], rows: &[Row]) -> bool {
     answers.len() == rows.len()
 }
 
-// The steps of these rows.
+// Returns the steps of these rows.
 fn steps_of(alloc: Global, rows: &[Row]) -> Result<Vec<JobStep>, AllocError> {
     let mut steps = Vec::new(alloc);
     for (step, _) in rows {
@@ -121,7 +121,7 @@ fn steps_of(alloc: Global, rows: &[Row]) -> Result<Vec<JobStep>, AllocError> {
     Ok(steps)
 }
 
-// Whether a job's steps are answered as these rows say.
+// Returns true if a job's steps are answered as these rows say.
 fn answers_so(alloc: Global, job: &Job, widths: &str, rows: &[Row], steps: &[JobStep]) -> bool {
     match answers_of(alloc, job, widths, 10, steps) {
         Ok(answers) => are_told(&answers, rows),
@@ -129,7 +129,7 @@ fn answers_so(alloc: Global, job: &Job, widths: &str, rows: &[Row], steps: &[Job
     }
 }
 
-// Whether the steps of these rows are.
+// Returns true if the steps of these rows are answered so.
 fn plays_so(alloc: Global, job: &Job, widths: &str, rows: &[Row]) -> bool {
     match steps_of(alloc, rows) {
         Ok(steps) => answers_so(alloc, job, widths, rows, &steps),
@@ -137,7 +137,7 @@ fn plays_so(alloc: Global, job: &Job, widths: &str, rows: &[Row]) -> bool {
     }
 }
 
-// Whether those of the job of this text are.
+// Returns true if those of the job of this text are answered so.
 fn is_so(alloc: Global, text: &str, widths: &str, rows: &[Row]) -> bool {
     match job_of(alloc, text) {
         Ok(job) => plays_so(alloc, &job, widths, rows),

@@ -54,7 +54,7 @@ fn answer_to<'j>(
     }
 }
 
-// Whether calls made one after another get these answers.
+// Returns true if calls made one after another get these answers.
 fn plays_so<'j>(
     alloc: Global,
     round: &mut Round<'j>,
@@ -70,7 +70,7 @@ fn plays_so<'j>(
     right
 }
 
-// Whether a round of this job answers so, within three supersteps.
+// Returns true if a round of this job answers so, within three supersteps.
 pub(crate) fn answers_so<'j>(
     alloc: Global,
     job: &'j Job,

@@ -17,7 +17,7 @@ pub(crate) fn three_cells(alloc: Global, last: i64) -> Result<Arrays, AllocError
     Ok(arrays)
 }
 
-// Whether a cell has this value, or doesn't exist.
+// Returns true if a cell has this value, or, for `None`, doesn't exist.
 pub(crate) fn is_cell(arrays: &Arrays, array: u16, index: i64, want: Option<i64>) -> bool {
     arrays.cell(array, index) == want
 }

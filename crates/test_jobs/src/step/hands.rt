@@ -33,7 +33,7 @@ pub(crate) enum Answer {
     Is(bool),
 }
 
-// How a job has ended.
+// Returns how a job has ended.
 fn told(status: &JobStatus) -> Answer {
     match status {
         JobStatus::Ended(step) => Answer::Ended(*step),
@@ -42,7 +42,7 @@ fn told(status: &JobStatus) -> Answer {
     }
 }
 
-// How a job has ended, if it has.
+// Returns how a job has ended, if it has.
 pub(crate) fn status_of(round: &Round<'_>) -> Answer {
     if !round.has_ended() {
         return Answer::Running;
@@ -53,7 +53,7 @@ pub(crate) fn status_of(round: &Round<'_>) -> Answer {
     }
 }
 
-// Why a delivery is refused.
+// Returns why a delivery is refused.
 fn refused(fault: AcceptFault) -> Answer {
     match fault {
         AcceptFault::WrongStep => Answer::WrongStep,
@@ -96,7 +96,7 @@ pub(crate) fn deliver(alloc: Global, round: &mut Round<'_>, path: &[u16]) -> Ans
     }
 }
 
-// How a round was closed.
+// Returns how a round was closed.
 fn closed(outcome: Outcome) -> Answer {
     match outcome {
         Outcome::Landed => Answer::Landed,
@@ -106,7 +106,7 @@ fn closed(outcome: Outcome) -> Answer {
     }
 }
 
-// Why it wasn't.
+// Returns why a round wasn't closed.
 fn not_closed(fault: &CloseFault) -> Answer {
     match fault {
         CloseFault::Missing(path) => match path.first() {

@@ -100,7 +100,7 @@ const TWO_LOGS: &[Log] = &[
     (&[1], &[(0, 1, Set, 9)]),
 ];
 
-// The path and the puts of a log.
+// Returns the path and the puts of a log.
 fn entry_of(
     alloc: Global,
     path: &[u16],
@@ -136,7 +136,7 @@ fn runs_of(alloc: Global, logs: &[&[Log]]) -> Result<Vec<Run>, AllocError> {
     Ok(runs)
 }
 
-// What it has said.
+// Returns what a landing has said.
 fn said_of(done: &Result<(), LandFault>) -> Said {
     match done {
         Ok(()) => Said::Landed,
@@ -159,20 +159,20 @@ fn land_all(alloc: Global, arrays: &mut Arrays, runs: &[Run]) -> Result<(), Land
     }
 }
 
-// Whether the three cells hold these values.
+// Returns true if the three cells hold these values.
 fn hold(arrays: &Arrays, [first, second, third]: [i64; 3]) -> bool {
     is_cell(arrays, 0, 0, Some(first))
         && is_cell(arrays, 0, 1, Some(second))
         && is_cell(arrays, 1, 0, Some(third))
 }
 
-// Whether these runs end with this, and leave these cells.
+// Returns true if these runs end with this, and leave these cells.
 fn come_to(alloc: Global, arrays: &mut Arrays, runs: &[Run], said: Said, cells: [i64; 3]) -> bool {
     let done = land_all(alloc, arrays, runs);
     said_of(&done) == said && hold(arrays, cells)
 }
 
-// Whether they do on three cells.
+// Returns true if they do so on three cells.
 fn land_so(alloc: Global, runs: &[Run], said: Said, cells: [i64; 3]) -> bool {
     match three_cells(alloc, 30) {
         Ok(made) => {
@@ -183,7 +183,7 @@ fn land_so(alloc: Global, runs: &[Run], said: Said, cells: [i64; 3]) -> bool {
     }
 }
 
-// Whether runs of these logs do.
+// Returns true if runs of these logs do so.
 fn is_so(alloc: Global, logs: &[&[Log]], said: Said, cells: [i64; 3]) -> bool {
     match runs_of(alloc, logs) {
         Ok(runs) => land_so(alloc, &runs, said, cells),

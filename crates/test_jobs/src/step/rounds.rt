@@ -83,7 +83,7 @@ const ROUNDS: [(&str, &str, &[Row]); 6] = [
     (TWO, ONE, &WHAT_IT_IS),
 ];
 
-// Whether the round of a job answers so beside the job of this text.
+// Returns true if the round of a job answers so beside the job of this text.
 fn answers_beside(alloc: Global, job: &Job, other: &str, calls: &[Row]) -> bool {
     match job_of(alloc, other) {
         Ok(other) => answers_so(alloc, job, &other, calls),
@@ -91,7 +91,7 @@ fn answers_beside(alloc: Global, job: &Job, other: &str, calls: &[Row]) -> bool 
     }
 }
 
-// Whether the round of the job of this text does.
+// Returns true if the round of the job of this text does so.
 fn is_so(alloc: Global, text: &str, other: &str, calls: &[Row]) -> bool {
     match job_of(alloc, text) {
         Ok(job) => answers_beside(alloc, &job, other, calls),

@@ -52,7 +52,7 @@ pub(crate) fn superstep_from(
     }
 }
 
-// Whether a round has ended with the report that its job leaves on one thread within three supersteps.
+// Returns true if a round has ended with the report that its job leaves on one thread within three supersteps.
 pub(crate) fn is_as_alone(alloc: Global, job: &Job, round: &Round<'_>) -> bool {
     match round.report(alloc) {
         Ok(Some(report)) => is_left_alone(alloc, job, 3, &report),

@@ -53,7 +53,7 @@ impl Watch for Notes {
     }
 }
 
-// Whether these calls were made, and no others.
+// Returns true if these calls were made, and no others.
 fn are(notes: &Notes, want: &[(u32, usize)]) -> bool {
     let mut same = notes.count == want.len();
     for (call, wanted) in notes.calls.iter().zip(want) {
@@ -62,7 +62,7 @@ fn are(notes: &Notes, want: &[(u32, usize)]) -> bool {
     same
 }
 
-// Whether a run of this job within three supersteps makes these calls.
+// Returns true if a run of this job within three supersteps makes these calls.
 fn makes_calls(alloc: Global, job: &Job, want: &[(u32, usize)]) -> bool {
     let mut notes = Notes {
         calls: [(0, 0); 8],
@@ -74,7 +74,7 @@ fn makes_calls(alloc: Global, job: &Job, want: &[(u32, usize)]) -> bool {
     }
 }
 
-// Whether a run of the job of this text does.
+// Returns true if a run of the job of this text does so.
 fn text_makes_calls(alloc: Global, text: &str, want: &[(u32, usize)]) -> bool {
     match job_of(alloc, text) {
         Ok(job) => makes_calls(alloc, &job, want),

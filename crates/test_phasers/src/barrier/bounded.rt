@@ -41,7 +41,7 @@ fn comes<R: Wait, F: Fn(u64) -> bool>(
     Ok(most)
 }
 
-// Whether these threads come, and none of them sees more ends kept than there are others.
+// Returns true if these threads come, and none of them sees more ends kept than there are others.
 fn all_come<R: Threads + Wait + Abort + Sync, F: Fn(u64) -> bool + Sync>(
     rt: &R,
     alloc: Global,
@@ -64,7 +64,7 @@ fn all_come<R: Threads + Wait + Abort + Sync, F: Fn(u64) -> bool + Sync>(
     })
 }
 
-// Whether a gate of `parties` parties keeps little while these threads come, through all generations, and nothing after
+// Returns true if a gate of `parties` parties keeps little while these threads come, through all generations, and nothing after
 // them.
 fn keeps_little<R: Threads + Wait + Abort + Sync>(
     rt: &R,

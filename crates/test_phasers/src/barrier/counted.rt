@@ -12,8 +12,8 @@ use std::thread::Threads;
 
 const TURNS: u64 = 500;
 
-// Whether a thread finds, after each of its turns, that the action has run once a generation. All parties come each time,
-// so no later generation can end before this thread comes again.
+// Returns true if a thread finds, after each of its turns, that the action has run once a generation. All parties come each
+// time, so no later generation can end before this thread comes again.
 fn sees_each<R: Wait, F: Fn(u64) -> bool>(
     rt: &R,
     gate: &CyclicGate<F>,
@@ -35,7 +35,7 @@ fn sees_each<R: Wait, F: Fn(u64) -> bool>(
     true
 }
 
-// Whether all these threads see it.
+// Returns true if all these threads see it.
 fn all_see<R: Threads + Wait + Abort + Sync, F: Fn(u64) -> bool + Sync>(
     rt: &R,
     alloc: Global,
@@ -56,7 +56,7 @@ fn all_see<R: Threads + Wait + Abort + Sync, F: Fn(u64) -> bool + Sync>(
     seen.expect(rt, "memory").iter().all(|it| *it)
 }
 
-// Whether the action of a gate of `threads` threads runs once a generation.
+// Returns true if the action of a gate of `threads` threads runs once a generation.
 fn runs_once<R: Threads + Wait + Abort + Sync>(rt: &R, alloc: Global, threads: usize) -> bool {
     let runs = AtomicU64::new(0);
     let action = |_generation: u64| {

@@ -20,8 +20,8 @@ impl Action for InOrder<'_> {
     }
 }
 
-// Whether a thread finds, after each of its turns, that the action has run once a generation, with its number. All parties
-// come each time, so no later generation can end before this thread comes again.
+// Returns true if a thread finds, after each of its turns, that the action has run once a generation, with its number. All
+// parties come each time, so no later generation can end before this thread comes again.
 fn sees_each<R: Wait>(
     rt: &R,
     barrier: &Barrier<InOrder<'_>>,
@@ -41,7 +41,7 @@ fn sees_each<R: Wait>(
     true
 }
 
-// Whether all these threads see it.
+// Returns true if all these threads see it.
 fn all_see<R: Threads + Wait + Abort + Sync>(rt: &R, alloc: Global, threads: usize) -> bool {
     let runs = AtomicU64::new(0);
     let parties = i64::try_from(threads).unwrap_or(0);
@@ -61,7 +61,7 @@ fn the_action_runs_once_a_generation(rt: HostRuntime) {
     assert!(rt; all_see(&rt, rt.alloc(), 4));
 }
 
-// Whether a thread gets a turn as caller 0, or as caller 1 if the other waits as caller 0.
+// Returns true if a thread gets a turn as caller 0, or as caller 1 if the other waits as caller 0.
 fn is_given<R: Wait>(rt: &R, barrier: &Barrier) -> bool {
     match barrier.await_turn(rt, 0) {
         Ok(_) => true,

@@ -24,7 +24,7 @@ enum Ending {
     TakesAway,
 }
 
-// Whether it was said that all is over.
+// Returns true if it was said that all is over.
 fn is_over<R: Wait>(rt: &R, over: &Mutex<bool>) -> bool {
     let over = over.lock(rt);
     *over
@@ -84,7 +84,7 @@ fn ends_once<R: Wait, F: Fn(u64) -> bool>(
     }
 }
 
-// Whether the wait of caller 0 was ended, by the list that was returned.
+// Returns true if the wait of caller 0 was ended, by the list that was returned.
 fn is_ended(ending: Ending, callers: &[u32]) -> bool {
     match ending {
         Ending::TakesAway => callers.is_empty(),
@@ -113,7 +113,7 @@ fn ends_the_wait<R: Wait, F: Fn(u64) -> bool>(
     Err(GateFault::Memory)
 }
 
-// What one of the two threads does.
+// Does what one of the two threads does.
 fn does<R: Wait, F: Fn(u64) -> bool>(
     rt: &R,
     gate: &CyclicGate<F>,
@@ -132,7 +132,7 @@ fn does<R: Wait, F: Fn(u64) -> bool>(
     }
 }
 
-// What two threads get.
+// Lets two threads go. Returns what they get.
 fn two<R: Threads + Wait + Abort + Sync, F: Fn(u64) -> bool + Sync>(
     rt: &R,
     alloc: Global,
@@ -153,7 +153,7 @@ fn two<R: Threads + Wait + Abort + Sync, F: Fn(u64) -> bool + Sync>(
     told.expect(rt, "memory")
 }
 
-// Whether two threads got these answers, in whatever order.
+// Returns true if two threads got these answers, in whatever order.
 fn are(
     told: &[Result<u32, GateFault>],
     one: Result<u32, GateFault>,
@@ -162,7 +162,7 @@ fn are(
     told.len() == 2 && told.contains(&one) && told.contains(&other)
 }
 
-// Whether the two get these answers from a gate of two parties whose action fails in generation 0.
+// Returns true if the two threads get these answers from a gate of two parties whose action fails in generation 0.
 fn is_told<R: Threads + Wait + Abort + Sync>(
     rt: &R,
     alloc: Global,

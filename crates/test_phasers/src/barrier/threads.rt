@@ -67,7 +67,7 @@ fn does<R: Wait, F: Fn(u64) -> bool>(
     }
 }
 
-// What three threads are answered that do this.
+// Lets three threads do this. Returns the answers that they get.
 fn three<R: Threads + Wait + Abort + Sync, F: Fn(u64) -> bool + Sync>(
     rt: &R,
     alloc: Global,
@@ -87,12 +87,12 @@ fn three<R: Threads + Wait + Abort + Sync, F: Fn(u64) -> bool + Sync>(
     answers.expect(rt, "memory")
 }
 
-// Whether each of three turns was given once.
+// Returns true if each of three turns was given once.
 fn is_each_once(turns: &[Result<u32, GateFault>]) -> bool {
     turns.len() == 3 && turns.contains(&Ok(0)) && turns.contains(&Ok(1)) && turns.contains(&Ok(2))
 }
 
-// Whether three threads meet, and each gets one of the three turns.
+// Returns true if three threads meet, and each gets one of the three turns.
 fn all_meet<R: Threads + Wait + Abort + Sync, F: Fn(u64) -> bool + Sync>(
     rt: &R,
     alloc: Global,
@@ -104,7 +104,7 @@ fn all_meet<R: Threads + Wait + Abort + Sync, F: Fn(u64) -> bool + Sync>(
     is_each_once(&turns)
 }
 
-// Whether two got the answer that the gate is broken, and the third took one of them away.
+// Returns true if two got the answer that the gate is broken, and the third took one of them away.
 fn are_broken(told: &[Result<u32, GateFault>]) -> bool {
     let Some((last, others)) = told.split_last() else {
         return false;
@@ -112,7 +112,7 @@ fn are_broken(told: &[Result<u32, GateFault>]) -> bool {
     *last == Ok(0) && others.len() == 2 && others.iter().all(|it| *it == Err(GateFault::Broken))
 }
 
-// Whether, of two that wait, one is taken away, and all get the answer that the gate is broken.
+// Returns true if, of two that wait, one is taken away, and all get the answer that the gate is broken.
 fn all_are_broken<R: Threads + Wait + Abort + Sync, F: Fn(u64) -> bool + Sync>(
     rt: &R,
     alloc: Global,

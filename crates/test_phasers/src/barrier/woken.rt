@@ -83,7 +83,7 @@ fn ends<R: Wait, F: Fn(u64) -> bool>(
     Ok(7)
 }
 
-// What three threads are answered that wait, and a fourth that ends their wait.
+// Lets three threads wait, and a fourth end their wait. Returns the answers that they get.
 fn four<R: Threads + Wait + Abort + Sync, F: Fn(u64) -> bool + Sync>(
     rt: &R,
     alloc: Global,
@@ -112,7 +112,7 @@ fn four<R: Threads + Wait + Abort + Sync, F: Fn(u64) -> bool + Sync>(
     turns.expect(rt, "memory")
 }
 
-// Whether three got the answer that the gate broke, and the fourth this one.
+// Returns true if three got the answer that the gate broke, and the fourth this one.
 fn are_broken(turns: &[Result<u32, GateFault>], last: Result<u32, GateFault>) -> bool {
     let Some((own, others)) = turns.split_last() else {
         return false;
@@ -120,7 +120,7 @@ fn are_broken(turns: &[Result<u32, GateFault>], last: Result<u32, GateFault>) ->
     *own == last && others.len() == 3 && others.iter().all(|it| *it == Err(GateFault::Broken))
 }
 
-// Whether four have one index each, and the fourth is the last.
+// Returns true if four have one index each, and the fourth is the last.
 fn are_given(turns: &[Result<u32, GateFault>]) -> bool {
     turns.last() == Some(&Ok(0))
         && turns.contains(&Ok(1))
@@ -128,7 +128,7 @@ fn are_given(turns: &[Result<u32, GateFault>]) -> bool {
         && turns.contains(&Ok(3))
 }
 
-// What four are answered at a gate of four parties, whose action fails in this generation.
+// Returns the answers that four threads get at a gate of four parties, whose action fails in this generation.
 fn answered<R: Threads + Wait + Abort + Sync>(
     rt: &R,
     alloc: Global,
@@ -156,7 +156,7 @@ fn a_failure_wakes_three(rt: HostRuntime) {
     assert!(rt; are_broken(&turns, Err(GateFault::ActionFailed)));
 }
 
-// Whether three get the answer that the gate broke if the fourth ends their wait in this way.
+// Returns true if three get the answer that the gate broke when the fourth ends their wait in this way.
 fn are_woken<R: Threads + Wait + Abort + Sync>(rt: &R, alloc: Global, ending: Ending) -> bool {
     let turns = answered(rt, alloc, None, ending);
     are_broken(&turns, Ok(7))

@@ -41,7 +41,7 @@ fn register(
     }
 }
 
-// The end by force.
+// Ends the tree by force.
 fn force(tree: &Tree<Rule>, mut door: Door, tries: u32) -> (Holder, Told)
     requires own { door.tree ≡ tree.now.tree }
     ensures { tree_of result.0 ≡ tree.now.tree }

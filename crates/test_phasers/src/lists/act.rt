@@ -15,7 +15,7 @@ use test_parts::rules::Rule;
 use test_parts::told::Told;
 use tier_table::tree::Tree;
 
-// What a token is asked next; late in a list the end by force, too.
+// Returns what a token is asked next; late in a list this may be the end by force, too.
 fn next_ask(holder: &Holder, numbers: &mut Numbers, tiers: u32, late: bool) -> Ask {
     match holder {
         Holder::Outside(_) if late && numbers.below(4) == 0 => Ask::Force,
@@ -35,7 +35,7 @@ fn next_ask(holder: &Holder, numbers: &mut Numbers, tiers: u32, late: bool) -> A
     }
 }
 
-// How many tries a call gets: up to 3, and at least one if it was busy. The tree gets two more to end by force, which
+// Returns how many tries a call gets: up to 3, and at least one if it was busy. The tree gets two more to end by force, which
 // the machine does in one step.
 fn next_tries(numbers: &mut Numbers, ask: Ask, again: bool) -> (u32, u32) {
     let tries = if again {

@@ -20,7 +20,7 @@ pub struct Mirror {
     pub last: [Option<(usize, u64)>; 8],
 }
 
-/// The words of the tiers, of up to nine.
+/// Returns the words of the tiers, of up to nine.
 pub(crate) fn words_of(core: &Core) -> [u64; 9] {
     let mut words = [0; 9];
     for tier in 0..9 {
@@ -31,7 +31,7 @@ pub(crate) fn words_of(core: &Core) -> [u64; 9] {
     words
 }
 
-// The tier whose word has changed, and its new word.
+// Returns the tier whose word has changed, and its new word, if there is one.
 fn changed(before: &[u64; 9], after: &[u64; 9]) -> Option<(usize, u64)> {
     for tier in 0..9 {
         if before[tier] != after[tier] {
@@ -41,7 +41,7 @@ fn changed(before: &[u64; 9], after: &[u64; 9]) -> Option<(usize, u64)> {
     None
 }
 
-// What an answer says.
+// Returns what an answer says.
 fn told_by(ask: Ask, view: View, answer: Played) -> Told {
     match answer {
         Played::GoesOn | Played::MustAdvance(_, _) => Told::Owing,
@@ -60,7 +60,7 @@ fn told_by(ask: Ask, view: View, answer: Played) -> Told {
     }
 }
 
-// The call that a token begins, if it is to begin one.
+// Returns the call that a token begins, if it is to begin one.
 fn call_of(rt: &impl Abort, ask: Ask) -> Option<Call>
     ensures { IfSome result IsCall }
 {
@@ -78,7 +78,7 @@ fn call_of(rt: &impl Abort, ask: Ask) -> Option<Call>
     }
 }
 
-// The tier that a token on its way has to report next.
+// Returns the tier that a token on its way has to report next, if there is one.
 fn next_tier(view: View) -> Option<usize> {
     match view.errand {
         Errand::Climbing { tier, .. } => Some(usize::from(tier)),
@@ -87,14 +87,14 @@ fn next_tier(view: View) -> Option<usize> {
     }
 }
 
-// The word of a tier, of up to nine.
+// Returns the word of a tier, of up to nine.
 fn word_at(rt: &impl Abort, core: &Core, tier: usize) -> u64 {
     assert!(rt; tier < 9);
     words_of(core)[tier]
 }
 
 impl Mirror {
-    /// How many tiers there are.
+    /// Returns the number of tiers.
     pub(crate) fn tiers(&self) -> u32 {
         self.core.tiers() as u32
     }
@@ -121,7 +121,7 @@ impl Mirror {
         None
     }
 
-    // The tier at which a call that goes on loses its first try: another has changed the word that its token left
+    // Returns the tier at which a call that goes on loses its first try: another has changed the word that its token left
     // there. The token has then seen the word.
     fn lost_at(&mut self, rt: &impl Abort, token: usize) -> Option<usize> {
         assert!(rt; token < 8);
@@ -160,7 +160,7 @@ impl Mirror {
         }
     }
 
-    // The steps of a call with `tries` tries, or of one that was busy.
+    // Takes the steps of a call with `tries` tries, or of one that was busy.
     fn steps(
         &mut self,
         rt: &impl Abort,
@@ -183,7 +183,7 @@ impl Mirror {
         self.begin(rt, token, call, tries)
     }
 
-    /// What a token gets from a call with `tries` tries, or from one that was busy.
+    /// Returns what a token gets from a call with `tries` tries, or from one that was busy.
     pub(crate) fn told(
         &mut self,
         rt: &impl Abort,

@@ -44,7 +44,7 @@ fn settled(
     at_rest(rt, holder)
 }
 
-// Whether the words of a closed tree are those of the machine.
+// Returns true if the words of a closed tree are those of the machine.
 fn are_words(words: &[Word], numbers: &[u64; 9]) -> bool {
     for (word, number) in words.iter().zip(numbers) {
         if word.pack() != *number {
@@ -181,7 +181,7 @@ fn listed(
     tokens
 }
 
-// The words that a list of calls leaves on a tree of these widths are the machine's.
+// Checks that the words that a list of calls leaves on a tree of these widths are the machine's.
 fn list(rt: &impl Abort, alloc: Global, rule: StoredAdvance<Rule>, widths: &str, seed: u32)
     requires rule { Answers (pre rule.closure) (post rule.closure) (end_ends_at rule.plan) }
 {

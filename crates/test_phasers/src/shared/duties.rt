@@ -65,7 +65,7 @@ fn arrives<R: Wait + Abort>(rt: &R, tree: &Tree<Rule>, crew: Crew) -> Crew
     }
 }
 
-// The last member of a crew leaves.
+// Lets the last member of a crew leave.
 fn leaves<R: Wait + Abort>(rt: &R, tree: &Tree<Rule>, crew: Crew) -> Door
     requires own { crew.tree ≡ tree.now.tree }
     requires rule { Answers (pre tree.now.rule.closure) (post tree.now.rule.closure) (end_ends_at tree.now.rule.plan) }

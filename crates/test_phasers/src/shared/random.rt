@@ -44,7 +44,8 @@ fn is_never(_phase: u32, _count: u32) -> bool
     false
 }
 
-// What a token is asked next; late, and with a few of the numbers, the end by force or more members than will arrive.
+// Returns what a token is asked next; late, and with a few of the numbers, this is the end by force or more members than will
+// arrive.
 fn next_ask(holder: &Holder, numbers: &mut Numbers, tiers: u32, late: bool) -> Ask {
     match holder {
         Holder::Outside(_) if late && numbers.below(400) == 0 => Ask::Force,
@@ -198,7 +199,7 @@ fn players(
     players
 }
 
-// The tokens of all players, and how many advances they took.
+// Returns the tokens of all players, and how many advances they took.
 fn tokens_of(
     rt: &impl Abort,
     alloc: Global,

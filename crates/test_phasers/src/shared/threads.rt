@@ -115,7 +115,7 @@ const EIGHT_MEET_BY_CREW: Scene = Scene {
     members: 8,
 };
 
-// The actors of a scene. The first has this token, and those of the others are split off it.
+// Creates the actors of a scene. The first has this token, and those of the others are split off it.
 #[tactic(auto, using(crate::proofs::Held::all_pushed))]
 fn actors_of(
     rt: &impl Abort,
@@ -160,7 +160,7 @@ fn staged<R: Threads + Wait + Abort + Sync>(
     actors
 }
 
-// The tokens of all actors.
+// Returns the tokens of all actors.
 fn tokens_of(
     rt: &impl Abort,
     alloc: Global,
@@ -177,7 +177,7 @@ fn tokens_of(
     tokens
 }
 
-// Whether this is left of a scene.
+// Returns true if this is left of a scene.
 fn is_left(closed: &Closed, scene: &Scene) -> bool {
     let mut members = 0usize;
     for token in &closed.tokens {

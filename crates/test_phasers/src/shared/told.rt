@@ -17,7 +17,7 @@ pub enum Seen {
     Opening,
 }
 
-/// What a token says of itself.
+/// Returns what a token says of itself.
 pub(crate) fn tells(holder: &Holder) -> Seen {
     match holder {
         Holder::Outside(door) => Seen::Door(door.phase()),
@@ -29,12 +29,12 @@ pub(crate) fn tells(holder: &Holder) -> Seen {
     }
 }
 
-// The phase after this one.
+// Returns the phase after this one.
 fn next(phase: u32) -> u32 {
     (phase.wrapping_add(1)) % 2147483648
 }
 
-// How many members are unarrived, and in which phase, as an arrival finds them: all of them in the next phase if all
+// Returns how many members are unarrived, and in which phase, as an arrival finds them: all of them in the next phase if all
 // had arrived.
 fn found(size: u32, unarrived: u32, phase: u32) -> (u32, u32) {
     if unarrived == 0 {
@@ -44,7 +44,7 @@ fn found(size: u32, unarrived: u32, phase: u32) -> (u32, u32) {
     }
 }
 
-// What a registration of `members` members at a tier may answer.
+// Returns true if a registration of `members` members at a tier may answer this.
 fn registered(tier: u16, members: u32, after: Seen, told: Told) -> bool {
     match told {
         Told::Joined(phase) => after == Seen::Crew(tier, members, members, phase),
@@ -61,7 +61,7 @@ fn registered(tier: u16, members: u32, after: Seen, told: Told) -> bool {
     }
 }
 
-// What a registration that goes on may answer.
+// Returns true if a registration that goes on may answer this.
 fn opened(after: Seen, told: Told) -> bool {
     match told {
         Told::Joined(phase) => {
@@ -75,8 +75,8 @@ fn opened(after: Seen, told: Told) -> bool {
     }
 }
 
-// What an arrival or a departure may answer. `crew` has the tier, how many members, how many of them are unarrived, and
-// the phase.
+// Returns true if an arrival or a departure may answer this. `crew` has the tier, how many members, how many of them are
+// unarrived, and the phase.
 fn passed(leaves: bool, crew: (u16, u32, u32, u32), after: Seen, told: Told) -> bool {
     let (tier, size, unarrived, phase) = crew;
     let (here, now) = found(size, unarrived, phase);
@@ -98,7 +98,7 @@ fn passed(leaves: bool, crew: (u16, u32, u32, u32), after: Seen, told: Told) -> 
     }
 }
 
-// What an arrival or a departure that goes on may answer.
+// Returns true if an arrival or a departure that goes on may answer this.
 fn resumed(after: Seen, told: Told) -> bool {
     match told {
         Told::Done(phase, _) => matches!(after, Seen::Crew(_, _, _, at) if at == phase),
@@ -108,7 +108,7 @@ fn resumed(after: Seen, told: Told) -> bool {
     }
 }
 
-// What a poll may answer.
+// Returns true if a poll may answer this.
 fn polled(crew: (u16, u32, u32, u32), after: Seen, told: Told) -> bool {
     let (tier, size, unarrived, phase) = crew;
     let (here, now) = found(size, unarrived, phase);
@@ -125,7 +125,7 @@ fn polled(crew: (u16, u32, u32, u32), after: Seen, told: Told) -> bool {
     }
 }
 
-/// Whether a call may answer this.
+/// Returns true if a call may answer this.
 pub(crate) fn may_be_told(ask: Ask, before: Seen, after: Seen, told: Told) -> bool {
     match (ask, before) {
         (Ask::Register(tier, members), Seen::Door(_)) => registered(tier, members, after, told),

@@ -56,7 +56,7 @@ fn beside(
     (Holder::Inside(crew), other)
 }
 
-// The token that a row names is asked as it says.
+// Asks the token that a row names what the row says.
 fn turned(rt: &impl Abort, tree: &Tree<Rule>, holders: Three, number: usize, row: Row) -> Three
     requires own { ThreeOf tree.now.tree holders }
     requires rule { Answers (pre tree.now.rule.closure) (post tree.now.rule.closure) (end_ends_at tree.now.rule.plan) }

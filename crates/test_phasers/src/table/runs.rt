@@ -282,7 +282,7 @@ const RUNS: [Run; 12] = [
     ),
 ];
 
-// Whether a token is a crew that says this of itself, if anything is wanted.
+// Returns true if a token is a crew that says this of itself, or if nothing is wanted.
 fn is_told(holder: &Holder, want: Option<ClosedToken>) -> bool {
     match (holder, want) {
         (_, None) => true,
@@ -296,7 +296,7 @@ fn is_told(holder: &Holder, want: Option<ClosedToken>) -> bool {
     }
 }
 
-// Whether the third of the tokens that were handed back is this, if anything is wanted.
+// Returns true if the third of the tokens that were handed back is this, or if nothing is wanted.
 fn is_handed_back(tokens: &[ClosedToken], want: Option<ClosedToken>) -> bool {
     match (tokens.last(), want) {
         (_, None) => true,
@@ -338,7 +338,7 @@ const AT_ONE: EndPlan = EndPlan {
     at: Some(1),
 };
 
-// Whether this phase is 1.
+// Returns true if this phase is 1.
 fn is_one(phase: u32, _count: u32) -> bool
     ensures { result ≡ (1 == phase) }
 {

@@ -31,7 +31,7 @@ pub fn with_three(
     (tree, (Holder::Outside(zero), one, two))
 }
 
-/// What a tree leaves that is closed with its three tokens.
+/// Closes a tree with its three tokens. Returns what it leaves.
 pub(crate) fn left_by_three(
     rt: &impl Abort,
     alloc: Global,

@@ -95,7 +95,7 @@ fn asked<R: Wait + Abort>(rt: &R, tree: &Tree<Rule>, holder: Holder, row: (usize
     holder
 }
 
-// The token that a row names is asked as it says.
+// Asks the token that a row names what the row says.
 fn turned<R: Wait + Abort>(rt: &R, tree: &Tree<Rule>, holders: Three, row: (usize, Row)) -> Three
     requires own { ThreeOf tree.now.tree holders }
     requires rule { Answers (pre tree.now.rule.closure) (post tree.now.rule.closure) (end_ends_at tree.now.rule.plan) }
