@@ -48,8 +48,8 @@ impl<'b, B: TaskBody> Run<'b, B> {
     ghost use Rattle.task_bodies.specs.declared.run.RunFault.TheVariants.{TooMany as TooManyStart};
     ghost use Rattle.task_workers.specs.Leaving.{are_too_many_parties, RefusesFor};
 
-    /// A run of this body: a task for each element of `tasks`, which is what the task keeps. At most 65535 tasks may live at once,
-    /// and at most 1000000 supersteps are taken, unless [`Run::most`] and [`Run::limit`] say otherwise.
+    /// Creates a run of this body: a task for each element of `tasks`, which is what the task keeps. At most 65535 tasks may
+    /// live at once, and at most 1000000 supersteps are taken, unless [`Run::most`] and [`Run::limit`] say otherwise.
     pub fn of(body: &'b B, arrays: Arrays, tasks: Vec<B::Kept>) -> Self
         ensures { result ≡ record { body = body.now; arrays = arrays; tasks = tasks.items; most = 65535; limit = 1000000 } }
     {

@@ -78,7 +78,7 @@ struct ReadText {
 }
 
 impl ReadText {
-    // Nothing was read. Keeps the bytes if it is asked to.
+    // Creates a text of which nothing was read. Keeps the bytes if it is asked to.
     fn new(alloc: Global, keeps: bool) -> Self {
         ReadText {
             bytes: Vec::new(alloc),

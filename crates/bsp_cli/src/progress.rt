@@ -133,7 +133,7 @@ pub struct Seen {
 }
 
 impl Seen {
-    /// No superstep has begun.
+    /// Creates the state before the first superstep.
     pub fn new() -> Self {
         Seen {
             state: Mutex::new(ProgressState {

@@ -26,7 +26,7 @@ impl Model for Handle {
 }
 
 impl Handle {
-    /// A handle of no state.
+    /// Creates a handle without a state.
     pub fn closed() -> Handle
         ensures { result.state ≡ None }
     {
@@ -53,7 +53,7 @@ impl Handle {
         }
     }
 
-    /// A handle of this state.
+    /// Creates a handle of this state.
     pub fn of(state: Box<State>) -> Handle
         ensures { result.state ≡ Some state.value }
     {

@@ -149,8 +149,8 @@ pub extern "C" fn bsp_steps_look(slot: &mut Slot, look: &mut Look) -> i32
     DONE
 }
 
-/// A view of the cells of an array as the next superstep reads them, which is there until the next call with this slot. Returns 7 if
-/// nothing is open, 9 if there is no such array.
+/// Lends the cells of an array as the next superstep reads them, until the next call with this slot. Returns 7 if nothing is
+/// open, 9 if there is no such array.
 #[unsafe(no_mangle)]
 pub extern "C" fn bsp_steps_cells<'a>(
     slot: &'a mut Slot,
@@ -171,8 +171,7 @@ pub extern "C" fn bsp_steps_cells<'a>(
     }
 }
 
-/// A view of the path of a live task, which is there until the next call with this slot. Returns 7 if nothing is open, 9 if there is no
-/// such task.
+/// Lends the path of a live task, until the next call with this slot. Returns 7 if nothing is open, 9 if there is no such task.
 #[unsafe(no_mangle)]
 pub extern "C" fn bsp_steps_path<'a>(slot: &'a mut Slot, task: usize, path: &mut &'a [u16]) -> i32
     ensures { ReadsPath slot.old.handle.state task path.old.now path.new.now result }

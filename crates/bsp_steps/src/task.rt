@@ -97,7 +97,7 @@ impl Task {
         self.origin
     }
 
-    /// A copy of it that has this place now. Doesn't allocate.
+    /// Returns a copy of the task that has this place now. Doesn't allocate.
     pub fn placed(&self, place: usize) -> Task
         ensures { result ≡ placed_at place self.now }
     {

@@ -28,7 +28,7 @@ pub struct Metered<D> {
 }
 
 impl<D> Metered<D> {
-    /// This device, which was not asked.
+    /// Wraps this device, which was not asked.
     pub(crate) fn new(device: D) -> Self
         ensures device { result.device ≡ device }
         ensures asks { result.asks.count ≡ 0 }

@@ -108,7 +108,7 @@ fn cool_exactly(alloc: Global) -> Result<Report, RunFault> {
     Ok(ran.report)
 }
 
-// A shop that is open for 1000 supersteps.
+// Runs a shop that is open for 1000 supersteps.
 fn serve(alloc: Global) -> Result<Report, RunFault> {
     let start = start::shop(alloc)?;
     let ran = run_bodies(
@@ -122,7 +122,7 @@ fn serve(alloc: Global) -> Result<Report, RunFault> {
     Ok(ran.report)
 }
 
-// A graph of 100,000 nodes, searched from node 0.
+// Searches a graph of 100,000 nodes from node 0.
 fn find(alloc: Global) -> Result<Report, RunFault> {
     let start = start::graph(alloc)?;
     let ran = run_bodies(
@@ -227,13 +227,13 @@ fn count(report: &Report) -> usize {
     }
 }
 
-// Supersteps, and the cells 10 and 70.
+// Returns the number of supersteps, and the cells 10 and 70.
 fn rod_numbers(alloc: Global) -> Result<(u32, i64, i64), RunFault> {
     let report = cool(alloc)?;
     Ok((steps(&report), cell(&report, 0, 10), cell(&report, 0, 70)))
 }
 
-// Supersteps until cell 20 is warm, and how warm it is.
+// Returns the number of supersteps until cell 20 is warm, and how warm it is.
 fn warm_numbers(alloc: Global) -> Result<(u32, i64), RunFault> {
     let report = warm(alloc)?;
     Ok((steps(&report), cell(&report, 0, 20)))
@@ -256,7 +256,7 @@ fn square_numbers(alloc: Global) -> Result<i64, RunFault> {
     Ok(cell(&report, 1, 0))
 }
 
-// Supersteps, who came, who went, and for how long they were there.
+// Returns the number of supersteps, who came, who went, and for how long they were there.
 fn shop_numbers(alloc: Global) -> Result<(u32, i64, i64, i64), RunFault> {
     let report = serve(alloc)?;
     Ok((
@@ -267,7 +267,7 @@ fn shop_numbers(alloc: Global) -> Result<(u32, i64, i64, i64), RunFault> {
     ))
 }
 
-// Supersteps, how many nodes were reached, and the greatest distance.
+// Returns the number of supersteps, how many nodes were reached, and the greatest distance.
 fn graph_numbers(alloc: Global) -> Result<(u32, usize, i64), RunFault> {
     let report = find(alloc)?;
     Ok((steps(&report), reached(&report), cell(&report, ROUNDS, 0)))
@@ -283,7 +283,7 @@ fn rank_numbers(alloc: Global) -> Result<(i64, i64, i64), RunFault> {
     ))
 }
 
-// Supersteps, and how many cells live.
+// Returns the number of supersteps, and how many cells live.
 fn life_numbers(alloc: Global) -> Result<(u32, usize), RunFault> {
     let report = live(alloc)?;
     Ok((steps(&report), count(&report)))

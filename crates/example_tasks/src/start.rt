@@ -45,7 +45,7 @@ fn add_with_first(
     Ok(())
 }
 
-/// A rod of 4096 cells in 46 blocks. Its first cell is hot.
+/// Creates a rod of 4096 cells in 46 blocks. Its first cell is hot.
 pub fn rod(alloc: Global) -> Result<Start<Block>, AllocError> {
     let mut arrays = Arrays::new(alloc);
     add_with_first(alloc, &mut arrays, "rod", 4096, 1_000_000_000_000, 0)?;
@@ -59,7 +59,7 @@ pub fn rod(alloc: Global) -> Result<Start<Block>, AllocError> {
     Ok(Start { arrays, tasks })
 }
 
-/// A shop with a door.
+/// Creates a shop with a door.
 pub fn shop(alloc: Global) -> Result<Start<Role>, AllocError> {
     let mut arrays = Arrays::new(alloc);
     add(alloc, &mut arrays, "shop", 3, 0)?;
@@ -81,7 +81,7 @@ fn blocks(alloc: Global, count: u32, size: u32) -> Result<Vec<Nodes>, AllocError
     Ok(blocks)
 }
 
-/// A graph of 100,000 nodes in 20 blocks. Only node 0 is reached.
+/// Creates a graph of 100,000 nodes in 20 blocks. Only node 0 is reached.
 pub fn graph(alloc: Global) -> Result<Start<Nodes>, AllocError> {
     let mut arrays = Arrays::new(alloc);
     add_with_first(alloc, &mut arrays, "distances", 100_000, 0, -1)?;
@@ -90,7 +90,7 @@ pub fn graph(alloc: Global) -> Result<Start<Nodes>, AllocError> {
     Ok(Start { arrays, tasks })
 }
 
-/// A graph of 1000 nodes in 10 blocks, all of one rank.
+/// Creates a graph of 1000 nodes in 10 blocks, all of one rank.
 pub fn ranks(alloc: Global) -> Result<Start<Nodes>, AllocError> {
     let mut arrays = Arrays::new(alloc);
     add(alloc, &mut arrays, "ranks", 1000, 1_000_000_000)?;
@@ -99,7 +99,7 @@ pub fn ranks(alloc: Global) -> Result<Start<Nodes>, AllocError> {
     Ok(Start { arrays, tasks })
 }
 
-/// A board of 512 rows and columns, in 16 blocks of rows. Five cells live, in its middle.
+/// Creates a board of 512 rows and columns, in 16 blocks of rows. Five cells live, in its middle.
 pub fn board(alloc: Global) -> Result<Start<BoardRows>, AllocError> {
     let mut arrays = Arrays::new(alloc);
     let mut cells = Vec::from_elem(alloc, 0, 262_144)?;

@@ -19,7 +19,7 @@ pub(crate) struct Meets {
 }
 
 impl Meets {
-    /// Nobody has come yet.
+    /// Creates a gate to which nobody has come yet.
     pub(crate) fn new() -> Self {
         Meets {
             entered: AtomicU64::new(0),
@@ -73,7 +73,7 @@ pub(crate) struct Starts {
 }
 
 impl Starts {
-    /// No worker has been started yet.
+    /// Creates a starter by which no worker has been started yet.
     pub(crate) fn new() -> Self {
         Starts {
             digits: AtomicU64::new(0),

@@ -32,7 +32,7 @@ const RUNS: usize = 7;
 // How many supersteps of the shop begin before a watcher stops it.
 const COUNTED: u32 = 37;
 
-// A number by all cells of one array.
+// Returns a number by all cells of one array.
 fn array_number(before: i64, cells: &[i64]) -> i64 {
     let mut number = before;
     for cell in cells {
@@ -41,7 +41,7 @@ fn array_number(before: i64, cells: &[i64]) -> i64 {
     number
 }
 
-// A number by all cells of all arrays. Other cells give another number, except by a rare chance.
+// Returns a number by all cells of all arrays. Other cells give another number, except by a rare chance.
 fn number_of(arrays: &Arrays) -> i64 {
     let mut number = 0;
     for place in 0..arrays.len() {
@@ -161,7 +161,7 @@ impl Watch for Countdown {
     }
 }
 
-// After how many supersteps a watcher stops the shop that lets `COUNTED` begin: fewer if it is called too often.
+// Returns after how many supersteps a watcher stops the shop that lets `COUNTED` begin: fewer if it is called too often.
 fn counted_on_workers<R: Threads + Wait + Sync>(
     rt: &R,
     alloc: Global,

@@ -64,7 +64,7 @@ pub enum Move {
 }
 
 impl Move {
-    /// Which of the five kinds of step takes it, from 0.
+    /// Returns which of the five kinds of step takes it, from 0.
     pub fn kind(self) -> u8
         ensures { result ≡ spec.kind_for self }
     {

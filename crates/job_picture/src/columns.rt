@@ -53,7 +53,7 @@ fn begins_in(prints: &[Print], step: u32) -> bool
     }
 }
 
-/// A column for each superstep.
+/// Returns a column for each superstep.
 pub(crate) fn columns_of(
     alloc: Global,
     prints: &[Print],
@@ -92,7 +92,7 @@ fn greater(a: Column, b: Column) -> Column
     }
 }
 
-// No superstep.
+// Returns the column of no superstep.
 fn nothing() -> Column
     ensures { result ≡ no_superstep }
 {

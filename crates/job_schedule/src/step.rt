@@ -35,7 +35,7 @@ impl JobStep {
         }
     }
 
-    /// Which of the five kinds it is, from 0.
+    /// Returns which of the five kinds it is, from 0.
     pub(crate) fn kind(self) -> u8
         ensures { result ≡ kind_of self }
     {

@@ -46,7 +46,7 @@ impl<T> PassList<T> {
     ghost use Rattle.pass_list.specs.Passed.{IsOut, without, ticket};
     ghost use Rattle.pass_list.specs.declared.rule.Ticket.{Ticket};
 
-    /// A new list, without passes.
+    /// Creates a list without passes.
     pub fn new(alloc: Global) -> Result<PassList<T>, AllocError>
         ensures { IfOk result (λ l. l.out ≡ []) }
     {

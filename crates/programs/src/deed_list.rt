@@ -76,7 +76,7 @@ fn write_out(front: &mut Vec<Deed>, alike: u32, puts: usize) -> Result<(), Alloc
 }
 
 impl DeedList {
-    /// None yet.
+    /// Creates a list without deeds.
     pub(crate) fn new(alloc: Global) -> Self
         ensures { result ≡ [] }
     {
@@ -160,7 +160,7 @@ impl DeedList {
         Ok(())
     }
 
-    /// All of them.
+    /// Returns all deeds.
     pub(crate) fn all(&self) -> LastDeeds<'_>
         ensures { result ≡ self.now }
     {

@@ -50,7 +50,7 @@ pub struct Regrouping<T> {
 }
 
 impl<T: OnPath> Regrouping<T> {
-    /// No room yet.
+    /// Creates empty lists, without room.
     pub fn new(alloc: Global) -> Self
         ensures { (result.living.items ≡ []) × (result.waiting.items ≡ []) }
     {
@@ -299,7 +299,7 @@ fn take_reserved<T: OnPath>(all: &mut Vec<T>, spawns: &mut Vec<T>)
 }
 
 impl<T: OnPath> Deeds<T> {
-    /// None yet.
+    /// Creates a list without deeds.
     pub fn new(alloc: Global) -> Self
         ensures { result ≡ [] }
     {
@@ -411,9 +411,9 @@ impl<T: OnPath> Deeds<T> {
         self.regroup_within(tasks, room, count, &None)
     }
 
-    /// As `regroup`, for tasks that are followed by others, the first of which has the path `bound`. Leaves the tasks that come
-    /// after the bound, the strays, in `room.waiting`, the first by path last. If the tasks don't come after the bound, nor do
-    /// those that replace them.
+    /// Does what `regroup` does, for tasks that are followed by others, the first of which has the path `bound`. Leaves the
+    /// tasks that come after the bound, the strays, in `room.waiting`, the first by path last. If the tasks don't come after
+    /// the bound, nor do those that replace them.
     pub fn regroup_within(
         &mut self,
         tasks: &mut Vec<T>,

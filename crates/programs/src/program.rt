@@ -17,7 +17,7 @@ pub trait OnPath: Drop {
     /// Its path.
     ghost path_of: { Self → List ℕ };
 
-    /// Its path.
+    /// Returns its path.
     fn path(&self) -> &Path
         ensures path { result.now.items ≡ path_of self.now }
         ensures short { length result.now.items ≤ 8 };

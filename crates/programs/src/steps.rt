@@ -42,7 +42,7 @@ struct Space<T> {
     olds: Vec<i64>,
 }
 
-// No space yet.
+// Creates an empty space.
 fn no_space<T: OnPath>(alloc: Global) -> Space<T> {
     Space {
         work: Work {

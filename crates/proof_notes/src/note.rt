@@ -19,7 +19,7 @@ impl<A, B> Model for Notes<A, B> {
 unsafe impl<A: Send, B: Send> Send for Notes<A, B> {}
 
 impl<A, B> Notes<A, B> {
-    /// Nothing is noted.
+    /// Creates empty notes.
     pub fn new() -> Notes<A, B>
         ensures { result.items ≡ [] }
     {

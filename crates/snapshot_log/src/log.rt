@@ -76,7 +76,7 @@ impl<X> Model for Snapshot<X> {
 impl<X: Drop> Log<X> {
     ghost use Rattle.std.specs.Prelude.{◌≡◌, IfOk};
 
-    /// A new log, without entries.
+    /// Creates a log without entries.
     pub fn new(alloc: Global) -> Result<(Log<X>, Start<X>), AllocError>
         ensures { IfOk result (λ l. l.1 ≡ l.0) }
     {

@@ -91,7 +91,7 @@ impl<'j> Round<'j> {
     ghost use Rattle.step_parts.specs.RoundValue.{IsRound, Opens, state_of, status_in, slots_in, with_fault};
     ghost use Rattle.step_parts.specs.Taking.{Refuses, Takes, IsDouble, with_delivery, NotClosed, outcome_of, IsOrderOf, IsOrderAt, is_live, task_at};
 
-    /// A round of this job with this limit of supersteps, before the first of them.
+    /// Creates a round of this job with this limit of supersteps, before the first of them.
     pub fn new(alloc: Global, job: &'j Job, limit: u32) -> Result<Self, AllocError>
         requires { 1 ≤ limit }
         ensures { IfOk result (λ r. Opens r job.now limit (initial (program_of job.now))) }

@@ -42,7 +42,7 @@ fn write_all(arrays: &mut Arrays, slots: &Slots<'_>)
     }
 }
 
-// All puts that were delivered, one after another.
+// Returns all puts that were delivered, one after another.
 fn join(alloc: Global, slots: &Slots<'_>) -> Result<Puts, AllocError>
     ensures { IfOk result (λ puts. puts ≡ log_in slots.now) }
 {

@@ -76,8 +76,8 @@ fn finish(
     }
 }
 
-// A list for the next tasks, which can be filled because nobody else has it, and room for `count` tasks beside it. If
-// memory runs out, nothing that has a meaning changes.
+// Returns a list for the next tasks, which can be filled because nobody else has it, and makes room for `count` tasks beside
+// it. If memory runs out, nothing that has a meaning changes.
 fn list_for(
     alloc: Global,
     room: &mut Vec<Task>,
@@ -155,7 +155,7 @@ impl Live {
     ghost use Rattle.step_parts.specs.SlotParts.{AllSmall, path_in, fresh_slot, living_in};
     ghost use Rattle.step_parts.specs.Taking.{is_done, task_at};
 
-    /// These tasks, with nothing delivered for them.
+    /// Creates a list of these tasks, with nothing delivered for them.
     pub fn new(alloc: Global, tasks: Vec<Task>) -> Result<Self, AllocError>
         ensures { IfOk result (λ live. live ≡ map fresh_slot tasks.items) }
     {
@@ -171,7 +171,7 @@ impl Live {
         }
     }
 
-    /// Each task beside what was delivered for it.
+    /// Returns each task beside what was delivered for it.
     pub fn slots(&self) -> Slots<'_>
         ensures { result ≡ self.now }
     {

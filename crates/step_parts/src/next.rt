@@ -91,7 +91,7 @@ pub(crate) fn make_room(
     Ok(())
 }
 
-/// Nothing was delivered for these tasks.
+/// Notes that nothing was delivered for these tasks.
 pub(crate) fn set_undone(done: &mut Vec<Option<Segment>>, tasks: &[Task])
     requires none_yet { done.old.items ≡ [] }
     requires room { length tasks.now ≤ vec_capacity done.old }

@@ -89,7 +89,7 @@ impl<'j> Order<'j> {
     ghost use Rattle.step_parts.specs.OrderValue.{order_among, ordered_task, IsOrder};
     ghost use Rattle.std.specs.Arc.{arc_value};
 
-    /// An order for the task of this place.
+    /// Creates an order for the task of this place.
     pub fn new(
         job: &'j Job,
         step: u32,
@@ -110,7 +110,7 @@ impl<'j> Order<'j> {
         }
     }
 
-    // Its task.
+    // Returns its task.
     fn task(&self) -> &Task
         ensures { result.now ≡ self.now.task }
     {
@@ -216,7 +216,7 @@ impl<'j> Delivery<'j> {
         matches!(self.segment.after, After::Synced(_))
     }
 
-    /// Its job.
+    /// Returns its job.
     pub fn job(&self) -> &'j Job
         ensures { result.now ≡ self.now.job }
     {

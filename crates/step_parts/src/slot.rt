@@ -42,14 +42,14 @@ impl<'a> Slots<'a> {
     ghost use Rattle.std.specs.Prelude.{◌≡◌, ◌∷◌, [], None, Some, MatchOption, slice_get};
     ghost use Rattle.step_parts.specs.SlotParts.{beside};
 
-    /// These tasks, each beside what was delivered for it, by place.
+    /// Returns these tasks, each beside what was delivered for it, by place.
     pub(crate) fn of(tasks: &'a [Task], done: &'a [Option<Segment>]) -> Self
         ensures { result ≡ beside tasks.now done.now }
     {
         Slots { tasks, done }
     }
 
-    /// A copy.
+    /// Returns a copy.
     pub(crate) fn again(&self) -> Self
         ensures { result ≡ self.now }
     {

@@ -19,8 +19,8 @@ pub(crate) fn size_for(count: usize, pieces: usize) -> usize
     (count / pieces).clamp(1, MOST_TASKS)
 }
 
-// A place near to the end of this list, about `size` tasks in front of it: that of a task with a short path, so that few tasks
-// have a spawner in front of the place.
+// Returns a place near to the end of this list, about `size` tasks in front of it: that of a task with a short path, so that
+// few tasks have a spawner in front of the place.
 fn place_to_cut<T: OnPath>(tasks: &[T], size: usize) -> usize
     requires some { 1 ≤ size }
     requires front { size < length tasks.now }

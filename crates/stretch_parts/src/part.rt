@@ -99,7 +99,7 @@ impl<T: OnPath> Part<T> {
     ghost use Rattle.programs.specs.Changes.{change_of, change_in};
     ghost use Rattle.stretch_parts.specs.Parts.{fresh_part};
 
-    /// No tasks yet.
+    /// Creates a stretch without tasks.
     pub fn new(alloc: Global) -> Result<Self, AllocError>
         ensures { IfOk result (λ part. part ≡ fresh_part 0 []) }
     {
@@ -128,7 +128,7 @@ impl<T: OnPath> Part<T> {
         Ok(Part { state })
     }
 
-    /// These tasks before their segments, in place of none. The first has this place among the live ones.
+    /// Returns it with these tasks before their segments, in place of none. The first has this place among the live ones.
     pub fn with_tasks(mut self, first: usize, tasks: Vec<T>) -> Self
         requires { self ≡ fresh_part 0 [] }
         ensures { result ≡ fresh_part first tasks.items }
@@ -185,7 +185,7 @@ impl<T: OnPath> Part<T> {
         }
     }
 
-    /// Its first fault.
+    /// Returns its first fault, if it has one.
     pub fn fault(&self) -> Option<Blame>
         ensures { result ≡ self.now.fault }
     {

@@ -50,7 +50,7 @@ pub fn get_ready<T: OnPath>(
     })
 }
 
-// Arrays that several may share.
+// Makes arrays that several may share.
 fn share(alloc: Global, arrays: Arrays) -> Result<Arc<Arrays>, AllocError>
     ensures { IfOk result (λ shared. arc_value shared ≡ arrays) }
 {

@@ -59,7 +59,7 @@ pub fn leaf_of(leaves: u16, path: &[u16]) -> usize
 }
 
 impl Moves {
-    /// Nobody came or left.
+    /// Creates moves in which nobody came or left.
     pub fn none(alloc: Global) -> Self {
         Moves {
             all: LeafMoves {

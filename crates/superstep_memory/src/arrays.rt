@@ -79,7 +79,7 @@ impl Model for Arrays {
 }
 
 impl Arrays {
-    /// No arrays.
+    /// Creates an empty list of arrays.
     pub fn new(alloc: Global) -> Self
         ensures { result ≡ [] }
     {
@@ -221,7 +221,7 @@ impl Arrays {
         }
     }
 
-    /// A copy.
+    /// Returns a copy.
     pub fn copy(&self, alloc: Global) -> Result<Arrays, AllocError>
         ensures { IfOk result (λ copy. copy ≡ self.now) }
     {

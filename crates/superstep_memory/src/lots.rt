@@ -28,7 +28,7 @@ impl Lot {
     ghost use Rattle.std.specs.Prelude.{◌≡◌, true, false};
     ghost use Rattle.superstep_memory.specs.Lots.{put_of};
 
-    /// One put.
+    /// Creates the lot of one put.
     #[inline(always)]
     pub(crate) fn one(put: Put) -> Lot
         ensures put { put_of result ≡ put }

@@ -74,7 +74,7 @@ fn both(one: bool, other: bool) -> bool
 }
 
 impl Puts {
-    /// No puts.
+    /// Creates an empty list of puts.
     pub fn new(alloc: Global) -> Self
         ensures { result ≡ [] }
     {
@@ -159,7 +159,7 @@ impl Puts {
         Ok(())
     }
 
-    /// An empty vector for the values of a row, with the memory of an earlier row if there is one.
+    /// Returns an empty vector for the values of a row, with the memory of an earlier row if there is one.
     pub fn room(&mut self, alloc: Global) -> Vec<i64>
         ensures empty { result.items ≡ [] }
         ensures same { self.new ≡ self.old }

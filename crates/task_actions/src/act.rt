@@ -127,7 +127,7 @@ fn set_local(scene: &Scene<'_>, locals: &mut [i64], local: u8, expr: &Expr) -> E
     }
 }
 
-/// One action.
+/// Does one action.
 #[inline(always)]
 pub fn act(
     alloc: Global,

@@ -88,7 +88,7 @@ impl Model for Segment {
 }
 
 impl Task {
-    /// A task at the beginning of the body at this place. If there is no such body, it has nothing to do.
+    /// Creates a task at the beginning of the body at this place. If there is no such body, it has nothing to do.
     pub fn start(
         alloc: Global,
         bodies: &[Body],

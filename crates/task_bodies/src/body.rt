@@ -101,7 +101,7 @@ impl<K: Drop> Out<K> {
         self.puts.put_row(array, first, values)
     }
 
-    /// An empty vector for the values of a row, with the memory of an earlier row if there is one.
+    /// Returns an empty vector for the values of a row, with the memory of an earlier row if there is one.
     pub fn room(&mut self, alloc: Global) -> Vec<i64>
         ensures empty { result.items ≡ [] }
         ensures same { self.new ≡ self.old }

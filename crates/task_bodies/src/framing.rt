@@ -11,7 +11,7 @@ use std::mem;
 use superstep_memory::arrays::Arrays;
 use superstep_memory::puts::Puts;
 
-/// Empty buffers for a body, with the memory that earlier ones had.
+/// Returns empty buffers for a body, with the memory that earlier ones had.
 #[inline(always)]
 pub(crate) fn open<K: Drop>(alloc: Global, work: &mut Work<Member<K>>) -> Out<K>
     requires { work.old.prints.items ≡ [] }

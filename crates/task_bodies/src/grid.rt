@@ -93,7 +93,7 @@ fn column_of(rows: Three<'_>, place: usize, beyond: i64) -> Column
     }
 }
 
-// A cell with its neighbours: those of three columns.
+// Returns a cell with its neighbours: those of three columns.
 #[inline(always)]
 fn window_of(left: Column, middle: Column, right: Column) -> Window
     ensures { result ≡ record {

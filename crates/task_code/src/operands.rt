@@ -27,7 +27,7 @@ fn of_expr(cell: Option<Operand>, expr: &Expr) -> Operands
     }
 }
 
-// No operand at all.
+// Returns no operand at all.
 fn nothing() -> Operands
     ensures { spec.listed result ≡ [] }
 {

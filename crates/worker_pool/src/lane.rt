@@ -24,7 +24,7 @@ pub(crate) struct Lane<'p, P: TaskLoop, H: Hook<P>, J: Running> {
 }
 
 impl<'p, P: TaskLoop, H: Hook<P>, J: Running> Lane<'p, P, H, J> {
-    // A lane without stretches.
+    // Creates a lane without stretches.
     fn new(alloc: Global) -> Self {
         Lane {
             inbox: Mutex::new(Inbox::new(alloc)),

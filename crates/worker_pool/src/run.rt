@@ -366,8 +366,8 @@ where
     }
 }
 
-/// About how many stretches live tasks should be cut into for a run on `workers` threads: some for each
-/// worker, or if the gate isn't open, one for each task.
+/// Returns about how many stretches live tasks should be cut into for a run on `workers` threads: some for each worker, or if
+/// the gate isn't open, one for each task.
 pub fn stretches_wanted<G: Gate>(gate: &G, workers: u32) -> usize
     requires { 1 ≤ workers }
     ensures { 1 ≤ result }
