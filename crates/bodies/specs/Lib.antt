@@ -1,1 +1,2 @@
 pub mod RunValue
+pub mod WorkersValue

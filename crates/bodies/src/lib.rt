@@ -100,7 +100,7 @@
 //! # Where things are
 //!
 //! * `run.rt`: runs; `workers.rt`: workers. The rest is that of `task_bodies` and `task_workers`.
-//! * `specs/RunValue.antt`: what a run begins with.
+//! * `specs/RunValue.antt`: what a run begins with; `WorkersValue.antt`: workers.
 #![tactic(auto)]
 
 mod run;

@@ -140,7 +140,7 @@ where
         requires ready { B.ready self.body }
         ensures ran { IfOk result (λ ran. let r = self.entry in HasRun member_frame (BodyMay (B.may r.body)) r.most r.arrays (numbered [] 0 r.tasks) r.limit ran.report ran.tasks.items) }
         ensures few { IfOk result (λ ran. are_too_many_parties self.entry.most (length self.entry.tasks) ≡ false) }
-        ensures refused { IfErr result (RefusesFor workers self.entry.most (length self.entry.tasks)) }
+        ensures refused { IfErr result (RefusesFor workers.count self.entry.most (length self.entry.tasks)) }
     {
         let (count, shape) = workers.into_parts();
         let Run {
@@ -167,7 +167,7 @@ where
         requires ready { B.ready self.body }
         ensures ran { IfOk result (λ ran. let r = self.entry in HasRunTo W.stops W.goes member_frame (BodyMay (B.may r.body)) r.most r.arrays (numbered [] 0 r.tasks) r.limit ran.report ran.tasks.items) }
         ensures few { IfOk result (λ ran. are_too_many_parties self.entry.most (length self.entry.tasks) ≡ false) }
-        ensures refused { IfErr result (RefusesFor workers self.entry.most (length self.entry.tasks)) }
+        ensures refused { IfErr result (RefusesFor workers.count self.entry.most (length self.entry.tasks)) }
     {
         let (count, shape) = workers.into_parts();
         let Run {

@@ -16,22 +16,24 @@ pub struct Workers {
 }
 
 impl Model for Workers {
-    ghost use Rattle.std.specs.Prelude.{ℕ, ◌≤◌};
+    ghost use Rattle.bodies.specs.WorkersValue.{WorkersValue, IsWorkerCount};
 
-    ghost Value = { ℕ };
+    ghost Value = { WorkersValue };
 
-    ghost view = { λ w. w.count };
+    ghost view = { λ w. record { count = w.count; shape = w.shape } };
 
-    ghost invariant = { λ w. (1 ≤ w.count) × (w.count ≤ 64) };
+    ghost invariant = { λ w. IsWorkerCount w.count };
 }
 
 impl Workers {
-    ghost use Rattle.std.specs.Prelude.{◌≡◌, ◌≤◌, IfOk, IfErr};
+    ghost use Rattle.std.specs.Prelude.{◌≡◌, IfOk, IfErr};
+    ghost use Rattle.bodies.specs.WorkersValue.{IsWorkerCount};
 
     /// Returns this many workers that meet at a tree of this shape. Fails unless they are 1 to 64.
     pub fn new(count: u32, shape: Shape) -> Result<Workers, WorkerCountError>
-        ensures workers { IfOk result (λ workers. (workers ≡ count) × (1 ≤ count) × (count ≤ 64)) }
-        ensures refused { IfErr result (λ _. (1 ≤ count) × (count ≤ 64) → ⊥) }
+        ensures workers { IfOk result (λ workers. workers ≡ record { count = count; shape = shape }) }
+        ensures range { IfOk result (λ _. IsWorkerCount count) }
+        ensures refused { IfErr result (λ _. IsWorkerCount count → ⊥) }
     {
         if count < 1 || count > 64 {
             return Err(WorkerCountError);
@@ -41,8 +43,9 @@ impl Workers {
 
     /// Returns their number and the shape.
     pub(crate) fn into_parts(self) -> (u32, Shape)
-        ensures count { result.0 ≡ self }
-        ensures range { (1 ≤ result.0) × (result.0 ≤ 64) }
+        ensures count { result.0 ≡ self.count }
+        ensures shape { result.1 ≡ self.shape }
+        ensures range { IsWorkerCount result.0 }
     {
         let Workers { count, shape } = self;
         (count, shape)
