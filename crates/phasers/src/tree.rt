@@ -367,10 +367,10 @@ impl<'a, A: OnAdvance> Party<'a, A> {
         await_advance(&shared.tiers, rt, &mut self.crew)
     }
 
-    /// Lets a member arrive, waits until the phase in which all members have arrived is over, and returns the next phase. A
-    /// party of one member meets all others by this call. With several members, each but the last only arrives, and the call
-    /// fails with `Here`. [`Parties`](crate::parties::Parties) lets several members arrive at once. Fails with `Ended` if the
-    /// tree has ended.
+    /// Lets a member arrive, waits until the phase in which all members have arrived is over, and returns the next phase: one
+    /// more, or 0 after 2147483647. A party of one member meets all others by this call. With several members, each but the last
+    /// only arrives, and the call fails with `Here`. [`Parties`](crate::parties::Parties) lets several members arrive at once.
+    /// Fails with `Ended` if the tree has ended.
     ///
     /// Returns a phase only after an advance of the tree that found every member of every party arrived in the phase in
     /// which this party arrived.
@@ -387,9 +387,9 @@ impl<'a, A: OnAdvance> Party<'a, A> {
         }
     }
 
-    /// Registers `members` new members at this party's tier, as a separate party. A member of this party has not arrived, so
-    /// the phase can't end meanwhile, and the call waits for no advance. If all members have arrived, does nothing and fails
-    /// with `AllArrived`.
+    /// Registers `members` new members at this party's tier, as a separate party, which is in this party's phase and has not
+    /// arrived. A member of this party has not arrived, so the phase can't end meanwhile, and the call waits for no advance. If
+    /// all members have arrived, does nothing and fails with `AllArrived`.
     pub fn bring<R: Wait>(
         &mut self,
         rt: &R,
@@ -415,7 +415,8 @@ impl<'a, A: OnAdvance> Party<'a, A> {
     }
 
     /// Lets a member leave. Its departure counts as its arrival. If all members have arrived in this phase, none can leave in
-    /// it: then the call first waits until the phase is over.
+    /// it: then the call first waits until the phase is over. A member whose last phase is p leaves in p, in place of arriving;
+    /// or it meets the others in p, and leaves in the phase after it, which then has waited for it too.
     pub fn leave<R: Wait>(self, rt: &R) -> Departed<'a, A>
         ensures answer { Leaves self.entry (counted_of result) }
         ensures waited { LedAtLast (counted_of result) }
