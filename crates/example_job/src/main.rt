@@ -1,6 +1,7 @@
 //! Four workers run a job of four tasks, and the program prints an array of its report.
 #![tactic(auto)]
 
+use anyhow::bail;
 use jobs::{AllStart, OpenGate, Shape, read_job, run_within};
 
 // Each task moves its cell to the next, three times.
@@ -24,13 +25,12 @@ start shift 3
 
 fn main(rt: HostRuntime) -> anyhow::Result<()> {
     let job = read_job(rt.alloc(), SHIFT)?;
-    // At most 1000 supersteps. The tree has a root with two leaves.
+    // A root with two leaves. Four workers take at most 1000 supersteps, without hooks.
     let shape = Shape::from_widths(rt.alloc(), "2")?;
     let report = run_within(&rt, rt.alloc(), &job, shape, 4, 1000, &OpenGate, &AllStart)?;
-    let mut cells = Vec::new(rt.alloc());
-    for index in 0..4 {
-        cells.push(report.arrays.cell(0, index).unwrap_or(0))?;
-    }
+    let Some((_, cells)) = report.arrays.get(0) else {
+        bail!("the report has no array");
+    };
     println!(rt; "{cells:?}")?;
     Ok(())
 }

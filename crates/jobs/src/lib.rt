@@ -13,6 +13,7 @@
 //! Four workers run four tasks, which shift the cells of an array three times round:
 //!
 //! ```
+//! use anyhow::bail;
 //! use jobs::{AllStart, OpenGate, Shape, read_job, run_within};
 //!
 //! // Each task moves its cell to the next, three times.
@@ -36,13 +37,12 @@
 //!
 //! fn main(rt: HostRuntime) -> anyhow::Result<()> {
 //!     let job = read_job(rt.alloc(), SHIFT)?;
-//!     // At most 1000 supersteps. The tree has a root with two leaves.
+//!     // A root with two leaves. Four workers take at most 1000 supersteps, without hooks.
 //!     let shape = Shape::from_widths(rt.alloc(), "2")?;
 //!     let report = run_within(&rt, rt.alloc(), &job, shape, 4, 1000, &OpenGate, &AllStart)?;
-//!     let mut cells = Vec::new(rt.alloc());
-//!     for index in 0..4 {
-//!         cells.push(report.arrays.cell(0, index).unwrap_or(0))?;
-//!     }
+//!     let Some((_, cells)) = report.arrays.get(0) else {
+//!         bail!("the report has no array");
+//!     };
 //!     println!(rt; "{cells:?}")?;
 //!     Ok(())
 //! }
@@ -50,15 +50,24 @@
 //!
 //! It prints `[6, 7, 8, 5]`.
 //!
+//! The number of workers is 1 to 64, the limit 1 to 2147483648 (for [`run_alone`] at least 1). Constants need no proof. Before a
+//! number from elsewhere, write `ensure!(1 <= workers && workers <= 64, "..")`, and the same for the limit.
+//!
+//! To read a [`Report`]: `report.records.len()` is the number of supersteps, `report.arrays.get(0)` the first array's name and
+//! cells, `report.prints` what tasks printed. `report.status` is `JobStatus::Ended(steps)`, `JobStatus::Limit(steps)`, or
+//! `JobStatus::Fault { code, step, path }`, whose path is read by `path.as_slice()`. `report.same_as(&other)` is true if prints,
+//! records, arrays and status are the same.
+//!
 //! # What is in it
 //!
 //! * Texts: [`read_job`], [`write_job`], [`canonical`], [`upgrade`], [`ReadJobFault`], [`Refusal`], [`Code`].
-//! * Runs: [`run_alone`], [`run_watched`], [`run_within`], [`run_job`], [`Refused`], why a run gives no report.
+//! * Runs: [`run_alone`] and [`run_watched`], which fail only if memory runs out; [`run_within`] and [`run_job`], whose error
+//!   [`Refused`] says why there is no report.
 //! * Hooks: [`Watch`] and [`NoWatch`] of a run on one thread; [`Gate`] and [`OpenGate`], called before and after each task's
 //!   part of a superstep; [`Starter`] and [`AllStart`], asked before each worker is started.
 //! * Reports: [`Report`], with its [`Print`]s, [`PhaseRecord`]s, arrays and [`JobStatus`]; [`write_report`], [`text_of`].
 //! * Supersteps: [`JobSteps`]; [`Round`], [`Order`], [`Delivery`], [`AcceptFault`], [`CloseFault`], [`Outcome`].
-//! * What the calls take: [`Job`], [`Shape`], [`EndPlan`], [`StoredAdvance`].
+//! * What the calls take: [`Job`]; [`Shape`], and [`ShapeFault`] if a text is none; [`EndPlan`], [`StoredAdvance`].
 #![tactic(auto)]
 
 pub use advance_rule::{EndPlan, StoredAdvance};
