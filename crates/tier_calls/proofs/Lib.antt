@@ -25,7 +25,6 @@ pub mod LastOnes
 pub mod Exchanging
 pub mod ArrivingAll
 pub mod CatchingUp
-pub mod Keeping
 pub mod Splitting
 pub mod NewTokens
 pub mod ExchangeTry
@@ -36,7 +35,5 @@ pub mod Few
 pub mod Leading
 pub mod LeavingAll
 pub mod LeavingTries
-pub mod KeepingLeaving
-pub mod KeepingWith
 pub mod JoiningTries
 pub mod Registering

@@ -1,11 +1,8 @@
 //! The exchange by which some new members join a tier, some old ones leave it, and all others arrive there.
 
-ghost use Rattle.std.specs.Prelude.{◌≡◌, ◌+◌, ◌-◌, ◌<◌, ◌≤◌, [], length, take, drop, IfSome};
-ghost use Rattle.tier_calls.specs.Kept.{IsReady, Begins, begun};
-ghost use Rattle.tier_calls.specs.KeptWith.{AnswersWith};
+ghost use Rattle.std.specs.Prelude.{◌≡◌, ◌+◌, ◌-◌, ◌<◌, ◌≤◌, [], length, take, drop};
 
 use crate::groups::{Group, view_glanced};
-use crate::kept::Begun;
 use crate::seated::Seated;
 use crate::tiers::Tiers;
 use crate::tokens::{Door, Errand};
@@ -214,25 +211,23 @@ impl Tiers {
     /// Makes one try by which all tokens of a group and some new ones pass the tier, from the word that was found there:
     /// one member of each new token joins and arrives, `leaving` of the old members leave, and the others arrive. Others are
     /// still to arrive there, so no arrival is the last. `J` names the steps, for the table's rule.
-    fn exchange_early_as<J: Gone, B: Begun>(
+    fn exchange_early_as<J: Gone>(
         &self,
         group: Group,
         new_tokens: NewTokens,
         leaving: u32,
         word: Word,
     ) -> EarlyTry
-        requires begins { Begins group word B.before }
         requires may { MayExchange self.now leaving word group new_tokens }
         requires more { length group.tokens < word.unarrived }
         requires ends { (J.key ≡ self.now.key) × (J.from ≡ word) × (J.to ≡ word_with group new_tokens leaving word) }
-        requires sights { J.sights ≡ sights_with (begun group B.before) new_tokens leaving word }
-        ensures { ExchangesBy group B.before new_tokens leaving word result }
+        requires sights { J.sights ≡ sights_with group new_tokens leaving word }
+        ensures { ExchangesBy group new_tokens leaving word result }
     {
         let Group {
             seat: olds,
             view,
             count,
-            found: _,
         } = group;
         let NewTokens {
             mut seat,
@@ -245,7 +240,7 @@ impl Tiers {
             ..word
         };
         self.table.shared.join_seat::<Joins>(&mut seat, olds);
-        if let Some(other) = self.go_from::<J, Brand>(&mut seat, tier, word, next) {
+        if let Some(other) = self.go_together::<J>(&mut seat, tier, word, next) {
             let olds = self.keep_last(seat, news);
             let view = view_glanced(tier, other, view);
             return EarlyTry::Lost(
@@ -253,7 +248,6 @@ impl Tiers {
                     seat: olds,
                     view,
                     count,
-                    found: None,
                 },
                 other,
             );
@@ -264,46 +258,42 @@ impl Tiers {
             seat,
             view: View { arrived: 1, ..view },
             count: come,
-            found: None,
         })
     }
 
     /// Makes one try by which all tokens of a group and some new ones pass the tier, as `exchange_early_as` says.
-    pub(crate) fn exchange_early<B: Begun>(
+    pub(crate) fn exchange_early(
         &self,
         group: Group,
         new_tokens: NewTokens,
         leaving: u32,
         word: Word,
     ) -> EarlyTry
-        requires begins { Begins group word B.before }
         requires may { MayExchange self.now leaving word group new_tokens }
         requires more { length group.tokens < word.unarrived }
-        ensures { ExchangesBy group B.before new_tokens leaving word result }
+        ensures { ExchangesBy group new_tokens leaving word result }
     {
-        self.exchange_early_as::<Brand, B>(group, new_tokens, leaving, word)
+        self.exchange_early_as::<Brand>(group, new_tokens, leaving, word)
     }
 
     /// Does the same as `exchange_early_as`, if nobody else is to arrive there. So one of the arrivals is the last.
-    fn exchange_last_as<J: Gone, B: Begun>(
+    fn exchange_last_as<J: Gone>(
         &self,
         group: Group,
         new_tokens: NewTokens,
         leaving: u32,
         word: Word,
     ) -> LastPass
-        requires begins { Begins group word B.before }
         requires may { MayExchange self.now leaving word group new_tokens }
         requires last { length group.tokens ≡ word.unarrived }
         requires ends { (J.key ≡ self.now.key) × (J.from ≡ word) × (J.to ≡ word_with group new_tokens leaving word) }
-        requires sights { J.sights ≡ sights_with (begun group B.before) new_tokens leaving word }
-        ensures { ExchangesLast group B.before new_tokens leaving word result }
+        requires sights { J.sights ≡ sights_with group new_tokens leaving word }
+        ensures { ExchangesLast group new_tokens leaving word result }
     {
         let Group {
             seat: olds,
             view,
             count,
-            found: _,
         } = group;
         let NewTokens {
             mut seat,
@@ -322,7 +312,7 @@ impl Tiers {
             ..word
         };
         self.table.shared.join_seat::<Joins>(&mut seat, olds);
-        if let Some(other) = self.go_from::<J, Brand>(&mut seat, tier, word, next) {
+        if let Some(other) = self.go_together::<J>(&mut seat, tier, word, next) {
             let olds = self.keep_last(seat, news);
             let view = view_glanced(tier, other, view);
             return LastPass::Lost(
@@ -330,7 +320,6 @@ impl Tiers {
                     seat: olds,
                     view,
                     count,
-                    found: None,
                 },
                 other,
             );
@@ -342,95 +331,26 @@ impl Tiers {
     }
 
     /// Does the same as `exchange_early`, if nobody else is to arrive there.
-    pub(crate) fn exchange_last<B: Begun>(
+    pub(crate) fn exchange_last(
         &self,
         group: Group,
         new_tokens: NewTokens,
         leaving: u32,
         word: Word,
     ) -> LastPass
-        requires begins { Begins group word B.before }
         requires may { MayExchange self.now leaving word group new_tokens }
         requires last { length group.tokens ≡ word.unarrived }
-        ensures { ExchangesLast group B.before new_tokens leaving word result }
+        ensures { ExchangesLast group new_tokens leaving word result }
     {
-        self.exchange_last_as::<Brand, B>(group, new_tokens, leaving, word)
-    }
-}
-
-/// Returns the answer of all passages, by how their tries came out.
-fn arrived_with(tried: TriedWith) -> ArrivedWith
-    ensures { AnswersWith tried result }
-{
-    match tried {
-        TriedWith::Yet(group) => ArrivedWith::Busy(group),
-        TriedWith::Done(group) => {
-            let phase = group.phase();
-            ArrivedWith::Done(group, phase)
-        }
-        TriedWith::Owing(errand, others) => ArrivedWith::Owing(errand, others),
-        TriedWith::Full(group, count) => ArrivedWith::Full(group, count),
-        TriedWith::Ended(group, word) => ArrivedWith::Ended(group, word.shown()),
-    }
-}
-
-impl Group {
-    /// Returns the root's word if the group has kept it, and can make the first of `tries` tries from it, by which `joining` new
-    /// members join.
-    fn kept_for(&self, joining: u32, tries: u32) -> Option<Word>
-        ensures { IfSome result (λ w. IsReady self.now w × (self.now.view.tier ≡ 0) × (0 < tries) × (w.parties + joining ≤ MOST_PARTIES)) }
-    {
-        let word = self.kept_at_root(tries)?;
-        if joining > MOST_PARTIES - word.parties {
-            return None;
-        }
-        Some(word)
+        self.exchange_last_as::<Brand>(group, new_tokens, leaving, word)
     }
 }
 
 impl Tiers {
     ghost use Rattle.tier_calls.specs.NewTokens.{IsEager};
-    ghost use Rattle.tier_steps.specs.Step.{CanPass};
-    ghost use Rattle.tier_calls.specs.KeptWith.{PassesFrom, LooksAndTriesWith};
     ghost use Rattle.tier_calls.specs.ArrivesAll.{KeepsAll};
     ghost use Rattle.std.specs.Prelude.{ℕ, Some};
     ghost use Rattle.tier_calls.specs.ArrivesWith.{TriesWith, ArrivesWith, HasEnded, OnlySplit};
-
-    /// Makes one try by which all tokens pass their tier, from the word that they found there. The new tokens are split off the
-    /// door.
-    fn pass_from<B: Begun>(
-        &self,
-        door: &mut Door,
-        group: Group,
-        joining: u32,
-        leaving: u32,
-        word: Word,
-    ) -> TriedWith
-        requires own { (door.old.tree ≡ self.now) × (group.tree ≡ self.now) }
-        requires begins { Begins group word B.before }
-        requires may { CanPass group.view.tier word group.view }
-        requires eager { IsEager group.view }
-        requires place { group.view.tier < length self.now.key.shape }
-        requires some { 0 < word.parties }
-        requires room { word.parties + joining ≤ MOST_PARTIES }
-        requires enough { length group.tokens ≤ word.unarrived }
-        requires few { leaving ≤ length group.tokens }
-        requires come { leaving < joining + length group.tokens }
-        ensures went { PassesFrom joining leaving (begun group B.before) group result }
-        ensures door { OnlySplit door.old door.new }
-    {
-        let new_tokens = self.new_tokens(door, joining);
-        if word.unarrived > group.size() {
-            return match self.exchange_early::<B>(group, new_tokens, leaving, word) {
-                EarlyTry::Done(group) => TriedWith::Done(group),
-                EarlyTry::Lost(group, _) => TriedWith::Yet(group),
-            };
-        }
-        match self.exchange_last::<B>(group, new_tokens, leaving, word) {
-            LastPass::Owing(errand, others) => TriedWith::Owing(errand, others),
-            LastPass::Lost(group, _) => TriedWith::Yet(group),
-        }
-    }
 
     /// Makes at most one try by which all tokens pass their tier, after a load of its word. If the tier lags, the try brings
     /// it into the tokens' phase instead. The new tokens are split off the door.
@@ -462,7 +382,17 @@ impl Tiers {
         if joining > MOST_PARTIES - word.parties {
             return TriedWith::Full(group, word.parties);
         }
-        self.pass_from::<Brand>(door, group, joining, leaving, word)
+        let new_tokens = self.new_tokens(door, joining);
+        if word.unarrived > group.size() {
+            return match self.exchange_early(group, new_tokens, leaving, word) {
+                EarlyTry::Done(group) => TriedWith::Done(group),
+                EarlyTry::Lost(group, _) => TriedWith::Yet(group),
+            };
+        }
+        match self.exchange_last(group, new_tokens, leaving, word) {
+            LastPass::Owing(errand, others) => TriedWith::Owing(errand, others),
+            LastPass::Lost(group, _) => TriedWith::Yet(group),
+        }
     }
 
     /// Makes at most `tries` tries by which all tokens pass their tier.
@@ -476,8 +406,7 @@ impl Tiers {
     ) -> TriedWith
         requires own { (door.old.tree ≡ self.now) × (group.tree ≡ self.now) }
         requires place { group.view.tier < length self.now.key.shape }
-        requires unarrived { group.view.arrived ≡ 0 }
-        requires eager { 0 < group.view.tier → IsEager group.view }
+        requires eager { IsEager group.view }
         requires few { leaving ≤ length group.tokens }
         requires come { leaving < joining + length group.tokens }
         ensures went { TriesWith tries joining leaving group result }
@@ -490,33 +419,6 @@ impl Tiers {
             }
         }
         TriedWith::Yet(group)
-    }
-
-    /// Makes at most `tries` tries by which all tokens pass their tier, the first of them from a word of the root that they
-    /// have kept. If that try is won, it has found this word once more, so it is their look at the root too.
-    fn pass_kept(
-        &self,
-        door: &mut Door,
-        group: Group,
-        joining: u32,
-        leaving: u32,
-        word: Word,
-        tries: u32,
-    ) -> TriedWith
-        requires own { (door.old.tree ≡ self.now) × (group.tree ≡ self.now) }
-        requires root { group.view.tier ≡ 0 }
-        requires ready { IsReady group word }
-        requires some { 0 < tries }
-        requires room { word.parties + joining ≤ MOST_PARTIES }
-        requires few { leaving ≤ length group.tokens }
-        requires come { leaving < joining + length group.tokens }
-        ensures went { LooksAndTriesWith tries joining leaving group result }
-        ensures door { OnlySplit door.old door.new }
-    {
-        match self.pass_from::<Brand>(door, group, joining, leaving, word) {
-            TriedWith::Yet(group) => self.try_with(door, group, joining, leaving, tries - 1),
-            answer => answer,
-        }
     }
 
     /// Passes the tier by one exchange of its word: `joining` new members join and arrive, `leaving` of the group's members leave
@@ -540,9 +442,6 @@ impl Tiers {
         ensures ended { (phase : ℕ) → group.view.end_seen ≡ Some phase → HasEnded result }
         ensures door { OnlySplit door.old door.new }
     {
-        if let Some(word) = group.kept_for(joining, tries) {
-            return arrived_with(self.pass_kept(door, group, joining, leaving, word, tries));
-        }
         // Only for the prover: brings in that the tree has a root.
         let _ = self.shape();
         let root = self.look_all(&mut group, 0);
@@ -553,6 +452,15 @@ impl Tiers {
             let phase = group.phase();
             return ArrivedWith::AlreadyArrived(group, phase);
         }
-        arrived_with(self.try_with(door, group, joining, leaving, tries))
+        match self.try_with(door, group, joining, leaving, tries) {
+            TriedWith::Yet(group) => ArrivedWith::Busy(group),
+            TriedWith::Done(group) => {
+                let phase = group.phase();
+                ArrivedWith::Done(group, phase)
+            }
+            TriedWith::Owing(errand, others) => ArrivedWith::Owing(errand, others),
+            TriedWith::Full(group, count) => ArrivedWith::Full(group, count),
+            TriedWith::Ended(group, word) => ArrivedWith::Ended(group, word.shown()),
+        }
     }
 }

@@ -14,12 +14,9 @@ ghost use Rattle.tier_calls.specs.Holding.{sight_held};
 ghost use Rattle.tier_rule.specs.Reach.{those, front_of, rest_of};
 ghost use Rattle.tier_calls.specs.LastOnes.{IsLast, TriesLast};
 ghost use Rattle.tier_calls.specs.declared.groups.TriedAll.TheVariants as tried;
-ghost use Rattle.tier_calls.specs.Kept.{MayKeep, IsReady, Begins, begun};
-ghost use Rattle.tier_calls.specs.KeptTries.{TriesFrom, LooksAndTries, AnswersAll};
 ghost use Rattle.tier_calls.specs.Groups.{AreSeated, group_of, AllLooked, glanced, MayGo, HaveGone, HaveLost, AllArrived, AllLost};
 
 use crate::going::Going;
-use crate::kept::Begun;
 use crate::polling::Polled;
 use crate::seated::Seated;
 use crate::seen::Seen;
@@ -46,21 +43,17 @@ pub struct Group {
     pub(crate) seat: Seat<Kind, Sights>,
     pub(crate) view: View,
     pub(crate) count: u32,
-    /// The word of their tier, if their last step found it and they may pass from it.
-    pub(crate) found: Option<Seen>,
 }
 
 impl Model for Group {
     ghost use Rattle.tier_calls.specs.Holding.{sight_of};
     ghost use Rattle.tier_calls.specs.Groups.{GroupHeld, AreSeated};
-    ghost use Rattle.tier_calls.specs.Kept.{FoundThere};
-    ghost use Rattle.std.specs.Prelude.{IfSome};
 
     ghost Value = { GroupHeld };
 
     ghost view = { λ c. record { tree = record { id = c.seat.table_id; key = (sight_of c.seat.me).key }; view = c.view; tokens = c.seat.me.0 } };
 
-    ghost invariant = { λ c. AreSeated c.seat.me c.view c.count × IfSome c.found (FoundThere c.seat.me c.view) };
+    ghost invariant = { λ c. AreSeated c.seat.me c.view c.count };
 }
 
 /// Returns the errand of a token that arrived last at its tier.
@@ -89,12 +82,7 @@ fn others_of(seat: Option<Seat<Kind, Sights>>, view: View, count: u32) -> Option
 {
     match seat {
         None => None,
-        Some(seat) => Some(Group {
-            seat,
-            view,
-            count,
-            found: None,
-        }),
+        Some(seat) => Some(Group { seat, view, count }),
     }
 }
 
@@ -169,45 +157,7 @@ fn tried_early(group: Group, lost: Option<Word>) -> TriedAll
     }
 }
 
-/// Returns the word that all tokens of a group found at a tier, if it is their own and they may pass from it.
-fn found_there(tier: u16, word: Word, view: &View) -> Option<Seen>
-    ensures { IfSome result (λ found. (found ≡ word) × MayKeep tier view.now word) }
-{
-    if tier != view.tier || view.arrived == 1 || word.ended || is_behind(word, view) {
-        return None;
-    }
-    Some(Seen::of(word))
-}
-
-/// Returns the answer of all arrivals, by how their tries came out.
-fn arrived_all(tried: TriedAll) -> ArrivedAll
-    ensures { AnswersAll tried result }
-{
-    match tried {
-        TriedAll::Yet(group) => ArrivedAll::Busy(group),
-        TriedAll::Done(group) => {
-            let phase = group.phase();
-            ArrivedAll::Done(group, phase)
-        }
-        TriedAll::Owing(errand, others) => ArrivedAll::Owing(errand, others),
-        TriedAll::Ended(group, word) => ArrivedAll::Ended(group, word.shown()),
-    }
-}
-
 impl Group {
-    /// Returns the root's word if the group has kept it, and can make the first of `tries` tries from it.
-    pub(crate) fn kept_at_root(&self, tries: u32) -> Option<Word>
-        ensures { IfSome result (λ w. IsReady self.now w × (self.now.view.tier ≡ 0) × (0 < tries)) }
-    {
-        if self.view.tier != 0 || tries == 0 {
-            return None;
-        }
-        match self.found {
-            None => None,
-            Some(seen) => Some(seen.word()),
-        }
-    }
-
     /// Makes one of a crew with one member.
     pub fn of(crew: Crew) -> Group
         requires { crew.view.size ≡ 1 }
@@ -222,7 +172,6 @@ impl Group {
             seat,
             view,
             count: 1,
-            found: None,
         }
     }
 
@@ -235,7 +184,6 @@ impl Group {
             seat,
             view: _,
             count: _,
-            found: _,
         } = self;
         seat
     }
@@ -279,7 +227,6 @@ impl Tiers {
         let seen = Seen::at(found);
         let word = seen.word();
         group.view = view_glanced(tier, word, group.view);
-        group.found = found_there(tier, word, &group.view);
         word
     }
 
@@ -323,18 +270,16 @@ impl Tiers {
 
     /// Makes one try of the arrivals of all tokens at their tier, from the word that they found there. Others are still to
     /// arrive there, so no arrival is the last. Returns the other word if the try is lost.
-    fn arrive_early<B: Begun>(&self, group: &mut Group, word: Word) -> Option<Word>
+    fn arrive_early(&self, group: &mut Group, word: Word) -> Option<Word>
         requires own { group.old.tree ≡ self.now }
-        requires begins { Begins group.old word B.before }
         requires may { CanPass group.old.view.tier word group.old.view }
         requires place { group.old.view.tier < length self.now.key.shape }
         requires more { length group.old.tokens < word.unarrived }
-        ensures { MatchOption result (AllArrived word (begun group.old B.before) group.new) (λ z. AllLost word z group.old group.new) }
+        ensures { MatchOption result (AllArrived word group.old group.new) (λ z. AllLost word z group.old group.new) }
     {
         let tier = group.view.tier;
         let next = after_arrivals(word, group.count);
-        group.found = None;
-        match self.go_from::<Brand, B>(&mut group.seat, tier, word, next) {
+        match self.go_together::<Brand>(&mut group.seat, tier, word, next) {
             None => {
                 group.view.arrived = 1;
                 None
@@ -369,20 +314,18 @@ impl Tiers {
 
     /// Makes one try of the arrivals of all tokens at their tier, from the word that they found there. Nobody else is to
     /// arrive there, so one of the arrivals is the last.
-    pub(crate) fn arrive_last<B: Begun>(&self, group: Group, word: Word) -> LastTry
+    pub(crate) fn arrive_last(&self, group: Group, word: Word) -> LastTry
         requires own { group.tree ≡ self.now }
-        requires begins { Begins group word B.before }
         requires may { CanPass group.view.tier word group.view }
         requires place { group.view.tier < length self.now.key.shape }
         requires unled { group.view.led ≡ false }
         requires last { length group.tokens ≡ word.unarrived }
-        ensures { TriesLast word (begun group B.before) group result }
+        ensures { TriesLast word group result }
     {
         let Group {
             mut seat,
             view,
             count,
-            found: _,
         } = group;
         let tier = view.tier;
         let before = Word {
@@ -393,17 +336,9 @@ impl Tiers {
             unarrived: word.unarrived - count,
             ..word
         };
-        if let Some(other) = self.go_from::<Brand, B>(&mut seat, tier, word, next) {
+        if let Some(other) = self.go_together::<Brand>(&mut seat, tier, word, next) {
             let view = view_glanced(tier, other, view);
-            return LastTry::Lost(
-                Group {
-                    seat,
-                    view,
-                    count,
-                    found: None,
-                },
-                other,
-            );
+            return LastTry::Lost(Group { seat, view, count }, other);
         }
         let behind = self.part_first(&mut seat, count);
         let others = others_of(behind, View { arrived: 1, ..view }, count - 1);
@@ -434,30 +369,8 @@ impl Tiers {
     {
         let tier = group.view.tier;
         let next = step_word(Kind::Refresh, tier, word, &group.view);
-        group.found = None;
         if let Some(other) = self.go_together::<Brand>(&mut group.seat, tier, word, next) {
             group.view = view_glanced(tier, other, group.view);
-        }
-    }
-
-    /// Makes one try of the arrivals of all tokens at their tier, from the word that they found there.
-    fn arrive_from<B: Begun>(&self, mut group: Group, word: Word) -> TriedAll
-        requires own { group.tree ≡ self.now }
-        requires begins { Begins group word B.before }
-        requires may { CanPass group.view.tier word group.view }
-        requires place { group.view.tier < length self.now.key.shape }
-        requires unled { group.view.led ≡ false }
-        requires unarrived { group.view.arrived ≡ 0 }
-        requires enough { length group.tokens ≤ word.unarrived }
-        ensures { TriesFrom word (begun group B.before) group result }
-    {
-        if word.unarrived > group.size() {
-            let lost = self.arrive_early::<B>(&mut group, word);
-            return tried_early(group, lost);
-        }
-        match self.arrive_last::<B>(group, word) {
-            LastTry::Owing(errand, others) => TriedAll::Owing(errand, others),
-            LastTry::Lost(group, _) => TriedAll::Yet(group),
         }
     }
 
@@ -479,7 +392,14 @@ impl Tiers {
             self.refresh_first(&mut group, word);
             return TriedAll::Yet(group);
         }
-        self.arrive_from::<Brand>(group, word)
+        if word.unarrived > group.size() {
+            let lost = self.arrive_early(&mut group, word);
+            return tried_early(group, lost);
+        }
+        match self.arrive_last(group, word) {
+            LastTry::Owing(errand, others) => TriedAll::Owing(errand, others),
+            LastTry::Lost(group, _) => TriedAll::Yet(group),
+        }
     }
 
     /// Makes at most `tries` tries of the arrivals of all tokens.
@@ -499,35 +419,16 @@ impl Tiers {
         TriedAll::Yet(group)
     }
 
-    /// Makes at most `tries` tries of the arrivals of all tokens, the first of them from a word of the root that they have
-    /// kept. If that try is won, it has found this word once more, so it is their look at the root too.
-    fn try_all_kept(&self, group: Group, word: Word, tries: u32) -> TriedAll
-        requires own { group.tree ≡ self.now }
-        requires root { group.view.tier ≡ 0 }
-        requires ready { IsReady group word }
-        requires some { 0 < tries }
-        ensures { LooksAndTries tries group result }
-    {
-        match self.arrive_from::<Brand>(group, word) {
-            TriedAll::Yet(group) => self.try_all(group, tries - 1),
-            answer => answer,
-        }
-    }
-
     /// Arrives with all members, as Java's `arrive` by each of them, by one exchange of their tier's word. Doesn't wait for
     /// the phase to pass.
     ///
-    /// Makes at most `tries` tries, each of which may also bring the tier into the root's phase. The first one needs no load
-    /// if the group's last step was a look at the root, its members are there, and they may arrive. See [`ArrivedAll`] for
-    /// what to do after each answer.
+    /// Makes at most `tries` tries, each of which may also bring the tier into the root's phase. See [`ArrivedAll`] for what
+    /// to do after each answer.
     pub fn arrive_all(&self, mut group: Group, tries: u32) -> ArrivedAll
         requires own { group.tree ≡ self.now }
         ensures answer { ArrivesAll group tries result }
         ensures ended { (phase : ℕ) → group.view.end_seen ≡ Some phase → HasEnded result }
     {
-        if let Some(word) = group.kept_at_root(tries) {
-            return arrived_all(self.try_all_kept(group, word, tries));
-        }
         // Only for the prover: brings in that the tree has a root.
         let _ = self.shape();
         let root = self.look_all(&mut group, 0);
@@ -538,7 +439,15 @@ impl Tiers {
             let phase = group.phase();
             return ArrivedAll::AlreadyArrived(group, phase);
         }
-        arrived_all(self.try_all(group, tries))
+        match self.try_all(group, tries) {
+            TriedAll::Yet(group) => ArrivedAll::Busy(group),
+            TriedAll::Done(group) => {
+                let phase = group.phase();
+                ArrivedAll::Done(group, phase)
+            }
+            TriedAll::Owing(errand, others) => ArrivedAll::Owing(errand, others),
+            TriedAll::Ended(group, word) => ArrivedAll::Ended(group, word.shown()),
+        }
     }
 
     /// Brings the tokens' tier into their phase if it lags, after a look at the root. Makes at most one try.
@@ -601,12 +510,10 @@ impl Tiers {
         let seat = self.table.shared.split_seat::<PartsAt<J>>(&mut group.seat);
         let count = group.count - n;
         group.count = n;
-        group.found = None;
         Group {
             seat,
             view: group.view,
             count,
-            found: None,
         }
     }
 
@@ -664,9 +571,7 @@ impl Tiers {
             seat,
             view: _,
             count,
-            found: _,
         } = other;
-        group.found = None;
         self.table.shared.join_seat::<Joins>(&mut group.seat, seat);
         let word = self.look_seat(&mut group.seat, 0);
         group.count += count;

@@ -89,7 +89,6 @@ impl Tiers {
             seat: olds,
             view,
             count,
-            found: _,
         } = group;
         let NewTokens {
             mut seat,
@@ -106,7 +105,6 @@ impl Tiers {
                     seat: olds,
                     view,
                     count,
-                    found: None,
                 },
                 other,
             );
@@ -115,7 +113,6 @@ impl Tiers {
             seat,
             view,
             count: news + count,
-            found: None,
         })
     }
 

@@ -7,13 +7,10 @@ ghost use Rattle.tier_steps.specs.Step.{CanPass, owed};
 ghost use Rattle.tier_steps.specs.declared.view.Passage.TheVariants.{Departure};
 ghost use Rattle.tier_calls.specs.Groups.{left_less};
 ghost use Rattle.tier_calls.specs.LastOnes.{IsLast};
-ghost use Rattle.tier_calls.specs.Kept.{IsReady, Begins, begun};
-ghost use Rattle.tier_calls.specs.KeptTries.{LooksAndTriesLeaving, AnswersLeaving};
 ghost use Rattle.tier_calls.specs.LeavesAll.{TriesOnce, TriesLeaving, LeavesAll, HasEnded};
 
 use crate::going::Going;
 use crate::groups::{Group, view_glanced};
-use crate::kept::Begun;
 use crate::seated::Seated;
 use crate::seen::Seen;
 use crate::tiers::Tiers;
@@ -99,21 +96,6 @@ fn owing_left(token: Seated) -> Errand
     }
 }
 
-/// Returns the answer of all departures, by how their tries came out.
-fn left_all(tried: TriedLeaving) -> LeftAll
-    ensures { AnswersLeaving tried result }
-{
-    match tried {
-        TriedLeaving::Yet(group) => LeftAll::Busy(group),
-        TriedLeaving::Left(door) => {
-            let phase = door.phase();
-            LeftAll::Left(door, phase)
-        }
-        TriedLeaving::Owing(errand) => LeftAll::Owing(errand),
-        TriedLeaving::Ended(group, word) => LeftAll::Ended(group, word.shown()),
-    }
-}
-
 impl Tiers {
     /// Returns what the last token that leaves a tier owes. `before` is the tier's word before that.
     fn errand_left(&self, tier: u16, before: Word) -> view::Errand
@@ -124,37 +106,27 @@ impl Tiers {
 
     /// Makes one try by which all members leave their tier, from the word that they found there. The last token leaves
     /// first, and the first one last. The other tokens are dropped then.
-    fn leave_together<B: Begun>(&self, group: Group, word: Word) -> LeavingTry
+    fn leave_together(&self, group: Group, word: Word) -> LeavingTry
         requires own { group.tree ≡ self.now }
-        requires begins { Begins group word B.before }
         requires may { CanPass group.view.tier word group.view }
         requires place { group.view.tier < length self.now.key.shape }
         requires unled { group.view.led ≡ false }
         requires legal { IsLegal word }
         requires some { 0 < word.parties }
         requires enough { length group.tokens ≤ word.unarrived }
-        ensures { TriesOnce word (begun group B.before) group result }
+        ensures { TriesOnce word group result }
     {
         let Group {
             mut seat,
             view,
             count,
-            found: _,
         } = group;
         let tier = view.tier;
         let before = word_left(word, count - 1);
         let next = word_passed(tier, Passage::Departure, before);
-        if let Some(other) = self.go_from::<Brand, B>(&mut seat, tier, word, next) {
+        if let Some(other) = self.go_together::<Brand>(&mut seat, tier, word, next) {
             let view = view_glanced(tier, other, view);
-            return LeavingTry::Lost(
-                Group {
-                    seat,
-                    view,
-                    count,
-                    found: None,
-                },
-                other,
-            );
+            return LeavingTry::Lost(Group { seat, view, count }, other);
         }
         let _ = self.part_first(&mut seat, count);
         let errand = self.errand_left(tier, before);
@@ -192,7 +164,7 @@ impl Tiers {
             self.refresh_first(&mut group, word);
             return TriedLeaving::Yet(group);
         }
-        match self.leave_together::<Brand>(group, word) {
+        match self.leave_together(group, word) {
             LeavingTry::Left(door) => TriedLeaving::Left(door),
             LeavingTry::Owing(errand) => TriedLeaving::Owing(errand),
             LeavingTry::Lost(group, _) => TriedLeaving::Yet(group),
@@ -216,36 +188,16 @@ impl Tiers {
         TriedLeaving::Yet(group)
     }
 
-    /// Makes at most `tries` tries by which all members leave, the first of them from a word of the root that they have kept.
-    /// If that try is won, it has found this word once more, so it is their look at the root too.
-    fn leave_kept(&self, group: Group, word: Word, tries: u32) -> TriedLeaving
-        requires own { group.tree ≡ self.now }
-        requires root { group.view.tier ≡ 0 }
-        requires ready { IsReady group word }
-        requires some { 0 < tries }
-        ensures { LooksAndTriesLeaving tries group result }
-    {
-        match self.leave_together::<Brand>(group, word) {
-            LeavingTry::Left(door) => TriedLeaving::Left(door),
-            LeavingTry::Owing(errand) => TriedLeaving::Owing(errand),
-            LeavingTry::Lost(group, _) => self.try_leaving(group, tries - 1),
-        }
-    }
-
     /// Leaves with all members, as Java's `arriveAndDeregister` by each of them, by one exchange of their tier's word.
     /// Doesn't wait for the phase to pass.
     ///
-    /// The group's first token becomes a door, and its other tokens are dropped. Makes at most `tries` tries, each of which may
-    /// also bring the tier into the root's phase. The first one needs no load if that of `arrive_all` needs none. See
-    /// [`LeftAll`] for what to do after each answer.
+    /// The group's first token becomes a door, and its other tokens are dropped. Makes at most `tries` tries, each of which
+    /// may also bring the tier into the root's phase. See [`LeftAll`] for what to do after each answer.
     pub fn leave_all(&self, mut group: Group, tries: u32) -> LeftAll
         requires own { group.tree ≡ self.now }
         ensures answer { LeavesAll group tries result }
         ensures ended { (phase : ℕ) → group.view.end_seen ≡ Some phase → HasEnded result }
     {
-        if let Some(word) = group.kept_at_root(tries) {
-            return left_all(self.leave_kept(group, word, tries));
-        }
         // Only for the prover: brings in that the tree has a root.
         let _ = self.shape();
         let root = self.look_all(&mut group, 0);
@@ -256,6 +208,14 @@ impl Tiers {
             let phase = group.phase();
             return LeftAll::AlreadyArrived(group, phase);
         }
-        left_all(self.try_leaving(group, tries))
+        match self.try_leaving(group, tries) {
+            TriedLeaving::Yet(group) => LeftAll::Busy(group),
+            TriedLeaving::Left(door) => {
+                let phase = door.phase();
+                LeftAll::Left(door, phase)
+            }
+            TriedLeaving::Owing(errand) => LeftAll::Owing(errand),
+            TriedLeaving::Ended(group, word) => LeftAll::Ended(group, word.shown()),
+        }
     }
 }

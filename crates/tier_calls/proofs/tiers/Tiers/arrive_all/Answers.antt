@@ -1,4 +1,4 @@
-use Rattle.std.proofs.Common.{rules, ◌<◌, length, sym, ap, subst, ◌∙◌}
+use Rattle.std.proofs.Common.{rules, ◌<◌, length, sym, ap, subst, ◌∙◌, arith}
 use Rattle.std.proofs.lemmas.Int.{to_z-of_z}
 use mir.Syntax.{w32}
 use mir.Val.{SFits}
@@ -6,8 +6,7 @@ use Rattle.phaser_word.specs.Fields.{Fields}
 use Rattle.phaser_word.specs.Phase.{shown_of}
 use Rattle.tier_calls.specs.Holding.{Named}
 use Rattle.tier_calls.specs.Groups.{GroupHeld}
-use Rattle.tier_calls.proofs.ArrivingAll.{first_look, unseen_all, first_fresh_all, end_shown_all, no_more, to_arrive}
-use Rattle.tier_calls.proofs.Keeping.{answers_all, ready_unseen}
+use Rattle.tier_calls.proofs.ArrivingAll.{first_look, unseen_all, first_fresh_all, end_shown_all, no_more, waited, keeps_soon, spent_since, done_all, owing_all, to_arrive}
 use Rattle.tier_calls.proofs.tiers.Tiers.arrive_all.Goals as goal
 
 pub returns-then-root-clause-answer : goal.returns-then-root-clause-answer
@@ -38,19 +37,31 @@ pub try_all-requires-clause-unarrived : goal.try_all-requires-clause-unarrived
 try_all-requires-clause-unarrived c =
     to_arrive c.look_all-root.new.group.view c.look_all-root.ensures.group.view (λ e. c.if-group-eq1.false (ap (λ (z : GroupHeld). z.view.arrived) c.group.view_is ∙ e))
 
+pub returns-in-Yet-clause-answer : goal.returns-in-Yet-clause-answer
+returns-in-Yet-clause-answer c =
+    let w = waited c.args.tries (first_look c.look_all-root.ensures) (keeps_soon c.args.tries c.args.tries (omega arith) c.in-Yet.ensures) in
+    (w.tree, w.looked, c.in-Yet.ensures.view.same.arrived ∙ to_arrive c.look_all-root.new.group.view c.look_all-root.ensures.group.view (λ e. c.if-group-eq1.false (ap (λ (z : GroupHeld). z.view.arrived) c.group.view_is ∙ e)), w.tokens, spent_since c.args.tries (first_look c.look_all-root.ensures) c.in-Yet.ensures)
+
+pub returns-in-Done-clause-answer : goal.returns-in-Done-clause-answer
+returns-in-Done-clause-answer c = done_all c.args.tries _ (first_look c.look_all-root.ensures) c.in-Done.ensures c.phase-phase-in-Done.ensures
+
+pub returns-in-Owing-clause-answer : goal.returns-in-Owing-clause-answer
+returns-in-Owing-clause-answer c = owing_all c.args.tries (first_look c.look_all-root.ensures) c.in-Owing.ensures
+
+pub returns-in-Ended-clause-answer : goal.returns-in-Ended-clause-answer
+returns-in-Ended-clause-answer c =
+    let w = waited c.args.tries (first_look c.look_all-root.ensures) c.in-Ended.ensures.0 in
+    let f : SFits w32 c.shown-in-Ended.result = search rules in
+    (w.tree, w.looked, (c.in-Ended.word.phase, c.in-Ended.ensures.2, to_z-of_z w32 c.shown-in-Ended.result f ∙ c.shown-in-Ended.ensures ∙ ap (shown_of c.in-Ended.word.phase) c.in-Ended.ensures.1), w.tokens)
+
 pub returns-then-group-eq1-clause-ended : goal.returns-then-group-eq1-clause-ended
 returns-then-group-eq1-clause-ended c = unseen_all c.look_all-root.ensures (ap (λ (w : Fields). w.ended) (sym c.root.view_is) ∙ c.if-root.false)
 
-pub returns-clause-answer : goal.returns-clause-answer
-returns-clause-answer c =
-    let none = to_arrive c.look_all-root.new.group.view c.look_all-root.ensures.group.view (λ e. c.if-group-eq1.false (ap (λ (z : GroupHeld). z.view.arrived) c.group.view_is ∙ e)) in
-    answers_all c.args.tries c.try_all.result c.arrived_all-2.result (c.look_all-root.new.group, first_look c.look_all-root.ensures, none, c.try_all.ensures) c.arrived_all-2.ensures
+pub returns-in-Yet-clause-ended : goal.returns-in-Yet-clause-ended
+returns-in-Yet-clause-ended c = unseen_all c.look_all-root.ensures (ap (λ (w : Fields). w.ended) (sym c.root.view_is) ∙ c.if-root.false)
 
-pub returns-clause-ended : goal.returns-clause-ended
-returns-clause-ended c = unseen_all c.look_all-root.ensures (ap (λ (w : Fields). w.ended) (sym c.root.view_is) ∙ c.if-root.false)
+pub returns-in-Done-clause-ended : goal.returns-in-Done-clause-ended
+returns-in-Done-clause-ended c = unseen_all c.look_all-root.ensures (ap (λ (w : Fields). w.ended) (sym c.root.view_is) ∙ c.if-root.false)
 
-pub returns-in-Some-clause-answer : goal.returns-in-Some-clause-answer
-returns-in-Some-clause-answer c = answers_all c.args.tries c.try_all_kept.result c.arrived_all.result c.try_all_kept.ensures c.arrived_all.ensures
-
-pub returns-in-Some-clause-ended : goal.returns-in-Some-clause-ended
-returns-in-Some-clause-ended c = ready_unseen c.in-Some.ensures.0 c.in-Some.ensures.1
+pub returns-in-Owing-clause-ended : goal.returns-in-Owing-clause-ended
+returns-in-Owing-clause-ended c = unseen_all c.look_all-root.ensures (ap (λ (w : Fields). w.ended) (sym c.root.view_is) ∙ c.if-root.false)

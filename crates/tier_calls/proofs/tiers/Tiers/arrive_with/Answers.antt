@@ -8,8 +8,7 @@ use Rattle.tier_calls.specs.Holding.{Named}
 use Rattle.tier_calls.specs.Groups.{GroupHeld}
 use Rattle.tier_calls.proofs.ArrivingAll.{first_look, unseen_all, first_fresh_all, end_shown_all, keeps_none, keeps_soon, to_arrive}
 use Rattle.tier_calls.proofs.ExchangeTries.{eager_first, still_many}
-use Rattle.tier_calls.proofs.Keeping.{ready_unseen}
-use Rattle.tier_calls.proofs.KeepingWith.{answers_with}
+use Rattle.tier_calls.proofs.JoiningTries.{only_tried}
 use Rattle.tier_calls.proofs.tiers.Tiers.arrive_with.Goals as goal
 
 pub returns-then-root-clause-answer : goal.returns-then-root-clause-answer
@@ -33,12 +32,8 @@ returns-then-group-eq1-clause-answer c = (
 pub try_with-requires-clause-place : goal.try_with-requires-clause-place
 try_with-requires-clause-place c = subst (λ (n : Named). c.look_all-root.new.group.view.tier < length n.key.shape) c.requires.own.1 (first_look c.look_all-root.ensures).place
 
-pub try_with-requires-clause-unarrived : goal.try_with-requires-clause-unarrived
-try_with-requires-clause-unarrived c =
-    to_arrive c.look_all-root.new.group.view c.look_all-root.ensures.group.view (λ e. c.if-group-eq1.false (ap (λ (z : GroupHeld). z.view.arrived) c.group.view_is ∙ e))
-
 pub try_with-requires-clause-eager : goal.try_with-requires-clause-eager
-try_with-requires-clause-eager c = λ h.
+try_with-requires-clause-eager c =
     eager_first c.look_all-root.ensures (ap (λ (w : Fields). w.ended) (sym c.root.view_is) ∙ c.if-root.false)
     (to_arrive c.look_all-root.new.group.view c.look_all-root.ensures.group.view (λ e. c.if-group-eq1.false (ap (λ (z : GroupHeld). z.view.arrived) c.group.view_is ∙ e)))
 
@@ -48,19 +43,38 @@ try_with-requires-clause-few c = let a = still_many c.look_all-root.ensures in l
 pub try_with-requires-clause-come : goal.try_with-requires-clause-come
 try_with-requires-clause-come c = let a = still_many c.look_all-root.ensures in let b = c.requires.come in omega arith
 
+pub returns-in-Yet-clause-answer : goal.returns-in-Yet-clause-answer
+returns-in-Yet-clause-answer c =
+    only_tried c.look_all-root.ensures (to_arrive c.look_all-root.new.group.view c.look_all-root.ensures.group.view (λ e. c.if-group-eq1.false (ap (λ (z : GroupHeld). z.view.arrived) c.group.view_is ∙ e))) c.in-Yet.ensures.went
+
+pub returns-in-Done-clause-answer : goal.returns-in-Done-clause-answer
+returns-in-Done-clause-answer c = (c.look_all-root.new.group, first_look c.look_all-root.ensures, c.in-Done.ensures.went, c.phase-phase-in-Done.ensures)
+
+pub returns-in-Owing-clause-answer : goal.returns-in-Owing-clause-answer
+returns-in-Owing-clause-answer c = (c.look_all-root.new.group, first_look c.look_all-root.ensures, c.in-Owing.ensures.went.0, c.in-Owing.ensures.went.1)
+
+pub returns-in-Full-clause-answer : goal.returns-in-Full-clause-answer
+returns-in-Full-clause-answer c =
+    let w = c.in-Full.ensures.went in
+    (w.0, w.1, only_tried c.look_all-root.ensures (to_arrive c.look_all-root.new.group.view c.look_all-root.ensures.group.view (λ e. c.if-group-eq1.false (ap (λ (z : GroupHeld). z.view.arrived) c.group.view_is ∙ e))) w.2, w.3)
+
+pub returns-in-Ended-clause-answer : goal.returns-in-Ended-clause-answer
+returns-in-Ended-clause-answer c =
+    let e = c.in-Ended.ensures.went in
+    let f : SFits w32 c.shown-in-Ended.result = search rules in
+    (c.look_all-root.new.group, first_look c.look_all-root.ensures, e.0, (c.in-Ended.word.phase, e.2, to_z-of_z w32 c.shown-in-Ended.result f ∙ c.shown-in-Ended.ensures ∙ ap (shown_of c.in-Ended.word.phase) e.1))
+
 pub returns-then-group-eq1-clause-ended : goal.returns-then-group-eq1-clause-ended
 returns-then-group-eq1-clause-ended c = unseen_all c.look_all-root.ensures (ap (λ (w : Fields). w.ended) (sym c.root.view_is) ∙ c.if-root.false)
 
-pub returns-clause-answer : goal.returns-clause-answer
-returns-clause-answer c =
-    let none = to_arrive c.look_all-root.new.group.view c.look_all-root.ensures.group.view (λ e. c.if-group-eq1.false (ap (λ (z : GroupHeld). z.view.arrived) c.group.view_is ∙ e)) in
-    answers_with c.args.tries c.args.joining c.args.leaving c.try_with.result c.arrived_with-2.result (c.look_all-root.new.group, first_look c.look_all-root.ensures, none, c.try_with.ensures.went) c.arrived_with-2.ensures
+pub returns-in-Yet-clause-ended : goal.returns-in-Yet-clause-ended
+returns-in-Yet-clause-ended c = unseen_all c.look_all-root.ensures (ap (λ (w : Fields). w.ended) (sym c.root.view_is) ∙ c.if-root.false)
 
-pub returns-clause-ended : goal.returns-clause-ended
-returns-clause-ended c = unseen_all c.look_all-root.ensures (ap (λ (w : Fields). w.ended) (sym c.root.view_is) ∙ c.if-root.false)
+pub returns-in-Done-clause-ended : goal.returns-in-Done-clause-ended
+returns-in-Done-clause-ended c = unseen_all c.look_all-root.ensures (ap (λ (w : Fields). w.ended) (sym c.root.view_is) ∙ c.if-root.false)
 
-pub returns-in-Some-clause-answer : goal.returns-in-Some-clause-answer
-returns-in-Some-clause-answer c = answers_with c.args.tries c.args.joining c.args.leaving c.pass_kept.result c.arrived_with.result c.pass_kept.ensures.went c.arrived_with.ensures
+pub returns-in-Owing-clause-ended : goal.returns-in-Owing-clause-ended
+returns-in-Owing-clause-ended c = unseen_all c.look_all-root.ensures (ap (λ (w : Fields). w.ended) (sym c.root.view_is) ∙ c.if-root.false)
 
-pub returns-in-Some-clause-ended : goal.returns-in-Some-clause-ended
-returns-in-Some-clause-ended c = ready_unseen c.in-Some.ensures.0 c.in-Some.ensures.1
+pub returns-in-Full-clause-ended : goal.returns-in-Full-clause-ended
+returns-in-Full-clause-ended c = unseen_all c.look_all-root.ensures (ap (λ (w : Fields). w.ended) (sym c.root.view_is) ∙ c.if-root.false)

@@ -6,7 +6,6 @@ use Rattle.tier_calls.specs.Groups.{GroupHeld}
 use Rattle.tier_calls.proofs.ArrivingAll.{looked_yet, ready, lost_after, keeps_then, last_count, end_shown_all, keeps_soon}
 use Rattle.tier_calls.proofs.ExchangeTries.{has_parties}
 use Rattle.tier_calls.proofs.LeavingTries.{left_first, left_last}
-use Rattle.tier_calls.proofs.Keeping.{begins_here}
 use Rattle.tier_calls.proofs.tiers.Tiers.try_leaving_once.Goals as goal
 
 pub returns-then-word : goal.returns-then-word
@@ -16,9 +15,6 @@ returns-then-word c =
 
 pub returns-then-is_behind : goal.returns-then-is_behind
 returns-then-is_behind c = keeps_then 0 1 1 refl (looked_yet c.look_all-word.ensures c.tier-tier.ensures c.requires.unarrived) c.refresh_first.ensures.kept
-
-pub leave_together-requires-clause-begins : goal.leave_together-requires-clause-begins
-leave_together-requires-clause-begins c = begins_here c.look_all-word.result c.look_all-word.ensures.group
 
 pub leave_together-requires-clause-may : goal.leave_together-requires-clause-may
 leave_together-requires-clause-may c =

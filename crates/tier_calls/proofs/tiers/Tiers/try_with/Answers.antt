@@ -1,16 +1,13 @@
 use Rattle.std.proofs.Common.{◌+◌, refl, arith}
-use Rattle.tier_calls.proofs.ArrivingAll.{none_now, keeps_none, keeps_then}
+use Rattle.tier_calls.proofs.ArrivingAll.{keeps_none, keeps_then}
 use Rattle.tier_calls.proofs.ExchangeTries.{went_then, kept_many, still_eager, split_none, split_then}
 use Rattle.tier_calls.proofs.tiers.Tiers.try_with.Goals as goal
 
 pub loop-init : goal.loop-init
 loop-init c = (keeps_none c.args.group, split_none c.args.door.now)
 
-pub try_with_once-requires-clause-unarrived : goal.try_with_once-requires-clause-unarrived
-try_with_once-requires-clause-unarrived c = none_now c.loop.invariant.0 c.requires.unarrived
-
 pub try_with_once-requires-clause-eager : goal.try_with_once-requires-clause-eager
-try_with_once-requires-clause-eager c = λ h. still_eager c.loop.invariant.0 (c.requires.eager (let t = c.loop.invariant.0.view.same.tier in omega arith)) h
+try_with_once-requires-clause-eager c = still_eager c.loop.invariant.0 c.requires.eager
 
 pub try_with_once-requires-clause-few : goal.try_with_once-requires-clause-few
 try_with_once-requires-clause-few c = let a = kept_many c.loop.invariant.0 in let b = c.requires.few in omega arith

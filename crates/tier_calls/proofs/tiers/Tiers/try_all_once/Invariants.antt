@@ -1,4 +1,0 @@
-use Rattle.tier_calls.proofs.tiers.Tiers.try_all_once.Given as goal
-
-abbrev pub ghosts-arrive_from : goal.ghosts-arrive_from
-ghosts-arrive_from a = record { before = a.group.tokens }

@@ -1,4 +1,0 @@
-use Rattle.tier_calls.proofs.tiers.Tiers.try_leaving_once.Given as goal
-
-abbrev pub ghosts-leave_together : goal.ghosts-leave_together
-ghosts-leave_together a = record { before = a.group.tokens }

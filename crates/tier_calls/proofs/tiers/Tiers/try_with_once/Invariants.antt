@@ -1,4 +1,0 @@
-use Rattle.tier_calls.proofs.tiers.Tiers.try_with_once.Given as goal
-
-abbrev pub ghosts-pass_from : goal.ghosts-pass_from
-ghosts-pass_from a = record { before = a.group.tokens }
