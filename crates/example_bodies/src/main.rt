@@ -34,7 +34,7 @@ fn reached(report: &Report) -> usize {
 }
 
 fn cell(report: &Report, array: u16, index: u32) -> i64 {
-    report.arrays.cell(array, i64::from(index)).unwrap_or(0)
+    report.arrays.cell(array, index).unwrap_or(0)
 }
 
 // Returns the rod after 1000 supersteps.

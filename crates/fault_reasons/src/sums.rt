@@ -144,7 +144,7 @@ fn land_before(
 fn held_in(arrays: &Arrays, put: Put) -> i64
     ensures { result ≡ unwrap_or (cell_at arrays.now put.array (pos put.index)) (pos 0) }
 {
-    arrays.cell(put.array, i64::from(put.index)).unwrap_or(0)
+    arrays.cell(put.array, put.index).unwrap_or(0)
 }
 
 // Appends the sum of the put at a place of the log, which is the first to overflow.

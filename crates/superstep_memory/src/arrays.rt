@@ -8,6 +8,7 @@ ghost use Rattle.std.specs.Prelude.{
   ◌++◌,
   ◌∷◌,
   [],
+  pos,
   length,
   map,
   slice_get,
@@ -137,7 +138,14 @@ impl Arrays {
     }
 
     /// Returns the value of a cell, if there is such a cell.
-    pub fn cell(&self, array: u16, index: i64) -> Option<i64>
+    pub fn cell(&self, array: u16, index: u32) -> Option<i64>
+        ensures { result ≡ cell_at self.now array (pos index) }
+    {
+        self.cell_at(array, i64::from(index))
+    }
+
+    /// Returns the value of the cell that a number names, as in a job, where it may be negative, if there is such a cell.
+    pub fn cell_at(&self, array: u16, index: i64) -> Option<i64>
         ensures { result ≡ cell_at self.now array index }
     {
         let (_, cells) = self.get(usize::from(array))?;
@@ -145,7 +153,7 @@ impl Arrays {
         cells.get(index).copied()
     }
 
-    /// Returns the number of a cell in its array, if there is such a cell.
+    /// Returns the index of the cell that a number names, as in a job, where it may be negative, if there is such a cell.
     pub fn place(&self, array: u16, index: i64) -> Option<u32>
         ensures { result ≡ place_at self.now array index }
     {

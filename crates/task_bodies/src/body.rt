@@ -40,7 +40,7 @@ impl View<'_> {
     pub fn cell(&self, array: u16, index: u32) -> Option<i64>
         ensures { result ≡ cell_at self.now.arrays.now array (pos index) }
     {
-        self.arrays.cell(array, i64::from(index))
+        self.arrays.cell(array, index)
     }
 }
 

@@ -19,5 +19,5 @@ pub(crate) fn three_cells(alloc: Global, last: i64) -> Result<Arrays, AllocError
 
 // Returns true if a cell has this value, or, for `None`, doesn't exist.
 pub(crate) fn is_cell(arrays: &Arrays, array: u16, index: i64, want: Option<i64>) -> bool {
-    arrays.cell(array, index) == want
+    arrays.cell_at(array, index) == want
 }
