@@ -451,6 +451,7 @@ impl<T: OnPath> Deeds<T> {
 }
 
 /// What a task did to the list of tasks.
+#[derive(Drop)]
 pub struct Change<'a, T> {
     /// Whether it goes on.
     pub synced: bool,
@@ -461,6 +462,7 @@ pub struct Change<'a, T> {
 }
 
 /// What tasks did to the list of tasks, one after another.
+#[derive(Drop)]
 pub struct Changes<'a, T> {
     each: LastDeeds<'a>,
     spawns: &'a [T],

@@ -1,5 +1,5 @@
 //! How many tasks of a stretch came and left, and at which leaves.
-ghost use Rattle.std.specs.Prelude.{◌≡◌, ◌≤◌, ◌<◌};
+ghost use Rattle.std.specs.Prelude.{◌≡◌, ◌≤◌, ◌<◌, ◌+◌, ◌%◌};
 ghost use Rattle.stretch_queue.specs.Leaves.{leaf_of, leaf_below};
 
 use program_stretches::Stretch;
