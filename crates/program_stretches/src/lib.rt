@@ -19,6 +19,6 @@ mod stretches;
 pub use fault::{Outcome, Unclosed, Unwanted};
 pub use lines::Lines;
 pub use opened::Opened;
-pub use programs::deeds::Change;
+pub use programs::deeds::{Change, Changes};
 pub use stretch::Stretch;
 pub use stretches::{Left, Stretches};

@@ -1,6 +1,6 @@
 //! A stretch that was taken.
 use crate::opened::Opened;
-use programs::deeds::Change;
+use programs::deeds::Changes;
 use programs::program::{Program, TaskLoop};
 use snapshot_log::log::Snapshot;
 use std::alloc::{AllocError, Global};
@@ -35,10 +35,9 @@ impl<'p, P: Program> Model for Stretch<'p, P> {
 }
 
 impl<'p, P: Program> Stretch<'p, P> {
-    ghost use Rattle.std.specs.Prelude.{◌≡◌, ◌↔◌, true, None, IsTrue, IfOk, is_some, length, map, slice_get};
+    ghost use Rattle.std.specs.Prelude.{◌≡◌, ◌↔◌, true, None, IsTrue, IfSome, is_some, length, map, slice_get};
     ghost use Rattle.std.specs.Option.{option_map};
     ghost use Rattle.programs.specs.InPlace.{left_in, spawned_in, living_with};
-    ghost use Rattle.programs.specs.Changes.{change_of, change_in};
 
     /// Returns its number among the stretches of its superstep, counted from 0 in path order.
     pub fn number(&self) -> usize
@@ -81,13 +80,6 @@ impl<'p, P: Program> Stretch<'p, P> {
         self.part.first_path()
     }
 
-    /// Returns the path of the task at this place in it, or `None` if it has fewer tasks. Fails once the stretch is settled.
-    pub fn path_at(&self, place: usize) -> Result<Option<Path>, AllocError>
-        ensures { IfOk result (λ path. option_map (λ p. p.items) path ≡ slice_get (map P.Task.path_of self.now.part.tasks) place) }
-    {
-        self.part.path_at(place)
-    }
-
     /// Returns true if one of its tasks has faulted.
     pub fn has_faulted(&self) -> bool
         ensures { result ≡ is_some self.now.part.fault }
@@ -120,7 +112,7 @@ impl<'p, P: Program> Stretch<'p, P> {
 
     /// Makes the next live tasks of those that have run, so that closing the superstep needn't: those that go on and those that
     /// were spawned, in path order. Does nothing if all of them stay, if one has faulted, or if one made a put that adds, since
-    /// the task of a put that overflows must be found when it lands. After it, `changes` fails.
+    /// the task of a put that overflows must be found when it lands. After it, `changes` returns `None`.
     pub fn settle(&mut self) -> Result<(), AllocError>
         requires { self.old.part.done ≡ true }
         ensures { self.new ≡ self.old }
@@ -134,12 +126,11 @@ impl<'p, P: Program> Stretch<'p, P> {
         self.part.settle()
     }
 
-    /// Returns what each of its tasks did to the list of tasks, up to the first fault. Fails if memory runs out, or once the
-    /// stretch is settled.
-    pub fn changes(&self, alloc: Global) -> Result<Vec<Change>, AllocError>
-        ensures { IfOk result (λ changes. map change_of changes.items ≡ map (change_in P.Task.path_of) self.now.part.deeds) }
+    /// Returns its tasks, and what each of them did to the list of tasks, up to the first fault. Returns `None` once it is settled.
+    pub fn changes(&self) -> Option<(&[P::Task], Changes<'_, P::Task>)>
+        ensures { IfSome result (λ r. (r.0.now ≡ self.now.part.tasks) × (r.1 ≡ self.now.part.deeds)) }
     {
-        self.part.changes(alloc)
+        self.part.changes()
     }
 
     /// Gives the stretch up. Its tasks are lost.

@@ -1,11 +1,7 @@
 -- What tasks did to the list of tasks (own).
-use Rattle.std.specs.Prelude.{Bool, ℕ, List, map}
 use Rattle.programs.specs.DeedValue.{DeedValue}
 use Rattle.programs.specs.declared.deeds.Change.{Change}
 
--- whether a task goes on, and the paths of the tasks that it spawned
-abbrev pub change_of : Change → Bool × List (List ℕ)
-change_of c = (c.synced, map (λ p. p.items) c.spawned.items)
-
-abbrev pub change_in : {S : Type 0} → (S → List ℕ) → DeedValue S → Bool × List (List ℕ)
-change_in path d = (d.synced, map path d.spawns)
+-- a deed, given by what the task did
+abbrev pub deed_of : {S : Type 0} → Change S → DeedValue S
+deed_of c = record { synced = c.synced; puts = c.puts; spawns = c.spawned.now }

@@ -6,10 +6,9 @@ ghost use Rattle.superstep_memory.specs.Paths.{is_rising};
 ghost use Rattle.superstep_memory.specs.PathOrder.{in_path_order};
 ghost use Rattle.programs.specs.Regroup.{AreNumbered, IsBefore, AreWithin, AreStrays, IsNextAfter, IsNextOutside, IsBeforeNext, HasMoved, HasMovedWithin, HasMovedEarly, HasPut};
 ghost use Rattle.programs.specs.DeedsView.{deeds_with, spawned_by, stopped_by, made_by, behind};
-ghost use Rattle.programs.specs.Changes.{change_of, change_in};
 ghost use Rattle.programs.specs.InPlace.{one_left, told_at, told_in, maker, kept, living_with, left_in, spawned_in, made_in};
 
-use crate::blame::{Blame, overflowed, task_path};
+use crate::blame::{Blame, overflowed};
 use crate::deed_list::{Deed, DeedList, LastDeeds};
 use crate::program::OnPath;
 use phase_records::PhaseRecord;
@@ -451,52 +450,53 @@ impl<T: OnPath> Deeds<T> {
     }
 }
 
-/// What a task did to the list of tasks: whether it goes on, and the paths of the tasks that it spawned, in program order.
+/// What a task did to the list of tasks.
 #[derive(Drop)]
-pub struct Change {
-    /// Whether it synced.
+pub struct Change<'a, T> {
+    /// Whether it goes on.
     pub synced: bool,
-    /// The paths of the tasks that it spawned.
-    pub spawned: Vec<Path>,
+    /// How many puts it made.
+    pub puts: usize,
+    /// The tasks that it spawned, in program order.
+    pub spawned: &'a [T],
 }
 
-// Returns the paths of tasks.
-fn paths_in<T: OnPath>(alloc: Global, tasks: &[T]) -> Result<Vec<Path>, AllocError>
-    ensures { IfOk result (λ paths. map (λ p. p.items) paths.items ≡ map T.path_of tasks.now) }
-{
-    let mut paths = Vec::with_capacity(alloc, tasks.len())?;
-    let mut rest = tasks;
-    while let Some((task, after)) = rest.split_first() {
-        paths.push(task_path(task))?;
-        rest = after;
-    }
-    Ok(paths)
+/// What tasks did to the list of tasks, one after another.
+#[derive(Drop)]
+pub struct Changes<'a, T> {
+    each: LastDeeds<'a>,
+    spawns: &'a [T],
 }
 
-// Returns what each task did to the list of tasks.
-fn changes_of<T: OnPath>(
-    alloc: Global,
-    each: LastDeeds<'_>,
-    count: usize,
-    spawns: &[T],
-) -> Result<Vec<Change>, AllocError>
-    requires { spawned_by each ≡ length spawns.now }
-    ensures { IfOk result (λ changes. map change_of changes.items ≡ map (change_in T.path_of) (deeds_with each.entry spawns.now)) }
-{
-    let mut changes = Vec::with_capacity(alloc, count)?;
-    let mut rest = each;
-    let mut others = spawns;
-    while let Some((deed, after)) = rest.split_first() {
-        let (own, behind) = others.split_at(deed.spawned);
-        let spawned = paths_in(alloc, own)?;
-        changes.push(Change {
+impl<'a, T> Model for Changes<'a, T> {
+    ghost use Rattle.std.specs.Prelude.{◌≡◌, List, length};
+    ghost use Rattle.programs.specs.DeedValue.{DeedValue};
+    ghost use Rattle.programs.specs.DeedsView.{deeds_with, spawned_by};
+
+    ghost Value = { List (DeedValue T) };
+
+    ghost view = { λ c. deeds_with c.each c.spawns.now };
+
+    ghost invariant = { λ c. spawned_by c.each ≡ length c.spawns.now };
+}
+
+impl<'a, T> Changes<'a, T> {
+    ghost use Rattle.std.specs.Prelude.{◌≡◌, ◌∷◌, [], MatchOption};
+    ghost use Rattle.programs.specs.Changes.{deed_of};
+
+    /// Returns what the first of these tasks did, and what the others did, or `None` if there is none.
+    pub fn split_first(&self) -> Option<(Change<'a, T>, Changes<'a, T>)>
+        ensures { MatchOption result (self.now ≡ []) (λ r. self.now ≡ deed_of r.0 ∷ r.1) }
+    {
+        let (deed, each) = self.each.split_first()?;
+        let (spawned, spawns) = self.spawns.split_at(deed.spawned);
+        let change = Change {
             synced: deed.synced,
+            puts: deed.puts,
             spawned,
-        })?;
-        rest = after;
-        others = behind;
+        };
+        Some((change, Changes { each, spawns }))
     }
-    Ok(changes)
 }
 
 // Returns the number of puts that were made, or `None` if it is too large to be kept.
@@ -521,10 +521,13 @@ impl<T: OnPath> Deeds<T> {
     }
 
     /// Returns what each task did to the list of tasks.
-    pub fn changes(&self, alloc: Global) -> Result<Vec<Change>, AllocError>
-        ensures { IfOk result (λ changes. map change_of changes.items ≡ map (change_in T.path_of) self.now) }
+    pub fn changes(&self) -> Changes<'_, T>
+        ensures { result ≡ self.now }
     {
-        changes_of(alloc, self.each.all(), self.each.len(), &self.spawns)
+        Changes {
+            each: self.each.all(),
+            spawns: &self.spawns,
+        }
     }
 
     /// Returns the number of tasks that stopped.

@@ -10,7 +10,7 @@ ghost use Rattle.stretch_parts.specs.Parts.{HasRun, reading_of, fresh_part};
 
 use phase_records::Print;
 use programs::blame::{Blame, copy_path, task_path};
-use programs::deeds::{Change, Deeds, Regrouping};
+use programs::deeds::{Changes, Deeds, Regrouping};
 use programs::program::{OnPath, TaskLoop};
 use programs::work::Work;
 use proof_notes::note::Notes;
@@ -96,7 +96,6 @@ impl<T: OnPath> Part<T> {
     ghost use Rattle.std.specs.List.{list_all};
     ghost use Rattle.superstep_memory.specs.Landing.{landed, is_set};
     ghost use Rattle.programs.specs.InPlace.{told_at, maker, left_in, spawned_in, made_in, living_with};
-    ghost use Rattle.programs.specs.Changes.{change_of, change_in};
     ghost use Rattle.stretch_parts.specs.Parts.{fresh_part};
 
     /// Creates a stretch without tasks.
@@ -172,19 +171,6 @@ impl<T: OnPath> Part<T> {
         }
     }
 
-    /// Returns the path of the task at this place in it, if it has one. Fails if it is settled.
-    pub fn path_at(&self, place: usize) -> Result<Option<Path>, AllocError>
-        ensures { IfOk result (λ path. option_map (λ p. p.items) path ≡ slice_get (map T.path_of self.now.tasks) place) }
-    {
-        if self.state.settled.is_some() {
-            return Err(AllocError);
-        }
-        match self.state.tasks.get(place) {
-            Some(task) => Ok(Some(task_path(task))),
-            None => Ok(None),
-        }
-    }
-
     /// Returns its first fault, if it has one.
     pub fn fault(&self) -> Option<Blame>
         ensures { result ≡ self.now.fault }
@@ -245,14 +231,13 @@ impl<T: OnPath> Part<T> {
         }
     }
 
-    /// Returns what each of its tasks did to the list of tasks, up to the first fault. Fails if memory runs out, or if it is
-    /// settled.
-    pub fn changes(&self, alloc: Global) -> Result<Vec<Change>, AllocError>
-        ensures { IfOk result (λ changes. map change_of changes.items ≡ map (change_in T.path_of) self.now.deeds) }
+    /// Returns its tasks, and what each of them did to the list of tasks, up to the first fault. Returns `None` if it is settled.
+    pub fn changes(&self) -> Option<(&[T], Changes<'_, T>)>
+        ensures { IfSome result (λ r. (r.0.now ≡ self.now.tasks) × (r.1 ≡ self.now.deeds)) }
     {
         match &self.state.settled {
-            Some(_) => Err(AllocError),
-            None => self.state.deeds.changes(alloc),
+            Some(_) => None,
+            None => Some((&self.state.tasks, self.state.deeds.changes())),
         }
     }
 

@@ -1,10 +1,10 @@
 //! How many tasks of a stretch came and left, and at which leaves.
-ghost use Rattle.std.specs.Prelude.{◌≡◌, ◌≤◌, ◌<◌};
+ghost use Rattle.std.specs.Prelude.{◌≡◌, ◌≤◌, ◌<◌, ◌+◌, ◌%◌};
 ghost use Rattle.stretch_queue.specs.Leaves.{leaf_of, leaf_below};
 
 use program_stretches::Stretch;
 use programs::deeds::Change;
-use programs::program::Program;
+use programs::program::{OnPath, Program};
 use std::alloc::{AllocError, Global};
 
 /// How many members join and leave at a leaf.
@@ -25,8 +25,17 @@ pub struct Moves {
     pub at_leaves: Vec<LeafMoves>,
 }
 
+// Returns the number of the leaf of the task that a task at leaf `at` spawned with this number.
+fn leaf_after(leaves: u16, at: u16, number: u16) -> u16
+    requires leaves { 1 ≤ leaves }
+    ensures leaf { result ≡ (at + 1 + number) % leaves }
+    ensures within { result < leaves }
+{
+    ((u32::from(at) + 1 + u32::from(number)) % u32::from(leaves)) as u16
+}
+
 // Returns the number of the leaf of a descendant of a task at leaf `at`, given the numbers of its path after those of the task.
-fn leaf_below(leaves: u16, at: usize, path: &[u16]) -> usize
+fn leaf_below(leaves: u16, at: u16, path: &[u16]) -> u16
     requires leaves { 1 ≤ leaves }
     requires at { at < leaves }
     ensures leaf { result ≡ leaf_below leaves at path.now }
@@ -35,7 +44,7 @@ fn leaf_below(leaves: u16, at: usize, path: &[u16]) -> usize
     let mut leaf = at;
     let mut rest = path;
     while let Some((number, after)) = rest.split_first() {
-        leaf = (leaf + 1 + usize::from(*number)) % usize::from(leaves);
+        leaf = leaf_after(leaves, leaf, *number);
         rest = after;
     }
     leaf
@@ -43,17 +52,13 @@ fn leaf_below(leaves: u16, at: usize, path: &[u16]) -> usize
 
 /// Returns the number of the leaf that a task at this path is to join: start task i leaf i, and each task the leaf with the
 /// number of its spawner's leaf, plus 1, plus its own number; all modulo the number of leaves.
-pub fn leaf_of(leaves: u16, path: &[u16]) -> usize
+pub fn leaf_of(leaves: u16, path: &[u16]) -> u16
     requires leaves { 1 ≤ leaves }
     ensures leaf { result ≡ leaf_of leaves path.now }
     ensures within { result < leaves }
 {
     match path.split_first() {
-        Some((number, after)) => leaf_below(
-            leaves,
-            usize::from(*number) % usize::from(leaves),
-            after,
-        ),
+        Some((number, after)) => leaf_below(leaves, *number % leaves, after),
         None => 0,
     }
 }
@@ -77,45 +82,35 @@ impl Moves {
     }
 
     // Counts a task that was spawned.
-    fn join(&mut self, leaf: usize) {
+    fn join(&mut self, leaf: u16) {
         self.all.joining = self.all.joining.saturating_add(1);
-        if let Some(moves) = self.at_leaves.get_mut(leaf) {
+        if let Some(moves) = self.at_leaves.get_mut(usize::from(leaf)) {
             moves.joining = moves.joining.saturating_add(1);
         }
     }
 
     // Counts a task that left.
-    fn leave(&mut self, leaf: usize) {
+    fn leave(&mut self, leaf: u16) {
         self.all.leaving = self.all.leaving.saturating_add(1);
-        if let Some(moves) = self.at_leaves.get_mut(leaf) {
+        if let Some(moves) = self.at_leaves.get_mut(usize::from(leaf)) {
             moves.leaving = moves.leaving.saturating_add(1);
         }
     }
 
-    // Counts what a task did.
-    fn count(&mut self, leaves: u16, leaf: usize, change: &Change)
+    // Counts what a task at this leaf did. The last number of a path is that of its task's spawn.
+    fn count<T: OnPath>(&mut self, leaves: u16, leaf: u16, change: &Change<'_, T>)
         requires { 1 ≤ leaves }
     {
-        for path in &change.spawned {
-            self.join(leaf_of(leaves, path.as_slice()));
+        for task in change.spawned {
+            let leaf = match task.path().as_slice().last() {
+                Some(number) => leaf_after(leaves, leaf, *number),
+                None => leaf,
+            };
+            self.join(leaf);
         }
         if !change.synced {
             self.leave(leaf);
         }
-    }
-}
-
-// Returns the leaf of the task at this place of a stretch.
-fn leaf_at<P: Program>(
-    stretch: &Stretch<'_, P>,
-    leaves: u16,
-    place: usize,
-) -> Result<usize, AllocError>
-    requires { 1 ≤ leaves }
-{
-    match stretch.path_at(place)? {
-        Some(path) => Ok(leaf_of(leaves, path.as_slice())),
-        None => Ok(0),
     }
 }
 
@@ -127,7 +122,6 @@ fn count_by_leaf<P: Program>(
 ) -> Result<Moves, AllocError>
     requires { 1 ≤ leaves }
 {
-    let changes = stretch.changes(alloc)?;
     let mut moves = Moves::none(alloc);
     moves.at_leaves.resize(
         usize::from(leaves),
@@ -136,10 +130,16 @@ fn count_by_leaf<P: Program>(
             leaving: 0,
         },
     )?;
-    for place in 0..stretch.len() {
-        let leaf = leaf_at(stretch, leaves, place)?;
-        match changes.get(place) {
-            Some(change) => moves.count(leaves, leaf, change),
+    let Some((tasks, mut changes)) = stretch.changes() else {
+        return Err(AllocError);
+    };
+    for task in tasks {
+        let leaf = leaf_of(leaves, task.path().as_slice());
+        match changes.split_first() {
+            Some((change, after)) => {
+                moves.count(leaves, leaf, &change);
+                changes = after;
+            }
             None => moves.leave(leaf),
         }
     }
