@@ -149,9 +149,7 @@ where
         ensures few { IfOk result (λ ran. are_too_many_parties self.entry.most (length self.entry.tasks) ≡ false) }
         ensures refused { IfErr result (RefusesFor workers.count self.entry.most (length self.entry.tasks)) }
     {
-        let ran = self
-            .watch(&mut NoWatch)
-            .on_with(rt, alloc, workers, hooks)?;
+        let ran = self.watch(&mut NoWatch).on_with(rt, alloc, workers, hooks)?;
         Ok(ran)
     }
 }

@@ -120,7 +120,10 @@ where
         let program = Native { body };
         let last = limit - 1;
         let plan = EndPlan::at_phase(last);
-        let advance = StoredAdvance::new(|phase: u32, count: u32| count == 0 || phase == last, plan);
+        let advance = StoredAdvance::new(
+            |phase: u32, count: u32| count == 0 || phase == last,
+            plan,
+        );
         match run_program_watched(
             rt, alloc, &program, arrays, members, most, shape, workers, advance, gate, starter,
             watch,
