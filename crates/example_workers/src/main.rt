@@ -1,6 +1,6 @@
 //! Tasks written in Rattle, on worker threads: heat in a rod, also until a cell of it is warm, the game of life, a shop whose
-//! customers come and go, also until a watcher has counted to a number, a search in a graph, and its ranks. Each run leaves on workers what it leaves on one thread.
-//! Then a run with hooks: a gate that gets each segment, and a starter that gets each worker.
+//! customers come and go, also until a watcher has counted to a number, a search in a graph, and its ranks. Each run leaves on
+//! workers what it leaves on one thread. Then a run with hooks: a gate that gets each segment, and a starter that gets each worker.
 #![tactic(auto)]
 
 ghost use Rattle.std.specs.Prelude.{◌≡◌};
