@@ -6,7 +6,9 @@
 //! * [`TaskBody`] is what you write: what a task does in a superstep, by a [`View`] of the arrays and what the task keeps. It
 //!   writes to an [`Out`] and returns an [`Ending`]. [`Map`], [`Stencil`], [`Grid`] and [`Reduce`] are bodies over a closure.
 //! * [`Run`] runs a body: on the caller's thread, or on [`Workers`] that meet at a tree of phasers. The result is the same.
-//! * [`Watch`] looks at a run before each superstep, and may stop it.
+//! * [`Watch`] looks at a run before each superstep, and may stop it: [`Run::watch`] adds one.
+//! * [`Hooks`] are a [`Gate`] that is called before and after each segment, and a [`Starter`] that says which workers may be started:
+//!   [`Run::on_with`] calls them.
 //! * [`Report`] is what a run leaves: [`Arrays`], [`Print`]s, a [`PhaseRecord`] for each superstep, and a [`JobStatus`].
 //!   [`Report::same_as`] compares two.
 //!
@@ -99,21 +101,28 @@
 //!
 //! # Where things are
 //!
-//! * `run.rt`: runs; `workers.rt`: workers. The rest is that of `task_bodies` and `task_workers`.
-//! * `specs/RunValue.antt`: what a run begins with; `WorkersValue.antt`: workers.
+//! * `run.rt`: runs; `watched.rt`: runs with a watcher; `workers.rt`: workers; `on_workers.rt`: hooks, and why a run on workers fails.
+//!   The rest is that of `task_bodies` and `worker_pool`.
+//! * `specs/RunValue.antt`: what a run begins with; `WorkersValue.antt`: workers; `Leaving.antt`: why a run on workers is refused.
 #![tactic(auto)]
 
+mod on_workers;
 mod run;
+mod watched;
 mod workers;
 
+pub use on_workers::{Hooks, WorkersFault};
 pub use phase_records::{JobStatus, PhaseRecord, Print, Report, WriteFault, text_of, write_report};
 pub use programs::alone::Ran;
+pub use programs::watch::{NoWatch, Watch};
 pub use run::Run;
 pub use superstep_memory::arrays::Arrays;
+pub use superstep_memory::path::Path;
 pub use task_bodies::body::{Ending, Exact, Out, TaskBody, View};
 pub use task_bodies::kernel::{BoardRows, Cells, Grid, Map, Reduce, Span, Stencil, Window};
 pub use task_bodies::member::Member;
 pub use task_bodies::run::RunFault;
-pub use task_workers::{NoWatch, Refused, Watch, WorkersFault};
 pub use tier_shape::{Shape, ShapeFault};
+pub use watched::WatchedRun;
+pub use worker_pool::{AllStart, Gate, OpenGate, Refused, Starter};
 pub use workers::{WorkerCountError, Workers};

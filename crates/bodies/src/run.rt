@@ -2,8 +2,11 @@
 ghost use Rattle.std.specs.Prelude.{◌≡◌, ◌≤◌, ◌↔◌, [], true, false, IfOk, IfErr, length};
 ghost use Rattle.bodies.specs.RunValue.{RunValue, AreLimits};
 
+use crate::on_workers::{Hooks, WorkersFault};
+use crate::watched::WatchedRun;
 use crate::workers::Workers;
 use programs::alone::Ran;
+use programs::watch::{NoWatch, Watch};
 use std::alloc::Global;
 use std::marker::Model;
 use std::sync::Wait;
@@ -11,10 +14,8 @@ use std::thread::Threads;
 use superstep_memory::arrays::Arrays;
 use task_bodies::body::TaskBody;
 use task_bodies::member::Member;
-use task_bodies::run::{RunFault, run_bodies_watched};
-use task_workers::{
-    AllStart, NoWatch, OpenGate, Watch, WorkersFault, run_bodies_watched_on_workers,
-};
+use task_bodies::run::RunFault;
+use worker_pool::{AllStart, Gate, OpenGate, Starter};
 
 // How many tasks may live at once, and how many supersteps are taken, if a caller doesn't say so.
 const MOST: u32 = 65535;
@@ -24,11 +25,11 @@ const LIMIT: u32 = 1_000_000;
 /// A run of a body that hasn't begun: its arrays, what its start tasks keep, and how far it may go.
 #[derive(Drop)]
 pub struct Run<'b, B: TaskBody> {
-    body: &'b B,
-    arrays: Arrays,
-    tasks: Vec<B::Kept>,
-    most: u32,
-    limit: u32,
+    pub(crate) body: &'b B,
+    pub(crate) arrays: Arrays,
+    pub(crate) tasks: Vec<B::Kept>,
+    pub(crate) most: u32,
+    pub(crate) limit: u32,
 }
 
 impl<'b, B: TaskBody> Model for Run<'b, B> {
@@ -43,10 +44,10 @@ impl<'b, B: TaskBody> Model for Run<'b, B> {
 
 impl<'b, B: TaskBody> Run<'b, B> {
     ghost use Rattle.std.specs.Prelude.{◌≡◌, ◌≤◌, ◌↔◌, [], true, false, IfOk, IfErr, length};
-    ghost use Rattle.programs.specs.History.{HasRun, HasRunTo};
+    ghost use Rattle.programs.specs.History.{HasRun};
     ghost use Rattle.task_bodies.specs.Bodies.{member_frame, are_too_many, BodyMay, numbered};
     ghost use Rattle.task_bodies.specs.declared.run.RunFault.TheVariants.{TooMany as TooManyStart};
-    ghost use Rattle.task_workers.specs.Leaving.{are_too_many_parties, RefusesFor};
+    ghost use Rattle.bodies.specs.Leaving.{are_too_many_parties, RefusesFor};
 
     /// Creates a run of this body: a task for each element of `tasks`, which is what the task keeps. At most 65535 tasks may
     /// live at once, and at most 1000000 supersteps are taken, unless [`Run::most`] and [`Run::limit`] say otherwise.
@@ -79,6 +80,13 @@ impl<'b, B: TaskBody> Run<'b, B> {
         Run { limit, ..self }
     }
 
+    /// Adds a watcher, which is called before each superstep and can stop the run there.
+    pub fn watch<'w, W: Watch>(self, watch: &'w mut W) -> WatchedRun<'b, 'w, B, W>
+        ensures { result ≡ self.entry }
+    {
+        WatchedRun { run: self, watch }
+    }
+
     /// Runs the body on this thread. In each superstep, the tasks run one after another, in path order. The report has the arrays,
     /// the prints, a record for each superstep, and how the run ended. If the limit was reached, the tasks that still live come
     /// back with what they keep.
@@ -97,27 +105,6 @@ impl<'b, B: TaskBody> Run<'b, B> {
         } = self;
         task_bodies::run::run_bodies(alloc, body, arrays, tasks, most, limit)
     }
-
-    /// Runs the body as [`Run::alone`] does. Calls `watch` before each superstep, which can stop the run there, as a limit does.
-    pub fn alone_watched<W: Watch>(
-        self,
-        alloc: Global,
-        watch: &mut W,
-    ) -> Result<Ran<Member<B::Kept>>, RunFault>
-        requires ready { B.ready self.body }
-        ensures ran { IfOk result (λ ran. let r = self.entry in HasRunTo W.stops W.goes member_frame (BodyMay (B.may r.body)) r.most r.arrays (numbered [] 0 r.tasks) r.limit ran.report ran.tasks.items) }
-        ensures few { IfOk result (λ ran. are_too_many self.entry.most (length self.entry.tasks) ≡ false) }
-        ensures fault { IfErr result (λ e. (e ≡ TooManyStart) ↔ (are_too_many self.entry.most (length self.entry.tasks) ≡ true)) }
-    {
-        let Run {
-            body,
-            arrays,
-            tasks,
-            most,
-            limit,
-        } = self;
-        run_bodies_watched(alloc, body, arrays, tasks, most, limit, watch)
-    }
 }
 
 impl<'b, B: TaskBody + Sync> Run<'b, B>
@@ -125,9 +112,9 @@ where
     B::Kept: Send,
 {
     ghost use Rattle.std.specs.Prelude.{◌≡◌, [], false, IfOk, IfErr, length};
-    ghost use Rattle.programs.specs.History.{HasRun, HasRunTo};
+    ghost use Rattle.programs.specs.History.{HasRun};
     ghost use Rattle.task_bodies.specs.Bodies.{member_frame, BodyMay, numbered};
-    ghost use Rattle.task_workers.specs.Leaving.{are_too_many_parties, RefusesFor};
+    ghost use Rattle.bodies.specs.Leaving.{are_too_many_parties, RefusesFor};
 
     /// Runs the body on these workers. What it promises is what [`Run::alone`] promises. If what the body does depends only on its
     /// arguments, both return the same. Returns after joining all workers. Termination is not part of the contract.
@@ -142,43 +129,27 @@ where
         ensures few { IfOk result (λ ran. are_too_many_parties self.entry.most (length self.entry.tasks) ≡ false) }
         ensures refused { IfErr result (RefusesFor workers.count self.entry.most (length self.entry.tasks)) }
     {
-        let (count, shape) = workers.into_parts();
-        let Run {
-            body,
-            arrays,
-            tasks,
-            most,
-            limit,
-        } = self;
-        task_workers::run_bodies_on_workers(
-            rt, alloc, body, arrays, tasks, most, limit, shape, count, &OpenGate, &AllStart,
-        )
+        let hooks = Hooks {
+            gate: &OpenGate,
+            starter: &AllStart,
+        };
+        self.on_with(rt, alloc, workers, hooks)
     }
 
-    /// Runs the body as [`Run::on`] does. Calls `watch` before each superstep. At most one thread calls it at a time, and no body
-    /// runs meanwhile.
-    pub fn on_watched<R: Threads + Wait + Sync, W: Watch + Send>(
+    /// Runs the body as [`Run::on`] does. Calls these hooks.
+    pub fn on_with<R: Threads + Wait + Sync, G: Gate + Sync, S: Starter>(
         self,
         rt: &R,
         alloc: Global,
         workers: Workers,
-        watch: &mut W,
+        hooks: Hooks<'_, G, S>,
     ) -> Result<Ran<Member<B::Kept>>, WorkersFault>
         requires ready { B.ready self.body }
-        ensures ran { IfOk result (λ ran. let r = self.entry in HasRunTo W.stops W.goes member_frame (BodyMay (B.may r.body)) r.most r.arrays (numbered [] 0 r.tasks) r.limit ran.report ran.tasks.items) }
+        ensures ran { IfOk result (λ ran. let r = self.entry in HasRun member_frame (BodyMay (B.may r.body)) r.most r.arrays (numbered [] 0 r.tasks) r.limit ran.report ran.tasks.items) }
         ensures few { IfOk result (λ ran. are_too_many_parties self.entry.most (length self.entry.tasks) ≡ false) }
         ensures refused { IfErr result (RefusesFor workers.count self.entry.most (length self.entry.tasks)) }
     {
-        let (count, shape) = workers.into_parts();
-        let Run {
-            body,
-            arrays,
-            tasks,
-            most,
-            limit,
-        } = self;
-        run_bodies_watched_on_workers(
-            rt, alloc, body, arrays, tasks, most, limit, shape, count, &OpenGate, &AllStart, watch,
-        )
+        let ran = self.watch(&mut NoWatch).on_with(rt, alloc, workers, hooks)?;
+        Ok(ran)
     }
 }

@@ -1,10 +1,9 @@
 //! The hooks of a run: its gate gets each segment, its starter each worker, and its workers are threads.
 
+use bodies::{Gate, Path, Starter};
 use std::sync::Wait;
 use std::sync::atomic::{AtomicU64, Ordering};
 use std::thread;
-use superstep_memory::path::Path;
-use task_workers::{Gate, Starter};
 
 // How often the first task looks for the second before it gives up.
 const LOOKS: u32 = 10_000_000;

@@ -1,13 +1,14 @@
 //! Tasks written in Rattle, on worker threads: heat in a rod, also until a cell of it is warm, the game of life, a shop whose
-//! customers come and go, also until a watcher has counted to a number, a search in a graph, and its ranks. Each run leaves on workers what it leaves on one thread.
-//! Then a run with hooks: a gate that gets each segment, and a starter that gets each worker.
+//! customers come and go, also until a watcher has counted to a number, a search in a graph, and its ranks. Each run leaves on
+//! workers what it leaves on one thread. Then a run with hooks: a gate that gets each segment, and a starter that gets each worker.
 #![tactic(auto)]
 
-ghost use Rattle.std.specs.Prelude.{◌≤◌};
+ghost use Rattle.std.specs.Prelude.{◌≡◌};
 
 mod hooks;
 
 use crate::hooks::{Meets, Starts};
+use bodies::{Arrays, Grid, Hooks, Run, Shape, TaskBody, Watch, Window, Workers};
 use example_tasks::life::next;
 use example_tasks::queue::Shop;
 use example_tasks::rank::Ranks;
@@ -17,14 +18,6 @@ use example_tasks::start::{self, Start};
 use std::alloc::Global;
 use std::sync::Wait;
 use std::thread::Threads;
-use superstep_memory::arrays::Arrays;
-use task_bodies::body::TaskBody;
-use task_bodies::kernel::{Grid, Window};
-use task_bodies::run::{run_bodies, run_bodies_watched};
-use task_workers::{
-    AllStart, OpenGate, Watch, run_bodies_on_workers, run_bodies_watched_on_workers,
-};
-use tier_shape::Shape;
 
 // How many runs are compared.
 const RUNS: usize = 7;
@@ -52,11 +45,25 @@ fn number_of(arrays: &Arrays) -> i64 {
     number
 }
 
+// Returns this many workers at a tree of these widths.
+fn workers_at(alloc: Global, workers: u32, widths: &str) -> anyhow::Result<Workers> {
+    Ok(Workers::new(workers, Shape::from_widths(alloc, widths)?)?)
+}
+
+// Returns a run of a body, with at most 1000 tasks and 1000 supersteps.
+fn run_of<B: TaskBody>(body: &B, start: Start<B::Kept>) -> Run<'_, B>
+    ensures { result.body ≡ body.now }
+{
+    Run::of(body, start.arrays, start.tasks)
+        .most(1000)
+        .limit(1000)
+}
+
 // Returns what a body leaves on one thread.
 fn alone<B: TaskBody>(alloc: Global, body: &B, start: Start<B::Kept>) -> anyhow::Result<i64>
     requires { B.ready body.now }
 {
-    let ran = run_bodies(alloc, body, start.arrays, start.tasks, 1000, 1000)?;
+    let ran = run_of(body, start).alone(alloc)?;
     Ok(number_of(&ran.report.arrays))
 }
 
@@ -71,23 +78,10 @@ fn on_workers<B: TaskBody + Sync, R: Threads + Wait + Sync>(
 ) -> anyhow::Result<i64>
 where
     B::Kept: Send,
-    requires ready { B.ready body.now }
-    requires workers { (1 ≤ workers) × (workers ≤ 64) }
+    requires { B.ready body.now }
 {
-    let shape = Shape::from_widths(alloc, widths)?;
-    let ran = run_bodies_on_workers(
-        rt,
-        alloc,
-        body,
-        start.arrays,
-        start.tasks,
-        1000,
-        1000,
-        shape,
-        workers,
-        &OpenGate,
-        &AllStart,
-    )?;
+    let workers = workers_at(alloc, workers, widths)?;
+    let ran = run_of(body, start).on(rt, alloc, workers)?;
     Ok(number_of(&ran.report.arrays))
 }
 
@@ -101,16 +95,10 @@ fn until_warm() -> UntilWarm {
 
 // Returns what the rod that is stopped leaves, together with its number of supersteps.
 fn warm_alone(alloc: Global) -> anyhow::Result<i64> {
-    let start = start::rod(alloc)?;
-    let ran = run_bodies_watched(
-        alloc,
-        &Rod { last: 999 },
-        start.arrays,
-        start.tasks,
-        1000,
-        1000,
-        &mut until_warm(),
-    )?;
+    let rod = Rod { last: 999 };
+    let ran = run_of(&rod, start::rod(alloc)?)
+        .watch(&mut until_warm())
+        .alone(alloc)?;
     Ok(array_number(
         number_of(&ran.report.arrays),
         &[ran.report.records.len() as i64],
@@ -122,25 +110,12 @@ fn warm_on_workers<R: Threads + Wait + Sync>(
     alloc: Global,
     workers: u32,
     widths: &str,
-) -> anyhow::Result<i64>
-    requires { (1 ≤ workers) × (workers ≤ 64) }
-{
-    let start = start::rod(alloc)?;
-    let shape = Shape::from_widths(alloc, widths)?;
-    let ran = run_bodies_watched_on_workers(
-        rt,
-        alloc,
-        &Rod { last: 999 },
-        start.arrays,
-        start.tasks,
-        1000,
-        1000,
-        shape,
-        workers,
-        &OpenGate,
-        &AllStart,
-        &mut until_warm(),
-    )?;
+) -> anyhow::Result<i64> {
+    let rod = Rod { last: 999 };
+    let workers = workers_at(alloc, workers, widths)?;
+    let ran = run_of(&rod, start::rod(alloc)?)
+        .watch(&mut until_warm())
+        .on(rt, alloc, workers)?;
     Ok(array_number(
         number_of(&ran.report.arrays),
         &[ran.report.records.len() as i64],
@@ -167,25 +142,12 @@ fn counted_on_workers<R: Threads + Wait + Sync>(
     alloc: Global,
     workers: u32,
     widths: &str,
-) -> anyhow::Result<i64>
-    requires { (1 ≤ workers) × (workers ≤ 64) }
-{
-    let start = start::shop(alloc)?;
-    let shape = Shape::from_widths(alloc, widths)?;
-    let ran = run_bodies_watched_on_workers(
-        rt,
-        alloc,
-        &Shop { open: 199 },
-        start.arrays,
-        start.tasks,
-        1000,
-        1000,
-        shape,
-        workers,
-        &OpenGate,
-        &AllStart,
-        &mut Countdown { left: COUNTED },
-    )?;
+) -> anyhow::Result<i64> {
+    let shop = Shop { open: 199 };
+    let workers = workers_at(alloc, workers, widths)?;
+    let ran = run_of(&shop, start::shop(alloc)?)
+        .watch(&mut Countdown { left: COUNTED })
+        .on(rt, alloc, workers)?;
     Ok(ran.report.records.len() as i64)
 }
 
@@ -205,9 +167,7 @@ fn life_on_workers<R: Threads + Wait + Sync>(
     alloc: Global,
     workers: u32,
     widths: &str,
-) -> anyhow::Result<i64>
-    requires { (1 ≤ workers) × (workers ≤ 64) }
-{
+) -> anyhow::Result<i64> {
     let life = Grid {
         array: 0,
         width: 512,
@@ -243,9 +203,7 @@ fn all_on_workers<R: Threads + Wait + Sync>(
     alloc: Global,
     workers: u32,
     widths: &str,
-) -> anyhow::Result<[i64; RUNS]>
-    requires { (1 ≤ workers) × (workers ≤ 64) }
-{
+) -> anyhow::Result<[i64; RUNS]> {
     let rod = on_workers(
         rt,
         alloc,
@@ -278,9 +236,7 @@ fn is_same<R: Threads + Wait + Sync>(
     workers: u32,
     widths: &str,
     left: &[i64; RUNS],
-) -> anyhow::Result<bool>
-    requires { (1 ≤ workers) × (workers ≤ 64) }
-{
+) -> anyhow::Result<bool> {
     let found = all_on_workers(rt, alloc, workers, widths)?;
     Ok(found.as_slice() == left.as_slice())
 }
@@ -296,23 +252,14 @@ struct HookedRun {
 }
 
 fn hooked<R: Threads + Wait + Sync>(rt: &R, alloc: Global) -> anyhow::Result<HookedRun> {
-    let start = start::rod(alloc)?;
-    let shape = Shape::from_widths(alloc, "2")?;
-    let gate = Meets::new();
-    let starts = Starts::new();
-    let ran = run_bodies_on_workers(
-        rt,
-        alloc,
-        &Rod { last: 9 },
-        start.arrays,
-        start.tasks,
-        1000,
-        1000,
-        shape,
-        3,
-        &gate,
-        &starts,
-    )?;
+    let rod = Rod { last: 9 };
+    let workers = workers_at(alloc, 3, "2")?;
+    let (gate, starts) = (Meets::new(), Starts::new());
+    let hooks = Hooks {
+        gate: &gate,
+        starter: &starts,
+    };
+    let ran = run_of(&rod, start::rod(alloc)?).on_with(rt, alloc, workers, hooks)?;
     let (entered, left, met) = gate.counts();
     Ok(HookedRun {
         supersteps: ran.report.records.len(),

@@ -34,18 +34,19 @@
 //! use std::sync::atomic::{AtomicU64, Ordering};
 //! use std::thread::{self, Threads};
 //!
-//! // Adds 1 to the sum in each phase before `end`, and meets the others. Then leaves, and returns the phase in which it left.
+//! // Meets the others until phase `end`, and adds each phase that begins to the sum. Then leaves, and returns the phase in which it left.
 //! fn take_part<R: Wait>(rt: &R, sum: &AtomicU64, end: u32, mut party: Party<'_>) -> Result<u32> {
 //!     for _ in party.phase()..end {
-//!         sum.fetch_add(1, Ordering::SeqCst);
-//!         party.meet(rt)?;
+//!         let phase = party.meet(rt)?;
+//!         let _ = sum.fetch_add(u64::from(phase), Ordering::SeqCst);
 //!     }
 //!     Ok(party.leave(rt).phase()?)
 //! }
 //!
-//! // Brings another thread in phase 1. Returns the phase in which the last of the two left.
+//! // Meets the others once, and brings another thread in phase 1. Returns the phase in which the last of the two left.
 //! fn bring_one<R: Threads + Wait + Sync>(rt: &R, sum: &AtomicU64, mut own: Party<'_>) -> Result<u32> {
-//!     own.meet(rt)?;
+//!     let phase = own.meet(rt)?;
+//!     let _ = sum.fetch_add(u64::from(phase), Ordering::SeqCst);
 //!     let late = own.bring(rt, 1)?;
 //!     let other = || take_part(rt, sum, 10, late);
 //!     let (a, b) = thread::join(rt, || take_part(rt, sum, 10, own), other);
@@ -64,7 +65,7 @@
 //! }
 //! ```
 //!
-//! It prints `25 10 7`.
+//! It prints `137 10 7`.
 //!
 //! Four threads meet on a root with two children that have two leaves each. Thread 0 brings a member in phase 3, thread 1
 //! leaves in phase 5, and the plan ends the tree. Then each of four threads takes part for a thousand members, which come

@@ -1,8 +1,8 @@
 -- Why a run on workers is refused (own).
 use Rattle.std.specs.Prelude.{◌≡◌, ◌||◌, ℕ, Bool, true, false, nat_lt}
 use Rattle.worker_pool.specs.Refusals.{IsOfWorkers}
-use Rattle.task_workers.specs.declared.bodies.WorkersFault as faults
-use Rattle.task_workers.specs.declared.bodies.WorkersFault.TheVariants as fault
+use Rattle.bodies.specs.declared.on_workers.WorkersFault as faults
+use Rattle.bodies.specs.declared.on_workers.WorkersFault.TheVariants as fault
 
 -- this many tasks are too many for workers: each is a party of a tier
 abbrev pub are_too_many_parties : ℕ → ℕ → Bool
