@@ -1,12 +1,5 @@
-//! The cyclic barrier: threads at the gate.
+//! The cyclic barrier: threads at the barrier of `phasers` and at the gate.
 #[cfg(test)]
-mod bounded;
-#[cfg(test)]
-mod counted;
 mod door;
-#[cfg(test)]
-mod ended;
-#[cfg(test)]
-mod threads;
 #[cfg(test)]
 mod woken;

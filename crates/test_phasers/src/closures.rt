@@ -1,210 +1,122 @@
-//! A stored closure is called once an advance or a trip, and at no other call.
+//! A stored closure is called once an advance or a trip, and at no other call. The closure of a tree is in `written`.
 ghost use Rattle.std.specs.Prelude.{◌≡◌, ◌<◌};
 ghost use Rattle.advance_rule.specs.Action.{AnswersAction};
 ghost use Rattle.advance_rule.specs.Stored.{Answers};
-ghost use Rattle.advance_rule.specs.Plan.{count_ends, end_ends_at};
+ghost use Rattle.advance_rule.specs.Plan.{count_ends};
 
-use advance_rule::{CountPlan, EndPlan, StoredAction, StoredAdvance, StoredCount};
+use advance_rule::{CountPlan, StoredAction, StoredCount};
 use cyclic_gate::{BarrierCore, BarrierFault};
 use phaser_one::PhaserOne;
 use std::cell::Cell;
-use std::process::Abort;
-use tier_shape::Shape;
-use tier_table::arriving::Arrived;
-use tier_table::joining::Registered;
-use tier_table::tokens::{Crew, Door};
-use tier_table::tree::Tree;
 
 // One more call.
 fn note(calls: &Cell<u32>) {
     calls.set(calls.get().wrapping_add(1));
 }
 
-// A party arrives or leaves, and the closure has been called so often then.
-fn passes<F: Fn(u32, u32) -> bool>(
-    rt: &impl Abort,
+// What a phaser is asked.
+#[derive(Clone, Copy)]
+enum Ask {
+    // To register this many parties.
+    Register(i64),
+    // To let a party arrive.
+    Arrive,
+    // To let a party leave.
+    Leave,
+}
+
+// What a phaser is asked, whether it does that, and how often the closure has been called then.
+type Row = (Ask, bool, u32);
+
+// Returns true if a phaser answers as the rows say.
+fn answers<F: Fn(u32, u32) -> bool>(
     phaser: &mut PhaserOne<F>,
-    leaves: bool,
     calls: &Cell<u32>,
-    want: u32,
-)
+    rows: &[Row],
+) -> bool
     requires { Answers (F.pre phaser.old.rule.closure) (F.post phaser.old.rule.closure) (count_ends phaser.old.rule.plan) }
-    ensures { phaser.new.rule ≡ phaser.old.rule }
 {
-    let told = if leaves {
-        phaser.arrive_and_deregister()
-    } else {
-        phaser.arrive()
+    for (ask, is_done, count) in rows {
+        let told = match *ask {
+            Ask::Register(1) => phaser.register(),
+            Ask::Register(parties) => phaser.bulk_register(parties),
+            Ask::Arrive => phaser.arrive(),
+            Ask::Leave => phaser.arrive_and_deregister(),
+        };
+        if told.is_ok() != *is_done || calls.get() != *count {
+            return false;
+        }
+    }
+    true
+}
+
+// At a phaser of two parties: once an advance.
+const AT_TWO: [Row; 7] = [
+    (Ask::Arrive, true, 0),
+    (Ask::Leave, true, 1),
+    (Ask::Register(1), true, 1),
+    (Ask::Leave, true, 1),
+    (Ask::Arrive, true, 2),
+    (Ask::Leave, true, 3),
+    (Ask::Arrive, true, 3),
+];
+
+// At a phaser without parties: calls that are refused, or that don't arrive, don't ask the rule.
+const AT_NONE: [Row; 7] = [
+    (Ask::Arrive, false, 0),
+    (Ask::Leave, false, 0),
+    (Ask::Register(1), true, 0),
+    (Ask::Register(2), true, 0),
+    (Ask::Arrive, true, 0),
+    (Ask::Arrive, true, 0),
+    (Ask::Arrive, true, 1),
+];
+
+// Returns true if a new phaser of these parties, which ends when nobody is left, answers as the rows say.
+fn are_answered(parties: i64, rows: &[Row]) -> bool {
+    let calls = Cell::new(0u32);
+    let ends = |_phase: u32, count: u32| {
+        note(&calls);
+        count < 1
     };
-    assert!(rt; told.is_ok());
-    assert!(rt; calls.get() == want);
+    let rule = StoredCount::new(ends, CountPlan { least: 1, at: None });
+    match PhaserOne::new(parties, 0, rule) {
+        Ok(mut phaser) => answers(&mut phaser, &calls, rows),
+        Err(_) => false,
+    }
 }
 
 #[test]
 fn a_phaser_calls_it_once_an_advance(rt: HostRuntime) {
-    let calls = Cell::new(0u32);
-    let ends = |_phase: u32, count: u32| {
-        note(&calls);
-        count < 1
-    };
-    let plan = CountPlan { least: 1, at: None };
-    let rule = StoredCount::new(ends, plan);
-    let mut phaser = PhaserOne::new(2, 0, rule).expect(&rt, "a phaser");
-    passes(&rt, &mut phaser, false, &calls, 0);
-    passes(&rt, &mut phaser, true, &calls, 1);
-    assert!(rt; phaser.register().is_ok());
-    passes(&rt, &mut phaser, true, &calls, 1);
-    passes(&rt, &mut phaser, false, &calls, 2);
-    passes(&rt, &mut phaser, true, &calls, 3);
-    passes(&rt, &mut phaser, false, &calls, 3);
+    assert!(rt; are_answered(2, &AT_TWO) && are_answered(0, &AT_NONE));
 }
 
-// Calls that are refused, or that don't arrive, don't ask the rule.
-#[test]
-fn a_phaser_calls_it_at_no_other_call(rt: HostRuntime) {
-    let calls = Cell::new(0u32);
-    let ends = |_phase: u32, count: u32| {
-        note(&calls);
-        count < 1
-    };
-    let plan = CountPlan { least: 1, at: None };
-    let rule = StoredCount::new(ends, plan);
-    let mut phaser = PhaserOne::new(0, 0, rule).expect(&rt, "a phaser");
-    assert!(rt; phaser.arrive().is_err());
-    assert!(rt; phaser.arrive_and_deregister().is_err());
-    assert!(rt; phaser.register().is_ok());
-    assert!(rt; phaser.bulk_register(2).is_ok());
-    assert!(rt; calls.get() == 0);
-    passes(&rt, &mut phaser, false, &calls, 0);
-    passes(&rt, &mut phaser, false, &calls, 0);
-    passes(&rt, &mut phaser, false, &calls, 1);
-}
+// Which caller comes to a barrier, whether it may, and how often the action has been run then. A caller that waits may not
+// come again, also if one party alone is missing.
+const TURNS: [(u32, bool, u32); 7] = [
+    (0, true, 0),
+    (0, false, 0),
+    (1, true, 1),
+    (0, true, 1),
+    (0, false, 1),
+    (1, true, 2),
+    (0, true, 2),
+];
 
-// A member joins the root.
-fn joins<F: Fn(u32, u32) -> bool>(rt: &impl Abort, tree: &Tree<F>, door: Door) -> Crew
-    requires { door.tree ≡ tree.now.tree }
-    ensures { result.tree ≡ tree.now.tree }
+// Returns true if a barrier answers as the turns say.
+fn takes_turns<F: Fn(u64) -> bool>(barrier: &mut BarrierCore<F>, calls: &Cell<u32>) -> bool
+    requires { AnswersAction (F.pre barrier.old.action.closure) (F.post barrier.old.action.closure) barrier.old.action.plan }
 {
-    assert!(rt; tree.shape().count() > 0);
-    match tree.register(door, 0, 3, 16) {
-        Registered::Joined(crew, _) => crew,
-        _ => panic!(rt; "not joined"),
-    }
-}
-
-// A member arrives or leaves, and isn't the last. Afterwards the closure has been called this often.
-fn goes<F: Fn(u32, u32) -> bool>(
-    rt: &impl Abort,
-    tree: &Tree<F>,
-    crew: Crew,
-    leaves: bool,
-    calls: &Cell<u32>,
-    want: u32,
-) -> Crew
-    requires own { crew.tree ≡ tree.now.tree }
-    requires rule { Answers (F.pre tree.now.rule.closure) (F.post tree.now.rule.closure) (end_ends_at tree.now.rule.plan) }
-    ensures { result.tree ≡ tree.now.tree }
-{
-    let told = if leaves {
-        tree.arrive_and_deregister(crew, 16)
-    } else {
-        tree.arrive(crew, 16)
-    };
-    match told {
-        Arrived::Done(crew, _, _) => {
-            assert!(rt; calls.get() == want);
-            crew
+    for (caller, may, count) in TURNS {
+        let told = match barrier.await_step(caller) {
+            Ok(_) => may,
+            Err(fault) => !may && fault == BarrierFault::AlreadyWaiting,
+        };
+        if !told || calls.get() != count {
+            return false;
         }
-        _ => panic!(rt; "not passed"),
     }
-}
-
-// Lets the last member leave. The closure must have been called `want` times then.
-fn empties<F: Fn(u32, u32) -> bool>(
-    rt: &impl Abort,
-    tree: &Tree<F>,
-    crew: Crew,
-    calls: &Cell<u32>,
-    want: u32,
-)
-    requires own { crew.tree ≡ tree.now.tree }
-    requires rule { Answers (F.pre tree.now.rule.closure) (F.post tree.now.rule.closure) (end_ends_at tree.now.rule.plan) }
-{
-    match tree.arrive_and_deregister(crew, 16) {
-        Arrived::Left(_, _, led) => assert!(rt; led && calls.get() == want),
-        _ => panic!(rt; "not left"),
-    }
-}
-
-// Three members of a tree arrive and leave.
-fn members_pass<F: Fn(u32, u32) -> bool>(
-    rt: &impl Abort,
-    tree: &Tree<F>,
-    door: Door,
-    calls: &Cell<u32>,
-)
-    requires own { door.tree ≡ tree.now.tree }
-    requires rule { Answers (F.pre tree.now.rule.closure) (F.post tree.now.rule.closure) (end_ends_at tree.now.rule.plan) }
-{
-    let crew = joins(rt, tree, door);
-    let crew = goes(rt, tree, crew, false, calls, 0);
-    let crew = goes(rt, tree, crew, false, calls, 0);
-    let crew = goes(rt, tree, crew, true, calls, 1);
-    let crew = goes(rt, tree, crew, true, calls, 1);
-    let crew = goes(rt, tree, crew, false, calls, 2);
-    empties(rt, tree, crew, calls, 3);
-}
-
-#[test]
-fn a_tree_calls_it_once_an_advance(rt: HostRuntime) {
-    let calls = Cell::new(0u32);
-    let ends = |_phase: u32, count: u32| {
-        note(&calls);
-        count == 0
-    };
-    let plan = EndPlan {
-        when_empty: true,
-        at: None,
-    };
-    let rule = StoredAdvance::new(ends, plan);
-    let shape = Shape::from_widths(rt.alloc(), "flat").expect(&rt, "a shape");
-    let (tree, door) = Tree::new(rt.alloc(), shape, 0, rule).expect(&rt, "memory");
-    members_pass(&rt, &tree, door, &calls);
-}
-
-// A caller arrives, and the action has been run so often then.
-fn arrives<F: Fn(u64) -> bool>(
-    rt: &impl Abort,
-    barrier: &mut BarrierCore<F>,
-    caller: u32,
-    calls: &Cell<u32>,
-    want: u32,
-)
-    requires { AnswersAction (F.pre barrier.old.action.closure) (F.post barrier.old.action.closure) barrier.old.action.plan }
-    ensures { barrier.new.action ≡ barrier.old.action }
-{
-    assert!(rt; barrier.await_step(caller).is_ok());
-    assert!(rt; calls.get() == want);
-}
-
-// A caller that waits arrives again, though one party alone is missing: it is refused, and the action hasn't run.
-fn comes_again<F: Fn(u64) -> bool>(
-    rt: &impl Abort,
-    barrier: &mut BarrierCore<F>,
-    caller: u32,
-    calls: &Cell<u32>,
-    want: u32,
-)
-    requires { AnswersAction (F.pre barrier.old.action.closure) (F.post barrier.old.action.closure) barrier.old.action.plan }
-    ensures { barrier.new.action ≡ barrier.old.action }
-{
-    assert!(rt;
-        matches!(
-            barrier.await_step(caller),
-            Err(BarrierFault::AlreadyWaiting)
-        )
-    );
-    assert!(rt; calls.get() == want);
+    true
 }
 
 #[test]
@@ -216,11 +128,5 @@ fn a_barrier_runs_it_once_a_trip(rt: HostRuntime) {
     };
     let action = StoredAction::new(action, Some(1));
     let mut barrier = BarrierCore::new(rt.alloc(), 2, action).expect(&rt, "a barrier");
-    arrives(&rt, &mut barrier, 0, &calls, 0);
-    comes_again(&rt, &mut barrier, 0, &calls, 0);
-    arrives(&rt, &mut barrier, 1, &calls, 1);
-    arrives(&rt, &mut barrier, 0, &calls, 1);
-    comes_again(&rt, &mut barrier, 0, &calls, 1);
-    arrives(&rt, &mut barrier, 1, &calls, 2);
-    arrives(&rt, &mut barrier, 0, &calls, 2);
+    assert!(rt; takes_turns(&mut barrier, &calls));
 }

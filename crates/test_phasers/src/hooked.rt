@@ -1,13 +1,17 @@
-//! A hook of a tree runs once at each advance, whichever call takes it.
+//! A hook of a tree runs once at each advance, whichever call takes it, and what these calls answer.
+
+ghost use Rattle.std.specs.Prelude.{◌≤◌};
+
 use phasers::parties::{JoinedParties, Parties, PartiesArrived, PartiesLeft};
 use phasers::tree::{
-    ArrivedInPlace, AwaitedAdvance, Departed, EndPlan, Guest, Met, OnAdvance, Owed, Party,
-    PhaserTree, Settled, Shape,
+    ArrivedInPlace, AwaitedAdvance, Departed, EndPlan, Guest, MeetError, Met, OnAdvance, Owed,
+    Party, PhaserTree, Polled, Settled, Shape,
 };
 use std::alloc::Global;
 use std::process::Abort;
 use std::sync::Wait;
 use std::sync::atomic::{AtomicU64, Ordering};
+use test_parts::told::Told;
 
 // Appends each phase that ends, and the parties at the root then, as two digits.
 #[derive(Drop)]
@@ -26,6 +30,26 @@ impl OnAdvance for Noting<'_> {
 
 type Hooked<'a, 'b> = Party<'a, Noting<'b>>;
 
+// What a party is asked.
+#[derive(Clone, Copy)]
+enum Ask {
+    // That a member arrives.
+    Arrive,
+    // That a member leaves.
+    Leave,
+    // That its only member meets the others, without waiting and with this many tries. What is owed then is settled.
+    TryMeet(u32),
+    // That its only member meets the others.
+    Meet,
+    // That it waits for the next phase.
+    Await,
+    // Whether its phase is over.
+    Poll,
+}
+
+// What a party without members is asked and answered: nothing.
+const NOBODY: Told = Told::Busy;
+
 // Takes the steps that are owed.
 fn settled<'a, 'b, R: Wait + Abort>(rt: &R, owed: Owed<'a, Noting<'b>>) -> Hooked<'a, 'b> {
     let mut owed = owed;
@@ -42,61 +66,213 @@ fn settled<'a, 'b, R: Wait + Abort>(rt: &R, owed: Owed<'a, Noting<'b>>) -> Hooke
     panic!(rt; "unreachable")
 }
 
-// Lets the only member of a party arrive without waiting. With one try the advance is owed then.
-fn tried<'a, 'b, R: Wait + Abort>(rt: &R, party: Hooked<'a, 'b>, tries: u32) -> Hooked<'a, 'b> {
+// Meets without waiting.
+fn tries<'a, 'b, R: Wait + Abort>(
+    rt: &R,
+    party: Hooked<'a, 'b>,
+    tries: u32,
+) -> (Hooked<'a, 'b>, Told) {
     match party.try_meet(tries) {
-        Met::Passed(party, _) => {
-            assert!(rt; tries == 16);
-            party
-        }
-        Met::Waiting(party) | Met::Here(party, _) | Met::Ended(party, _) | Met::Busy(party) => {
-            assert!(rt; false);
-            party
-        }
-        Met::Owing(owed) => {
-            assert!(rt; tries == 1);
-            settled(rt, owed)
-        }
+        Met::Passed(party, phase) => (party, Told::Passed(phase)),
+        Met::Waiting(party) => (party, Told::Waiting),
+        Met::Here(party, phase) => (party, Told::Here(phase)),
+        Met::Ended(party, shown) => (party, Told::Ended(shown)),
+        Met::Busy(party) => (party, Told::Busy),
+        Met::Owing(owed) => (settled(rt, owed), Told::Owing),
     }
 }
 
-// Another party joins. The first arrives, and the other leaves, which takes the advance.
-fn another_leaves<'a, 'b, R: Wait + Abort>(
+// A member leaves.
+fn leaves<'a, 'b, R: Wait>(rt: &R, party: Hooked<'a, 'b>) -> (Option<Hooked<'a, 'b>>, Told) {
+    match party.leave(rt) {
+        Departed::Done { party, phase, led } => (Some(party), Told::Done(phase, led)),
+        Departed::Left { phase, led, .. } => (None, Told::Left(phase, led)),
+        Departed::Ended(party, shown) => (Some(party), Told::Ended(shown)),
+    }
+}
+
+// Returns what an arrival answers.
+fn told_by_arrival(arrived: ArrivedInPlace) -> Told {
+    match arrived {
+        ArrivedInPlace::Done { phase, led } => Told::Done(phase, led),
+        ArrivedInPlace::AlreadyArrived(phase) => Told::AlreadyArrived(phase),
+        ArrivedInPlace::Ended(shown) => Told::Ended(shown),
+    }
+}
+
+// Returns what a meeting answers.
+fn told_by_meeting(met: Result<u32, MeetError>) -> Told {
+    match met {
+        Ok(phase) => Told::Passed(phase),
+        Err(MeetError::Here(phase)) => Told::Here(phase),
+        Err(MeetError::Ended(shown)) => Told::Ended(shown),
+    }
+}
+
+// Returns what a wait answers.
+fn told_by_wait(awaited: AwaitedAdvance) -> Told {
+    match awaited {
+        AwaitedAdvance::Passed(phase) => Told::Passed(phase),
+        AwaitedAdvance::Here(phase) => Told::Here(phase),
+        AwaitedAdvance::Ended(shown) => Told::Ended(shown),
+    }
+}
+
+// Returns what a poll answers.
+fn told_by_poll(polled: Polled) -> Told {
+    match polled {
+        Polled::Passed(phase) => Told::Passed(phase),
+        Polled::Waiting => Told::Waiting,
+        Polled::Here(phase) => Told::Here(phase),
+        Polled::Ended(shown) => Told::Ended(shown),
+    }
+}
+
+// Asks a party, if there is one. It is gone when its last member has left.
+fn asked<'a, 'b, R: Wait + Abort>(
     rt: &R,
-    guest: Guest<'a, Noting<'b>>,
-    mut party: Hooked<'a, 'b>,
-) -> Hooked<'a, 'b> {
-    let other = guest.join(rt, 0).expect(rt, "another joins");
-    assert!(rt; matches!(party.arrive(rt), ArrivedInPlace::Done { led: false, .. }));
-    assert!(rt; matches!(other.leave(rt), Departed::Left { led: true, .. }));
-    party
+    party: Option<Hooked<'a, 'b>>,
+    ask: Ask,
+) -> (Option<Hooked<'a, 'b>>, Told) {
+    let Some(mut party) = party else {
+        return (None, NOBODY);
+    };
+    let told = match ask {
+        Ask::Leave => return leaves(rt, party),
+        Ask::TryMeet(number) => {
+            let (next, told) = tries(rt, party, number);
+            party = next;
+            told
+        }
+        Ask::Arrive => told_by_arrival(party.arrive(rt)),
+        Ask::Meet => told_by_meeting(party.meet(rt)),
+        Ask::Await => told_by_wait(party.await_advance(rt)),
+        Ask::Poll => told_by_poll(party.poll()),
+    };
+    (Some(party), told)
 }
 
-// Each call of a party that can take an advance, and the end.
-fn a_party_takes_all<'a, 'b, R: Wait + Abort>(rt: &R, mut guest: Guest<'a, Noting<'b>>) {
-    let mut party = guest.split().join(rt, 0).expect(rt, "a party joins");
-    assert!(rt; party.meet(rt) == Ok(1));
-    let party = tried(rt, party, 16);
-    let party = tried(rt, party, 1);
-    let party = another_leaves(rt, guest, party);
-    assert!(rt; matches!(party.leave(rt), Departed::Left { led: true, .. }));
+// Whether the first of two parties is asked, what it is asked, what it answers, and what is noted then.
+type Row = (bool, Ask, Told, u64);
+
+// Returns true if two parties answer as the rows say.
+fn both_answer<'a, 'b, R: Wait + Abort>(
+    rt: &R,
+    one: Hooked<'a, 'b>,
+    other: Hooked<'a, 'b>,
+    notes: &AtomicU64,
+    rows: &[Row],
+) -> bool {
+    let (mut one, mut other) = (Some(one), Some(other));
+    for (first, ask, want, noted) in rows {
+        let (party, told) = asked(rt, if *first { one.take() } else { other.take() }, *ask);
+        if *first {
+            one = party;
+        } else {
+            other = party;
+        }
+        if told != *want || notes.load(Ordering::SeqCst) != *noted {
+            return false;
+        }
+    }
+    true
 }
 
-// A tree of one tier with this hook.
-fn hooked<'b, R: Abort>(rt: &R, alloc: Global, notes: &'b AtomicU64) -> PhaserTree<Noting<'b>> {
-    let shape = Shape::from_widths(alloc, "flat").expect(rt, "a shape");
-    PhaserTree::with_hook(alloc, shape, 0, EndPlan::when_empty(), Noting(notes)).expect(
-        rt, "a tree",
-    )
+// Each call of a party that can take an advance, and the end. The phases 0 to 3 end with the party that stays, 4 with nobody,
+// at which the tree ends.
+const ONE_STAYS: [Row; 7] = [
+    (true, Ask::Arrive, Told::Done(0, false), 0),
+    (false, Ask::Leave, Told::Left(0, true), 1),
+    (true, Ask::Await, Told::Passed(1), 1),
+    (true, Ask::Meet, Told::Passed(2), 1_11),
+    (true, Ask::TryMeet(16), Told::Passed(3), 1_11_21),
+    (true, Ask::TryMeet(1), Told::Owing, 1_11_21_31),
+    (true, Ask::Leave, Told::Left(4, true), 1_11_21_31_40),
+];
+
+// A party of one member that has arrived leaves in the next phase, after the other one.
+const ONE_HAS_ARRIVED: [Row; 5] = [
+    (true, Ask::Arrive, Told::Done(0, false), 0),
+    (false, Ask::Arrive, Told::Done(0, true), 2),
+    (true, Ask::Leave, Told::Left(1, false), 2),
+    (false, Ask::Await, Told::Passed(1), 2),
+    (false, Ask::Leave, Told::Left(1, true), 2_10),
+];
+
+// Two parties meet without waiting in phase 0, and the first of them then finds that it is over. They meet again, and the tree
+// ends with phase 1.
+const BOTH_TRY: [Row; 7] = [
+    (true, Ask::TryMeet(0), Told::Busy, 0),
+    (true, Ask::TryMeet(1), Told::Owing, 0),
+    (false, Ask::TryMeet(16), Told::Passed(1), 2),
+    (true, Ask::Poll, Told::Passed(1), 2),
+    (true, Ask::TryMeet(16), Told::Waiting, 2),
+    (false, Ask::TryMeet(16), Told::Ended(-2147483646), 2_12),
+    (false, Ask::Poll, Told::Ended(-2147483646), 2_12),
+];
+
+// One of two parties leaves, and the other meets in three phases alone.
+const ONE_MEETS: [Row; 5] = [
+    (false, Ask::Leave, Told::Left(5, false), 0),
+    (true, Ask::Meet, Told::Passed(6), 51),
+    (true, Ask::Meet, Told::Passed(7), 51_61),
+    (true, Ask::Meet, Told::Passed(8), 51_61_71),
+    (true, Ask::Leave, Told::Left(8, true), 51_61_71_80),
+];
+
+// The widths of a tree and its first phase, whether it ends at phase 1 or when it is empty, and what two parties do, each at
+// another leaf, if there are two.
+const SCENES: [(&str, u32, bool, &[Row]); 4] = [
+    ("flat", 0, false, &ONE_STAYS),
+    ("2", 0, false, &ONE_HAS_ARRIVED),
+    ("2", 0, true, &BOTH_TRY),
+    ("2", 5, false, &ONE_MEETS),
+];
+
+// A tree with a hook.
+fn hooked<'b, R: Abort>(
+    rt: &R,
+    alloc: Global,
+    widths: &str,
+    phase: u32,
+    plan: EndPlan,
+    notes: &'b AtomicU64,
+) -> PhaserTree<Noting<'b>>
+    requires { phase ≤ 2147483647 }
+{
+    let shape = Shape::from_widths(alloc, widths).expect(rt, "a shape");
+    PhaserTree::with_hook(alloc, shape, phase, plan, Noting(notes)).expect(rt, "a tree")
+}
+
+// Joins two parties at the first two leaves, and returns true if they answer as the rows say.
+fn two_answer<R: Wait + Abort>(
+    rt: &R,
+    tree: &mut PhaserTree<Noting<'_>>,
+    notes: &AtomicU64,
+    rows: &[Row],
+) -> bool {
+    let mut guest = tree.guest();
+    let one = guest.split().join(rt, 0).expect(rt, "a party joins");
+    let other = guest.join(rt, 1).expect(rt, "another joins");
+    both_answer(rt, one, other, notes, rows)
 }
 
 #[test]
 fn a_hook_runs_whichever_call_of_a_party_advances(rt: HostRuntime) {
-    let notes = AtomicU64::new(0);
-    let mut tree = hooked(&rt, rt.alloc(), &notes);
-    a_party_takes_all(&rt, tree.guest());
-    // The phases 0, 1, 2 with one party, 3 with the one that stays, 4 with nobody, at which the tree ends.
-    assert!(rt; notes.load(Ordering::SeqCst) == 111_213_140);
+    for (widths, phase, ends, rows) in SCENES {
+        let notes = AtomicU64::new(0);
+        let plan = if ends {
+            EndPlan::at_phase(1)
+        } else {
+            EndPlan::when_empty()
+        };
+        let mut tree = hooked(&rt, rt.alloc(), widths, phase % 8, plan, &notes);
+        assert!(rt; two_answer(&rt, &mut tree, &notes, rows), "{widths}");
+        match tree.close(rt.alloc()) {
+            Ok(words) => assert!(rt; words[0].ended && (words.len() == 1 || !words[1].ended)),
+            Err(_) => panic!(rt; "not closed"),
+        }
+    }
 }
 
 type HookedAll<'a, 'b> = Parties<'a, Noting<'b>>;
@@ -140,7 +316,7 @@ fn a_group_takes_all<R: Wait + Abort>(rt: &R, guest: Guest<'_, Noting<'_>>) {
 #[test]
 fn a_hook_runs_whichever_call_of_a_group_advances(rt: HostRuntime) {
     let notes = AtomicU64::new(0);
-    let mut tree = hooked(&rt, rt.alloc(), &notes);
+    let mut tree = hooked(&rt, rt.alloc(), "flat", 0, EndPlan::when_empty(), &notes);
     a_group_takes_all(&rt, tree.guest());
     // The phase 0 with four parties, 1 and 2 with three, 3 with nobody, at which the tree ends.
     assert!(rt; notes.load(Ordering::SeqCst) == 4_132_330);

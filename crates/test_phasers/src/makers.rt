@@ -81,24 +81,27 @@ fn takes_and_refuses_tiers_of_one_parent(rt: HostRuntime) {
 }
 
 // Which of the tiers of a tree of 2 by 3 are leaves.
-fn has_leaves(rt: &impl Abort, alloc: Global, shape: &Shape) -> bool {
-    let leaves = shape.leaves(alloc).expect(rt, "memory");
-    leaves.as_slice() == [3, 4, 5, 6, 7, 8].as_slice()
+fn has_leaves(alloc: Global, shape: &Shape) -> bool {
+    match shape.leaves(alloc) {
+        Ok(leaves) => are(&leaves, &[3, 4, 5, 6, 7, 8]),
+        Err(_) => false,
+    }
 }
 
 // Returns true if its last leaf has its path.
 fn has_path(shape: &Shape) -> bool {
-    if shape.count() != 9 {
-        return false;
-    }
-    let path = shape.path_up(8);
-    path.as_slice() == [8, 2, 0].as_slice()
+    shape.count() == 9 && are(&shape.path_up(8), &[8, 2, 0])
+}
+
+// Returns true if the tiers are these.
+fn are(tiers: &[u16], wants: &[u16]) -> bool {
+    tiers == wants
 }
 
 #[test]
 fn lists_leaves_and_paths(rt: HostRuntime) {
     let shape = Shape::from_widths(rt.alloc(), "2x3").expect(&rt, "a shape");
-    assert!(rt; has_leaves(&rt, rt.alloc(), &shape));
+    assert!(rt; has_leaves(rt.alloc(), &shape));
     assert!(rt; has_path(&shape));
     for tier in 0..10 {
         assert!(rt; shape.is_leaf(tier) == (tier > 2 && tier < 9));

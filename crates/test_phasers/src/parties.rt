@@ -1,8 +1,7 @@
 //! The calls of the crate `phasers`, and what no clause says: threads meet, and a hook runs once at each advance.
 use phasers::barrier::{Barrier, GateFault, NoAction};
 use phasers::tree::{
-    ArrivedInPlace, AwaitedAdvance, Departed, EndPlan, Forced, Guest, JoinError, Met, OnAdvance,
-    Owed, Party, PhaserTree, Polled, Seat, Settled, Shape, TreeEnded,
+    ArrivedInPlace, Departed, EndPlan, Forced, Guest, JoinError, Party, PhaserTree, Seat, TreeEnded,
 };
 use std::process::Abort;
 use std::sync::Wait;
@@ -84,43 +83,6 @@ fn a_thread_joins_late(rt: HostRuntime) {
     assert!(rt; matches!(guest.await_phase(&rt, 9), Err(TreeEnded { .. })));
 }
 
-// A party of one member that has arrived leaves in the next phase, after the other one.
-fn leaves_in_the_next<R: Wait + Abort>(rt: &R, tree: &mut PhaserTree) {
-    let mut guest = tree.guest();
-    let mut one = joined(rt, guest.split(), 0);
-    let mut other = joined(rt, guest.split(), 1);
-    one.arrive(rt);
-    other.arrive(rt);
-    assert!(rt;
-        matches!(
-            one.leave(rt),
-            Departed::Left {
-                phase: 1,
-                led: false,
-                ..
-            }
-        )
-    );
-    assert!(rt; other.await_advance(rt) == AwaitedAdvance::Passed(1));
-    assert!(rt;
-        matches!(
-            other.leave(rt),
-            Departed::Left {
-                phase: 1,
-                led: true,
-                ..
-            }
-        )
-    );
-}
-
-#[test]
-fn who_has_arrived_leaves_in_the_next_phase(rt: HostRuntime) {
-    let plan = EndPlan::when_empty();
-    let mut tree = PhaserTree::from_widths(rt.alloc(), "2", plan).expect(&rt, "a tree");
-    leaves_in_the_next(&rt, &mut tree);
-}
-
 // A token of a tree of three tiers, and two members of another at its tier 1.
 fn registered<'a, R: Wait + Abort>(rt: &R, tree: &'a mut PhaserTree) -> (Guest<'a>, Party<'a>) {
     assert!(rt; tree.shape().count() == 3);
@@ -160,81 +122,6 @@ fn a_tree_by_one(rt: HostRuntime) {
     calls(&rt, &mut tree);
 }
 
-// Takes the steps that are owed.
-fn settled<'a, R: Wait + Abort>(rt: &R, owed: Owed<'a>) -> Party<'a> {
-    let mut owed = owed;
-    for _ in rt.forever() {
-        match owed.settle(1) {
-            Settled::Done {
-                party,
-                phase: _,
-                led: _,
-            } => return party,
-            Settled::Owing(next) => owed = next,
-        }
-    }
-    panic!(rt; "unreachable")
-}
-
-// Meets without waiting; the number is 2 if the phase is over, 1 if the others are waited for.
-fn tried<'a, R: Wait + Abort>(rt: &R, party: Party<'a>, tries: u32) -> (Party<'a>, u32) {
-    match party.try_meet(tries) {
-        Met::Passed(party, _) => (party, 2),
-        Met::Waiting(party) => (party, 1),
-        Met::Here(party, _) | Met::Ended(party, _) | Met::Busy(party) => (party, 0),
-        Met::Owing(owed) => (settled(rt, owed), 3),
-    }
-}
-
-// A party of one member at the leaf of this number, which joins in phase 0.
-fn joined<'a, R: Wait + Abort>(rt: &R, guest: Guest<'a>, leaf: usize) -> Party<'a> {
-    let party = guest.join(rt, leaf).expect(rt, "joined");
-    assert!(rt; party.phase() == 0);
-    party
-}
-
-// Two parties meet in phase 0, and the first of them then finds that it is over.
-fn both_meet<'a, R: Wait + Abort>(
-    rt: &R,
-    one: Party<'a>,
-    other: Party<'a>,
-) -> (Party<'a>, Party<'a>) {
-    let (one, none) = tried(rt, one, 0);
-    let (mut one, owed) = tried(rt, one, 1);
-    let (other, over) = tried(rt, other, 16);
-    let has_passed = matches!(one.poll(), Polled::Passed(1));
-    assert!(rt; has_passed && (none, owed, over) == (0, 3, 2));
-    (one, other)
-}
-
-// They meet again, and the tree ends.
-fn both_end<'a, R: Wait + Abort>(rt: &R, one: Party<'a>, other: Party<'a>) {
-    let (_one, waits) = tried(rt, one, 16);
-    let (mut other, ended) = tried(rt, other, 16);
-    let has_ended = matches!(other.poll(), Polled::Ended(_));
-    assert!(rt; has_ended && (waits, ended) == (1, 0));
-}
-
-// Two parties meet without waiting.
-fn two_meet<R: Wait + Abort>(rt: &R, tree: &mut PhaserTree) {
-    let mut guest = tree.guest();
-    let one = joined(rt, guest.split(), 0);
-    let other = joined(rt, guest.split(), 1);
-    let (one, other) = both_meet(rt, one, other);
-    both_end(rt, one, other);
-}
-
-#[test]
-fn two_meet_without_waiting(rt: HostRuntime) {
-    let plan = EndPlan::at_phase(1);
-    let mut tree = PhaserTree::from_widths(rt.alloc(), "2", plan).expect(&rt, "a tree");
-    two_meet(&rt, &mut tree);
-    match tree.close(rt.alloc()) {
-        Ok(words) => assert!(rt; words.len() == 3 && words[0].ended && !words[1].ended),
-        Err(_) => panic!(rt; "not closed"),
-    }
-}
-
 // Returns true if the only caller gets its turn, and no caller waits who could be taken away.
 fn gives_turns<R: Wait>(rt: &R, barrier: &Barrier) -> bool {
     barrier.await_turn(rt, 7) == Ok(0) && barrier.abandon(rt, 7).is_err()
@@ -253,31 +140,4 @@ fn a_barrier(rt: HostRuntime) {
     let barrier = Barrier::new(rt.alloc(), 1, NoAction).expect(&rt, "one party");
     assert!(rt; gives_turns(&rt, &barrier));
     assert!(rt; breaks(&rt, &barrier) && gives_turns(&rt, &barrier));
-}
-
-#[derive(Drop)]
-struct Counting<'a>(&'a AtomicU64);
-
-impl OnAdvance for Counting<'_> {
-    fn run(&self, phase: u32, parties: u32) {
-        self.0.fetch_add(u64::from(phase) * 10 + u64::from(parties), Ordering::SeqCst);
-    }
-}
-
-#[test]
-fn a_hook_runs_at_each_advance(rt: HostRuntime) {
-    let count = AtomicU64::new(0);
-    let shape = Shape::from_widths(rt.alloc(), "2").expect(&rt, "a shape");
-    let plan = EndPlan::when_empty();
-    let mut tree = PhaserTree::with_hook(rt.alloc(), shape, 5, plan, Counting(&count)).expect(
-        &rt, "a tree",
-    );
-    let mut guest = tree.guest();
-    if let Ok(mut party) = guest.split().join(&rt, 0) {
-        for phase in 6..9 {
-            assert!(rt; party.meet(&rt) == Ok(phase));
-        }
-    }
-    // Phases 5, 6 and 7 end, each with one party at the root, the leaf.
-    assert!(rt; count.load(Ordering::SeqCst) == 183);
 }

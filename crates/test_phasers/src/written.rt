@@ -61,8 +61,15 @@ fn joins<F: Fn(u32, u32) -> bool>(
     }
 }
 
-// A member arrives or leaves, and isn't the last.
-fn goes<F: Fn(u32, u32) -> bool>(rt: &impl Abort, tree: &Tree<F>, crew: Crew, leaves: bool) -> Crew
+// A member arrives or leaves, and isn't the last. This is written down then.
+fn goes<F: Fn(u32, u32) -> bool>(
+    rt: &impl Abort,
+    tree: &Tree<F>,
+    crew: Crew,
+    leaves: bool,
+    log: &AtomicU64,
+    want: u64,
+) -> Crew
     requires own { crew.tree ≡ tree.now.tree }
     requires rule { Answers (F.pre tree.now.rule.closure) (F.post tree.now.rule.closure) (end_ends_at tree.now.rule.plan) }
     ensures { result.tree ≡ tree.now.tree }
@@ -72,30 +79,39 @@ fn goes<F: Fn(u32, u32) -> bool>(rt: &impl Abort, tree: &Tree<F>, crew: Crew, le
     } else {
         tree.arrive(crew, 16)
     };
+    assert!(rt; log.load(Ordering::SeqCst) == want);
     match told {
         Arrived::Done(crew, _, _) => crew,
         _ => panic!(rt; "not passed"),
     }
 }
 
-// Lets the last member of a crew leave.
-fn empties<F: Fn(u32, u32) -> bool>(rt: &impl Abort, tree: &Tree<F>, crew: Crew)
+// Lets the last member of a crew leave. This is written down then.
+fn empties<F: Fn(u32, u32) -> bool>(
+    rt: &impl Abort,
+    tree: &Tree<F>,
+    crew: Crew,
+    log: &AtomicU64,
+    want: u64,
+)
     requires own { crew.tree ≡ tree.now.tree }
     requires rule { Answers (F.pre tree.now.rule.closure) (F.post tree.now.rule.closure) (end_ends_at tree.now.rule.plan) }
 {
     match tree.arrive_and_deregister(crew, 16) {
-        Arrived::Left(_, _, led) => assert!(rt; led),
+        Arrived::Left(_, _, led) => assert!(rt; led && log.load(Ordering::SeqCst) == want),
         _ => panic!(rt; "not left"),
     }
 }
 
 // Two members at one tier and one at another pass phase 0. One of the two and the single one leave in phase 1, and the last
-// one in phase 2.
+// one in phase 2. After each call the closure has been called once for each advance.
 fn two_crews_pass<F: Fn(u32, u32) -> bool>(
     rt: &impl Abort,
     tree: &Tree<F>,
     mut door: Door,
     tiers: (u16, u16),
+    log: &AtomicU64,
+    parties: u32,
 )
     requires own { door.tree ≡ tree.now.tree }
     requires rule { Answers (F.pre tree.now.rule.closure) (F.post tree.now.rule.closure) (end_ends_at tree.now.rule.plan) }
@@ -103,17 +119,18 @@ fn two_crews_pass<F: Fn(u32, u32) -> bool>(
     let second = tree.split(&mut door);
     let one = joins(rt, tree, door, tiers.0, 2);
     let other = joins(rt, tree, second, tiers.1, 1);
-    let one = goes(rt, tree, one, false);
-    let one = goes(rt, tree, one, false);
-    let other = goes(rt, tree, other, false);
-    let one = goes(rt, tree, one, true);
-    let one = goes(rt, tree, one, false);
-    empties(rt, tree, other);
-    empties(rt, tree, one);
+    let one = goes(rt, tree, one, false, log, written(&[]));
+    let one = goes(rt, tree, one, false, log, written(&[]));
+    let first = written(&[(0, parties)]);
+    let other = goes(rt, tree, other, false, log, first);
+    let one = goes(rt, tree, one, true, log, first);
+    let one = goes(rt, tree, one, false, log, first);
+    empties(rt, tree, other, log, written(&[(0, parties), (1, 1)]));
+    empties(rt, tree, one, log, written(&[(0, parties), (1, 1), (2, 0)]));
 }
 
-// Returns what is written down while two crews pass on a tree of these widths.
-fn told_alone(rt: &impl Abort, alloc: Global, widths: &str, tiers: (u16, u16)) -> u64 {
+// Two crews pass on a tree of these widths, whose root has this number of parties at the first advance.
+fn told_alone(rt: &impl Abort, alloc: Global, widths: &str, tiers: (u16, u16), parties: u32) {
     let log = AtomicU64::new(1);
     let ends = |phase: u32, count: u32| {
         write(&log, phase, count);
@@ -122,17 +139,14 @@ fn told_alone(rt: &impl Abort, alloc: Global, widths: &str, tiers: (u16, u16)) -
     let rule = StoredAdvance::new(ends, WHEN_EMPTY);
     let shape = Shape::from_widths(alloc, widths).expect(rt, "a shape");
     let (tree, door) = Tree::new(alloc, shape, 0, rule).expect(rt, "memory");
-    two_crews_pass(rt, &tree, door, tiers);
-    log.load(Ordering::SeqCst)
+    two_crews_pass(rt, &tree, door, tiers, &log, parties);
 }
 
 // On one tier all members are parties of the root; on the other tree its children are.
 #[test]
 fn one_thread_advances(rt: HostRuntime) {
-    let flat = told_alone(&rt, rt.alloc(), "flat", (0, 0));
-    assert!(rt; flat == written(&[(0, 3), (1, 1), (2, 0)]));
-    let tiers = told_alone(&rt, rt.alloc(), "2x2", (3, 6));
-    assert!(rt; tiers == written(&[(0, 2), (1, 1), (2, 0)]));
+    told_alone(&rt, rt.alloc(), "flat", (0, 0), 3);
+    told_alone(&rt, rt.alloc(), "2x2", (3, 6), 2);
 }
 
 // A member passes three phases, and leaves.

@@ -1,5 +1,5 @@
-//! One call that ends the wait of three threads at once. A call that wakes one alone would leave two waiting, so the test
-//! would not end within its 60 seconds.
+//! Calls at the gate that end the wait of one, two or three threads: scenes that one function plays. Who waits has to be
+//! answered. A call that wakes too few would leave the others waiting, so the test would not end within its 60 seconds.
 ghost use Rattle.advance_rule.specs.Action.{AnswersAction};
 
 use advance_rule::StoredAction;
@@ -11,35 +11,76 @@ use std::sync::atomic::{AtomicU32, Ordering};
 use std::thread;
 use std::thread::Threads;
 
-// How the fourth thread ends the wait of three.
+// What a thread gets from the gate.
+type Turn = Result<u32, GateFault>;
+
+const BROKEN: Turn = Err(GateFault::Broken);
+
+// What a thread answers that ended the wait of all others by one call.
+const ENDED: Turn = Ok(7);
+
+// How the last thread ends the wait of the others.
 #[derive(Clone, Copy)]
 enum Ending {
-    // It is the last to come.
+    // It comes too.
     Comes,
+    // It comes as caller 0, and as another one if the answer is that caller 0 waits.
+    ComesAgain,
     // It starts the next generation.
     Resets,
     // It breaks the gate.
     BreaksOff,
-    // It removes caller 0.
-    Removes,
+    // It takes this caller away.
+    TakesAway(u32),
 }
 
-// Waits, after it has said so.
-fn waits<R: Wait, F: Fn(u64) -> bool>(
-    rt: &R,
-    gate: &CyclicGate<F>,
-    coming: &AtomicU32,
-    gone: &AtomicU32,
-    caller: u32,
-) -> Result<u32, GateFault>
+// How many threads have come, how many have got their turn, and whether all is over.
+#[derive(Drop)]
+struct Marks {
+    coming: AtomicU32,
+    gone: AtomicU32,
+    over: AtomicU32,
+}
+
+// How many threads wait, how their wait ends, and what the last thread gets. Of two threads that only come, each may be the
+// last, so there it is `None`. Then what the others get, or all of them, in any order.
+type Scene<'a> = (u32, Ending, Option<Turn>, &'a [Turn]);
+
+// Comes as a caller, and as the caller 9 if that one waits.
+fn comes<R: Wait, F: Fn(u64) -> bool>(rt: &R, gate: &CyclicGate<F>, caller: u32) -> Turn
     requires { AnswersAction (F.pre gate.now.action.closure) (F.post gate.now.action.closure) gate.now.action.plan }
 {
-    coming.fetch_add(1, Ordering::SeqCst);
     let turn = gate.await_turn(rt, caller);
+    if turn == Err(GateFault::AlreadyWaiting) {
+        return gate.await_turn(rt, 9);
+    }
     if turn == Err(GateFault::Memory) {
         gate.break_off(rt);
     }
-    gone.fetch_add(1, Ordering::SeqCst);
+    turn
+}
+
+// Waits, after it has said so. If the gate is to be broken off, and was before all is over, it waits again.
+fn waits<R: Wait, F: Fn(u64) -> bool>(
+    rt: &R,
+    gate: &CyclicGate<F>,
+    marks: &Marks,
+    ending: Ending,
+    caller: u32,
+) -> Turn
+    requires { AnswersAction (F.pre gate.now.action.closure) (F.post gate.now.action.closure) gate.now.action.plan }
+{
+    marks.coming.fetch_add(1, Ordering::SeqCst);
+    let mut turn = comes(rt, gate, caller);
+    for _ in 0..1000000u32 {
+        let is_early = turn == BROKEN && marks.over.load(Ordering::SeqCst) == 0;
+        if !is_early || !matches!(ending, Ending::BreaksOff) {
+            break;
+        }
+        thread::yield_now();
+        turn = comes(rt, gate, caller);
+    }
+    marks.gone.fetch_add(1, Ordering::SeqCst);
     turn
 }
 
@@ -53,126 +94,217 @@ fn gives_time(count: &AtomicU32, want: u32, most: u32) {
     }
 }
 
-// Ends the wait of three by one call. If it came too early for some, breaks the gate until they are gone.
-fn ends<R: Wait, F: Fn(u64) -> bool>(
-    rt: &R,
-    gate: &CyclicGate<F>,
-    coming: &AtomicU32,
-    gone: &AtomicU32,
-    ending: Ending,
-) -> Result<u32, GateFault>
-    requires { AnswersAction (F.pre gate.now.action.closure) (F.post gate.now.action.closure) gate.now.action.plan }
-{
-    gives_time(coming, 3, 1000000);
-    gives_time(gone, 3, 20000);
-    let ended = match ending {
-        Ending::Comes => return gate.await_turn(rt, 3),
+// Ends the wait of all who wait, by one call, and returns how many they are.
+fn ends_once<R: Wait, F: Fn(u64) -> bool>(rt: &R, gate: &CyclicGate<F>, ending: Ending) -> usize {
+    match ending {
+        Ending::Comes | Ending::ComesAgain => 0,
         Ending::Resets => gate.reset(rt).len(),
         Ending::BreaksOff => gate.break_off(rt).len(),
-        Ending::Removes => match gate.abandon(rt, 0) {
-            Ok(others) if others.len() == 2 => 3,
-            _ => 0,
+        Ending::TakesAway(caller) => match gate.abandon(rt, caller) {
+            Ok(others) => others.len().saturating_add(1),
+            Err(_) => 0,
         },
-    };
-    if ended < 3 {
-        for _ in 0..100000u32 {
-            gate.break_off(rt);
-            gives_time(gone, 3, 10);
-        }
     }
-    Ok(7)
 }
 
-// Lets three threads wait, and a fourth end their wait. Returns the answers that they get.
-fn four<R: Threads + Wait + Abort + Sync, F: Fn(u64) -> bool + Sync>(
+// Ends the wait of the others. If nobody waits yet, tries again. If that came too early for some, breaks the gate until they
+// are gone.
+fn ends_the_wait<R: Wait, F: Fn(u64) -> bool>(
+    rt: &R,
+    gate: &CyclicGate<F>,
+    marks: &Marks,
+    ending: Ending,
+    waiting: u32,
+) -> Turn {
+    for _ in 0..1000000u32 {
+        let ended = ends_once(rt, gate, ending);
+        if ended == waiting as usize {
+            marks.over.store(1, Ordering::SeqCst);
+            return ENDED;
+        }
+        if ended > 0 {
+            break;
+        }
+        if matches!(ending, Ending::BreaksOff) {
+            gate.reset(rt);
+        }
+        thread::yield_now();
+    }
+    marks.over.store(1, Ordering::SeqCst);
+    for _ in 0..100000u32 {
+        gate.break_off(rt);
+        gives_time(&marks.gone, waiting, 10);
+    }
+    ENDED
+}
+
+// Does what the thread of this number does: the last ends the wait of the others, once they had time to come.
+fn does<R: Wait, F: Fn(u64) -> bool>(
+    rt: &R,
+    gate: &CyclicGate<F>,
+    marks: &Marks,
+    scene: &Scene<'_>,
+    thread: usize,
+) -> Turn
+    requires { AnswersAction (F.pre gate.now.action.closure) (F.post gate.now.action.closure) gate.now.action.plan }
+{
+    let caller = (thread % 64) as u32;
+    if caller < scene.0 {
+        return waits(rt, gate, marks, scene.1, caller);
+    }
+    gives_time(&marks.coming, scene.0, 1000000);
+    gives_time(&marks.gone, scene.0, 20000);
+    match scene.1 {
+        Ending::Comes => comes(rt, gate, caller),
+        Ending::ComesAgain => comes(rt, gate, 0),
+        ending => ends_the_wait(rt, gate, marks, ending, scene.0),
+    }
+}
+
+// Returns true if these are the same answers, in any order.
+fn are(turns: &[Turn], wants: &[Turn]) -> bool {
+    for turn in turns {
+        if !wants.contains(turn) {
+            return false;
+        }
+    }
+    for want in wants {
+        if !turns.contains(want) {
+            return false;
+        }
+    }
+    true
+}
+
+// Returns true if the threads got what a scene says.
+fn are_answered(turns: &[Turn], scene: &Scene<'_>) -> bool {
+    let Some((last, others)) = turns.split_last() else {
+        return false;
+    };
+    match scene.2 {
+        Some(want) => *last == want && are(others, scene.3),
+        None => are(turns, scene.3),
+    }
+}
+
+// Returns true if a broken gate answers a late caller so, and keeps nobody whom a reset would wake.
+fn is_mended<R: Wait, F: Fn(u64) -> bool>(rt: &R, gate: &CyclicGate<F>, ending: Ending) -> bool
+    requires { AnswersAction (F.pre gate.now.action.closure) (F.post gate.now.action.closure) gate.now.action.plan }
+{
+    match ending {
+        Ending::BreaksOff | Ending::TakesAway(_) => {
+            gate.await_turn(rt, 2) == BROKEN && gate.reset(rt).is_empty()
+        }
+        _ => true,
+    }
+}
+
+// Plays a scene. Returns true if all threads are answered as it says, no end is kept, and a broken gate is mended.
+fn is_played<R: Threads + Wait + Abort + Sync, F: Fn(u64) -> bool + Sync>(
     rt: &R,
     alloc: Global,
     gate: &CyclicGate<F>,
-    ending: Ending,
-) -> Vec<Result<u32, GateFault>>
+    scene: &Scene<'_>,
+) -> bool
     requires { AnswersAction (F.pre gate.now.action.closure) (F.post gate.now.action.closure) gate.now.action.plan }
 {
-    let coming = AtomicU32::new(0);
-    let gone = AtomicU32::new(0);
+    let marks = Marks {
+        coming: AtomicU32::new(0),
+        gone: AtomicU32::new(0),
+        over: AtomicU32::new(0),
+    };
     let turns = thread::map_indices(
         rt,
         alloc,
-        4,
-        &|i: usize| -> Result<u32, GateFault>
+        scene.0.saturating_add(1) as usize,
+        &|i: usize| -> Turn
             requires { AnswersAction (F.pre gate.now.action.closure) (F.post gate.now.action.closure) gate.now.action.plan }
-        {
-            match i {
-                0 => waits(rt, gate, &coming, &gone, 0),
-                1 => waits(rt, gate, &coming, &gone, 1),
-                2 => waits(rt, gate, &coming, &gone, 2),
-                _ => ends(rt, gate, &coming, &gone, ending),
-            }
-        },
+        { does(rt, gate, &marks, scene, i) },
     );
-    turns.expect(rt, "memory")
+    are_answered(&turns.expect(rt, "memory"), scene)
+        && gate.kept(rt) == 0
+        && is_mended(rt, gate, scene.1)
 }
 
-// Returns true if three got the answer that the gate broke, and the fourth this one.
-fn are_broken(turns: &[Result<u32, GateFault>], last: Result<u32, GateFault>) -> bool {
-    let Some((own, others)) = turns.split_last() else {
-        return false;
-    };
-    *own == last && others.len() == 3 && others.iter().all(|it| *it == Err(GateFault::Broken))
-}
+// How many parties a gate has, in which generation its action fails, and the scenes that are played at it one after another.
+type Row<'a> = (i64, Option<u64>, &'a [Scene<'a>]);
 
-// Returns true if four have one index each, and the fourth is the last.
-fn are_given(turns: &[Result<u32, GateFault>]) -> bool {
-    turns.last() == Some(&Ok(0))
-        && turns.contains(&Ok(1))
-        && turns.contains(&Ok(2))
-        && turns.contains(&Ok(3))
-}
-
-// Returns the answers that four threads get at a gate of four parties, whose action fails in this generation.
-fn answered<R: Threads + Wait + Abort + Sync>(
-    rt: &R,
-    alloc: Global,
-    fails: Option<u64>,
-    ending: Ending,
-) -> Vec<Result<u32, GateFault>> {
+// Plays the scenes of a row at a new gate.
+fn plays<R: Threads + Wait + Abort + Sync>(rt: &R, alloc: Global, row: &Row<'_>) -> bool {
+    let (parties, fails, scenes) = *row;
     let action = StoredAction::new(|generation: u64| fails == Some(generation), fails);
-    let gate = CyclicGate::new(alloc, 4, action).expect(rt, "a gate");
-    let turns = four(rt, alloc, &gate, ending);
-    assert!(rt; gate.kept(rt) == 0);
-    turns
+    let gate = CyclicGate::new(alloc, parties, action).expect(rt, "a gate");
+    for scene in scenes {
+        if !is_played(rt, alloc, &gate, scene) {
+            return false;
+        }
+    }
+    true
 }
+
+const FAILED: Turn = Err(GateFault::ActionFailed);
+
+// One thread or three wait, and another ends their wait.
+const ONE_IS_RESET: [Scene<'static>; 1] = [(1, Ending::Resets, Some(ENDED), &[BROKEN])];
+
+const ONE_IS_BROKEN: [Scene<'static>; 1] = [(1, Ending::BreaksOff, Some(ENDED), &[BROKEN])];
+
+const ONE_IS_TAKEN: [Scene<'static>; 1] = [(1, Ending::TakesAway(0), Some(ENDED), &[BROKEN])];
+
+const THREE_ARE_RESET: [Scene<'static>; 1] = [(3, Ending::Resets, Some(ENDED), &[BROKEN])];
+
+const THREE_ARE_BROKEN: [Scene<'static>; 1] = [(3, Ending::BreaksOff, Some(ENDED), &[BROKEN])];
+
+const ONE_OF_THREE_IS_TAKEN: [Scene<'static>; 1] = [(
+    3,
+    Ending::TakesAway(0),
+    Some(ENDED),
+    &[BROKEN],
+)];
+
+// Two threads meet, also if both come as caller 0.
+const TWO_MEET: [Scene<'static>; 1] = [(1, Ending::Comes, None, &[Ok(1), Ok(0)])];
+
+const TWO_COME_AGAIN: [Scene<'static>; 1] = [(1, Ending::ComesAgain, None, &[Ok(1), Ok(0)])];
+
+// The action fails when two or four come.
+const TWO_FAIL: [Scene<'static>; 1] = [(1, Ending::Comes, None, &[BROKEN, FAILED])];
+
+const FOUR_FAIL: [Scene<'static>; 1] = [(3, Ending::Comes, Some(FAILED), &[BROKEN])];
+
+// Three threads meet. Then one of two that wait is taken away, which breaks the gate. After a reset they meet there again.
+const MEET_TWICE: [Scene<'static>; 3] = [
+    (2, Ending::Comes, None, &[Ok(0), Ok(1), Ok(2)]),
+    (2, Ending::TakesAway(1), Some(ENDED), &[BROKEN]),
+    (2, Ending::Comes, None, &[Ok(0), Ok(1), Ok(2)]),
+];
+
+const ROWS: [Row<'static>; 11] = [
+    (2, None, &TWO_MEET),
+    (2, Some(0), &TWO_FAIL),
+    (2, Some(1), &TWO_COME_AGAIN),
+    (2, None, &ONE_IS_RESET),
+    (2, None, &ONE_IS_BROKEN),
+    (2, None, &ONE_IS_TAKEN),
+    (4, Some(0), &FOUR_FAIL),
+    (4, None, &THREE_ARE_RESET),
+    (4, None, &THREE_ARE_BROKEN),
+    (4, None, &ONE_OF_THREE_IS_TAKEN),
+    (3, None, &MEET_TWICE),
+];
+
+#[test]
+fn who_waits_is_answered(rt: HostRuntime) {
+    for (number, row) in ROWS.iter().enumerate() {
+        assert!(rt; plays(&rt, rt.alloc(), row), "row {number}");
+    }
+}
+
+const A_TRIP: [Scene<'static>; 1] = [(3, Ending::Comes, Some(Ok(0)), &[Ok(1), Ok(2), Ok(3)])];
 
 #[test]
 fn a_trip_wakes_three(rt: HostRuntime) {
     for _ in 0..20 {
-        let turns = answered(&rt, rt.alloc(), None, Ending::Comes);
-        assert!(rt; are_given(&turns));
+        assert!(rt; plays(&rt, rt.alloc(), &(4, None, &A_TRIP)));
     }
-}
-
-#[test]
-fn a_failure_wakes_three(rt: HostRuntime) {
-    let turns = answered(&rt, rt.alloc(), Some(0), Ending::Comes);
-    assert!(rt; are_broken(&turns, Err(GateFault::ActionFailed)));
-}
-
-// Returns true if three get the answer that the gate broke when the fourth ends their wait in this way.
-fn are_woken<R: Threads + Wait + Abort + Sync>(rt: &R, alloc: Global, ending: Ending) -> bool {
-    let turns = answered(rt, alloc, None, ending);
-    are_broken(&turns, Ok(7))
-}
-
-#[test]
-fn a_reset_wakes_three(rt: HostRuntime) {
-    assert!(rt; are_woken(&rt, rt.alloc(), Ending::Resets));
-}
-
-#[test]
-fn a_break_wakes_three(rt: HostRuntime) {
-    assert!(rt; are_woken(&rt, rt.alloc(), Ending::BreaksOff));
-}
-
-#[test]
-fn a_removal_wakes_three(rt: HostRuntime) {
-    assert!(rt; are_woken(&rt, rt.alloc(), Ending::Removes));
 }
