@@ -62,7 +62,7 @@ pub struct UntilWarm {
 
 impl Watch for UntilWarm {
     fn goes_on(&mut self, step: u32, arrays: &Arrays, tasks: usize) -> bool {
-        match arrays.cell(0, i64::from(self.cell)) {
+        match arrays.cell(0, self.cell) {
             Some(value) => value < self.least,
             None => false,
         }
