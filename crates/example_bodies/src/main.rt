@@ -37,40 +37,7 @@ fn cell(report: &Report, array: u16, index: u32) -> i64 {
     report.arrays.cell(array, index).unwrap_or(0)
 }
 
-// Returns the rod after 1000 supersteps.
-fn cool(alloc: Global) -> Result<Report, RunFault> {
-    let start = start::rod(alloc)?;
-    let ran = run_bodies(
-        alloc,
-        &Rod { last: 999 },
-        start.arrays,
-        start.tasks,
-        46,
-        1000,
-    )?;
-    Ok(ran.report)
-}
-
-// Returns the rod as soon as cell 20 is warm.
-fn warm(alloc: Global) -> Result<Report, RunFault> {
-    let start = start::rod(alloc)?;
-    let mut watch = UntilWarm {
-        cell: 20,
-        least: 1_000_000_000,
-    };
-    let ran = run_bodies_watched(
-        alloc,
-        &Rod { last: 999 },
-        start.arrays,
-        start.tasks,
-        46,
-        1000,
-        &mut watch,
-    )?;
-    Ok(ran.report)
-}
-
-// Returns the same rod as `cool`, by a closure.
+// Returns the rod after 1000 supersteps, by a closure.
 fn cool_by_closure(alloc: Global) -> Result<Report, RunFault> {
     let start = start::rod(alloc)?;
     let mut spans = Vec::new(alloc);
@@ -93,7 +60,7 @@ fn cool_by_closure(alloc: Global) -> Result<Report, RunFault> {
     Ok(ran.report)
 }
 
-// Returns the same rod as `cool`, by a body whose meaning is written down.
+// Returns the rod after 1000 supersteps, by a body whose meaning is written down.
 fn cool_exactly(alloc: Global) -> Result<Report, RunFault> {
     let start = start::rod(alloc)?;
     let pieces = pieces(alloc)?;
@@ -108,51 +75,72 @@ fn cool_exactly(alloc: Global) -> Result<Report, RunFault> {
     Ok(ran.report)
 }
 
-// Runs a shop that is open for 1000 supersteps.
-fn serve(alloc: Global) -> Result<Report, RunFault> {
+// The rod after 1000 supersteps: how many were taken, the cells 10 and 70, and whether the closure leaves the same, and the exact
+// body.
+fn cool(alloc: Global) -> Result<(u32, i64, i64, bool, bool), RunFault> {
+    let start = start::rod(alloc)?;
+    let rod = Rod { last: 999 };
+    let report = run_bodies(alloc, &rod, start.arrays, start.tasks, 46, 1000)?.report;
+    let closure = cool_by_closure(alloc)?;
+    let exact = cool_exactly(alloc)?;
+    Ok((
+        steps(&report),
+        cell(&report, 0, 10),
+        cell(&report, 0, 70),
+        report.arrays.same_as(&closure.arrays),
+        report.arrays.same_as(&exact.arrays),
+    ))
+}
+
+// The rod as soon as cell 20 is warm: after how many supersteps, and how warm it is.
+fn warm(alloc: Global) -> Result<(u32, i64), RunFault> {
+    let start = start::rod(alloc)?;
+    let mut watch = UntilWarm {
+        cell: 20,
+        least: 1_000_000_000,
+    };
+    let rod = Rod { last: 999 };
+    let ran = run_bodies_watched(alloc, &rod, start.arrays, start.tasks, 46, 1000, &mut watch)?;
+    Ok((steps(&ran.report), cell(&ran.report, 0, 20)))
+}
+
+// A shop that is open for 1000 supersteps: how many were taken, who came, who went, and for how long they were there.
+fn serve(alloc: Global) -> Result<(u32, i64, i64, i64), RunFault> {
     let start = start::shop(alloc)?;
-    let ran = run_bodies(
-        alloc,
-        &Shop { open: 999 },
-        start.arrays,
-        start.tasks,
-        1000,
-        10000,
-    )?;
-    Ok(ran.report)
+    let shop = Shop { open: 999 };
+    let report = run_bodies(alloc, &shop, start.arrays, start.tasks, 1000, 10000)?.report;
+    Ok((
+        steps(&report),
+        cell(&report, 0, CAME),
+        cell(&report, 0, WENT),
+        cell(&report, 0, TIME),
+    ))
 }
 
-// Searches a graph of 100,000 nodes from node 0.
-fn find(alloc: Global) -> Result<Report, RunFault> {
+// A search from node 0 in a graph of 100,000 nodes: how many supersteps were taken, how many nodes were reached, and the greatest
+// distance.
+fn find(alloc: Global) -> Result<(u32, usize, i64), RunFault> {
     let start = start::graph(alloc)?;
-    let ran = run_bodies(
-        alloc,
-        &Graph { nodes: 100_000 },
-        start.arrays,
-        start.tasks,
-        20,
-        10000,
-    )?;
-    Ok(ran.report)
+    let graph = Graph { nodes: 100_000 };
+    let report = run_bodies(alloc, &graph, start.arrays, start.tasks, 20, 10000)?.report;
+    Ok((steps(&report), reached(&report), cell(&report, ROUNDS, 0)))
 }
 
-// Returns the graph of 1000 nodes after 20 rounds.
-fn ranked(alloc: Global) -> Result<Report, RunFault> {
+// The ranks of the nodes 0, 1 and 7 of a graph of 1000 nodes after 20 rounds.
+fn ranked(alloc: Global) -> Result<(i64, i64, i64), RunFault> {
     let start = start::ranks(alloc)?;
     let graph = Graph { nodes: 1000 };
-    let ran = run_bodies(
-        alloc,
-        &Ranks { graph, last: 39 },
-        start.arrays,
-        start.tasks,
-        10,
-        40,
-    )?;
-    Ok(ran.report)
+    let ranks = Ranks { graph, last: 39 };
+    let report = run_bodies(alloc, &ranks, start.arrays, start.tasks, 10, 40)?.report;
+    Ok((
+        cell(&report, 0, 0),
+        cell(&report, 0, 1),
+        cell(&report, 0, 7),
+    ))
 }
 
-// Returns the board after 30 supersteps.
-fn live(alloc: Global) -> Result<Report, RunFault> {
+// The board after 30 supersteps: how many were taken, and how many cells live.
+fn live(alloc: Global) -> Result<(u32, usize), RunFault> {
     let start = start::board(alloc)?;
     let life = Grid {
         array: 0,
@@ -161,8 +149,8 @@ fn live(alloc: Global) -> Result<Report, RunFault> {
         last: 29,
         f: |cells: Window| next(cells),
     };
-    let ran = run_bodies(alloc, &life, start.arrays, start.tasks, 16, 30)?;
-    Ok(ran.report)
+    let report = run_bodies(alloc, &life, start.arrays, start.tasks, 16, 30)?.report;
+    Ok((steps(&report), count(&report)))
 }
 
 // Makes `count` spans of `size` cells each.
@@ -191,32 +179,32 @@ fn numbers(alloc: Global) -> Result<Arrays, AllocError> {
     Ok(arrays)
 }
 
-// Returns the squares of the numbers.
-fn squares(alloc: Global) -> Result<Report, RunFault> {
-    let arrays = numbers(alloc)?;
-    let spans = spans(alloc, 10, 100)?;
+// The sum of the squares of the numbers: ten tasks square them, and ten add them up.
+fn added_up(alloc: Global) -> Result<i64, RunFault> {
     let square = Map {
         from: 0,
         into: 0,
         last: 0,
         f: |it: i64| it.wrapping_mul(it),
     };
-    let ran = run_bodies(alloc, &square, arrays, spans, 10, 1)?;
-    Ok(ran.report)
-}
-
-// Returns the sum of the squares.
-fn added_up(alloc: Global) -> Result<Report, RunFault> {
-    let squares = squares(alloc)?;
-    let spans = spans(alloc, 10, 100)?;
+    let squares = run_bodies(
+        alloc,
+        &square,
+        numbers(alloc)?,
+        spans(alloc, 10, 100)?,
+        10,
+        1,
+    )?
+    .report;
     let add_up = Reduce {
         array: 0,
         into: 1,
         cell: 0,
         f: |it: i64| it,
     };
-    let ran = run_bodies(alloc, &add_up, squares.arrays, spans, 10, 1)?;
-    Ok(ran.report)
+    let tasks = spans(alloc, 10, 100)?;
+    let report = run_bodies(alloc, &add_up, squares.arrays, tasks, 10, 1)?.report;
+    Ok(cell(&report, 1, 0))
 }
 
 // Returns the number of cells of array 0 that aren't 0.
@@ -227,87 +215,29 @@ fn count(report: &Report) -> usize {
     }
 }
 
-// Returns the number of supersteps, and the cells 10 and 70.
-fn rod_numbers(alloc: Global) -> Result<(u32, i64, i64), RunFault> {
-    let report = cool(alloc)?;
-    Ok((steps(&report), cell(&report, 0, 10), cell(&report, 0, 70)))
-}
-
-// Returns the number of supersteps until cell 20 is warm, and how warm it is.
-fn warm_numbers(alloc: Global) -> Result<(u32, i64), RunFault> {
-    let report = warm(alloc)?;
-    Ok((steps(&report), cell(&report, 0, 20)))
-}
-
-// Returns whether the closure leaves what the body leaves, and whether the exact body does.
-fn are_same(alloc: Global) -> Result<(bool, bool), RunFault> {
-    let one = cool(alloc)?;
-    let closure = cool_by_closure(alloc)?;
-    let exact = cool_exactly(alloc)?;
-    Ok((
-        one.arrays.same_as(&closure.arrays),
-        one.arrays.same_as(&exact.arrays),
-    ))
-}
-
-// Returns the sum of the squares.
-fn square_numbers(alloc: Global) -> Result<i64, RunFault> {
-    let report = added_up(alloc)?;
-    Ok(cell(&report, 1, 0))
-}
-
-// Returns the number of supersteps, who came, who went, and for how long they were there.
-fn shop_numbers(alloc: Global) -> Result<(u32, i64, i64, i64), RunFault> {
-    let report = serve(alloc)?;
-    Ok((
-        steps(&report),
-        cell(&report, 0, CAME),
-        cell(&report, 0, WENT),
-        cell(&report, 0, TIME),
-    ))
-}
-
-// Returns the number of supersteps, how many nodes were reached, and the greatest distance.
-fn graph_numbers(alloc: Global) -> Result<(u32, usize, i64), RunFault> {
-    let report = find(alloc)?;
-    Ok((steps(&report), reached(&report), cell(&report, ROUNDS, 0)))
-}
-
-// Returns the ranks of the nodes 0, 1 and 7.
-fn rank_numbers(alloc: Global) -> Result<(i64, i64, i64), RunFault> {
-    let report = ranked(alloc)?;
-    Ok((
-        cell(&report, 0, 0),
-        cell(&report, 0, 1),
-        cell(&report, 0, 7),
-    ))
-}
-
-// Returns the number of supersteps, and how many cells live.
-fn life_numbers(alloc: Global) -> Result<(u32, usize), RunFault> {
-    let report = live(alloc)?;
-    Ok((steps(&report), count(&report)))
+// The lines that are printed, of all examples.
+fn lines(alloc: Global) -> Result<String, RunFault> {
+    let (steps, ten, seventy, closure, exact) = cool(alloc)?;
+    let (warm_steps, twenty) = warm(alloc)?;
+    let (shop_steps, came, went, time) = serve(alloc)?;
+    let (graph_steps, nodes, last) = find(alloc)?;
+    let (first, second, eighth) = ranked(alloc)?;
+    let (life_steps, living) = live(alloc)?;
+    let sum = added_up(alloc)?;
+    Ok(format!(in alloc;
+        "rod: {steps} supersteps, cells {ten} {seventy}
+rod: cell 20 is warm after {warm_steps} supersteps: {twenty}
+by a closure the same: {closure}, by an exact body: {exact}
+shop: {shop_steps} supersteps, {came} came, {went} went, {time} in all
+search: {graph_steps} supersteps, {nodes} nodes reached, the last ones at distance {last}
+ranks: {first} {second} {eighth}
+life: {living} cells live after {life_steps} supersteps
+squares: {sum}"
+    )?)
 }
 
 fn main(rt: HostRuntime) -> anyhow::Result<()> {
-    let alloc = rt.alloc();
-    let (steps, ten, seventy) = rod_numbers(alloc)?;
-    println!(rt; "rod: {steps} supersteps, cells {ten} {seventy}")?;
-    let (steps, twenty) = warm_numbers(alloc)?;
-    println!(rt; "rod: cell 20 is warm after {steps} supersteps: {twenty}")?;
-    let (closure, exact) = are_same(alloc)?;
-    println!(rt; "by a closure the same: {closure}, by an exact body: {exact}")?;
-    let (steps, came, went, time) = shop_numbers(alloc)?;
-    println!(rt; "shop: {steps} supersteps, {came} came, {went} went, {time} in all")?;
-    let (steps, nodes, last) = graph_numbers(alloc)?;
-    println!(rt;
-        "search: {steps} supersteps, {nodes} nodes reached, the last ones at distance {last}"
-    )?;
-    let (first, second, eighth) = rank_numbers(alloc)?;
-    println!(rt; "ranks: {first} {second} {eighth}")?;
-    let (steps, living) = life_numbers(alloc)?;
-    println!(rt; "life: {living} cells live after {steps} supersteps")?;
-    let sum = square_numbers(alloc)?;
-    println!(rt; "squares: {sum}")?;
+    let lines = lines(rt.alloc())?;
+    println!(rt; "{lines}")?;
     Ok(())
 }

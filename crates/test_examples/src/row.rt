@@ -3,14 +3,16 @@
 
 use std::alloc::{AllocError, Global};
 
-/// A row of the table, its text and output written short.
-#[derive(Drop)]
+/// A row of the table.
+#[derive(Clone, Copy)]
 pub(crate) struct Row<'a> {
-    words: &'a str,
-    text: &'a str,
+    /// How often the words are run.
+    pub(crate) times: u32,
+    pub(crate) words: &'a str,
+    pub(crate) text: &'a str,
     /// The status that the program is to end with.
     pub(crate) status: u8,
-    output: &'a str,
+    pub(crate) output: &'a str,
 }
 
 /// Returns the row that a line holds, if it holds one.
@@ -18,45 +20,41 @@ pub(crate) fn row_of(line: &str) -> Option<Row<'_>> {
     let (words, behind_words) = line.split_once(" | ")?;
     let (text, behind_text) = behind_words.split_once(" | ")?;
     let (status_word, output) = behind_text.split_once(" | ")?;
-    let status = status_word.parse::<u8>().ok()?;
+    let (times_word, words) = words.split_once(" times ").unwrap_or(("1", words));
     Some(Row {
+        times: times_word.parse::<u32>().ok()?,
         words,
         text,
-        status,
+        status: status_word.parse::<u8>().ok()?,
         output,
     })
 }
 
-impl<'a> Row<'a> {
-    /// Returns the words of the command line, the program's name first.
-    pub(crate) fn command_line(&self, alloc: Global) -> Result<Vec<&'a str>, AllocError> {
-        let mut line = Vec::new(alloc);
-        line.push("bsp")?;
-        for word in self.words.split_whitespace() {
-            line.push(word)?;
-        }
-        Ok(line)
-    }
-
+impl Row<'_> {
     /// Returns true if the program is to run a job.
     pub(crate) fn runs(&self) -> bool {
         self.words == "run" || self.words.starts_with("run ")
     }
 
-    /// Returns the text that the program reads.
-    pub(crate) fn whole_text(&self, alloc: Global) -> Result<String, AllocError> {
-        written_out(alloc, self.text)
-    }
-
-    /// Returns what the program is to print.
-    pub(crate) fn whole_output(&self, alloc: Global) -> Result<String, AllocError> {
-        written_out(alloc, self.output)
+    /// Returns true if the text is that of a file.
+    pub(crate) fn is_stored(&self) -> bool {
+        self.text.starts_with('@')
     }
 }
 
-// A short text written out: each piece `{N:piece}` N times, and a line's end at the end. A `{` with no number after it is
-// a `{`.
-fn written_out(alloc: Global, short: &str) -> Result<String, AllocError> {
+/// Returns the words of a command line, the program's name first.
+pub(crate) fn words_of(alloc: Global, words: &str) -> Result<Vec<&str>, AllocError> {
+    let mut line = Vec::new(alloc);
+    line.push("bsp")?;
+    for word in words.split_whitespace() {
+        line.push(word)?;
+    }
+    Ok(line)
+}
+
+/// A short text written out: each piece `{N:piece}` N times, and a line's end at the end. A `{` with no number after it is
+/// a `{`.
+pub(crate) fn written_out(alloc: Global, short: &str) -> Result<String, AllocError> {
     let mut whole = String::new(alloc);
     let mut is_first = true;
     for part in short.split('{') {

@@ -2,20 +2,12 @@
 #[cfg(test)]
 mod closures;
 #[cfg(test)]
-mod efforts;
-#[cfg(test)]
 mod fixtures;
 #[cfg(test)]
 mod gates;
 #[cfg(test)]
 mod hooks;
 #[cfg(test)]
-mod late;
-#[cfg(test)]
-mod rounds;
-#[cfg(test)]
 mod single;
 #[cfg(test)]
 mod starters;
-#[cfg(test)]
-mod together;

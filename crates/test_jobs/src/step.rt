@@ -1,12 +1,8 @@
-//! Landing, rounds and runs on one thread: deliveries in any order, refusals, and who looks on.
+//! Rounds and runs on one thread: deliveries in any order, refusals, and who looks on.
 #[cfg(test)]
 mod calls;
 #[cfg(test)]
-mod fixtures;
-#[cfg(test)]
 mod hands;
-#[cfg(test)]
-mod landing;
 #[cfg(test)]
 mod orders;
 #[cfg(test)]

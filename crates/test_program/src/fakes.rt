@@ -1,4 +1,4 @@
-//! Devices that give or take little, and that fail.
+//! Devices that give or take little, that fail, and whose reads and writes signals interrupt.
 
 ghost use Rattle.std.specs.Prelude.{◌≡◌, ◌≤◌, IfOk, length};
 
@@ -6,7 +6,7 @@ use std::io;
 use std::io::{Read, Write};
 
 /// Gives at most `most` bytes, as far as there are some and room for them.
-pub(crate) fn give(rest: &mut &[u8], buffer: &mut [u8], most: usize) -> usize
+fn give(rest: &mut &[u8], buffer: &mut [u8], most: usize) -> usize
     ensures { result ≤ length buffer.old }
 {
     let count = rest.len().min(buffer.len()).min(most);
@@ -16,40 +16,37 @@ pub(crate) fn give(rest: &mut &[u8], buffer: &mut [u8], most: usize) -> usize
     count
 }
 
-/// Gives a text, and counts the reads.
-#[derive(Drop)]
-pub(crate) struct Source<'a> {
-    /// What it still has to give.
-    pub(crate) rest: &'a [u8],
+/// How a reader gives a text.
+#[derive(Clone, Copy)]
+pub(crate) struct Gives {
     /// How many bytes it gives a read, at most.
     pub(crate) most: usize,
     /// How many reads go well before one fails.
     pub(crate) room: usize,
     /// Whether the reads after that one succeed again.
     pub(crate) once: bool,
-    /// How many reads there were.
-    pub(crate) reads: &'a mut u64,
+    /// How many reads are interrupted before each one that isn't.
+    pub(crate) interrupts: u32,
+}
+
+/// Gives a text, and counts the reads.
+#[derive(Drop)]
+pub(crate) struct Source<'a> {
+    // What it still has to give.
+    rest: &'a [u8],
+    gives: Gives,
+    // How many reads are interrupted before the next that isn't.
+    left: u32,
+    reads: &'a mut u64,
 }
 
 impl<'a> Source<'a> {
-    /// Gives a text at once.
-    pub(crate) fn of(rest: &'a [u8], reads: &'a mut u64) -> Self {
+    /// Gives this text.
+    pub(crate) fn new(rest: &'a [u8], gives: Gives, reads: &'a mut u64) -> Self {
         Source {
             rest,
-            most: usize::MAX,
-            room: usize::MAX,
-            once: false,
-            reads,
-        }
-    }
-
-    /// Gives a byte a read, and fails after `room` reads, for good or once.
-    pub(crate) fn dripping(rest: &'a [u8], room: usize, once: bool, reads: &'a mut u64) -> Self {
-        Source {
-            rest,
-            most: 1,
-            room,
-            once,
+            gives,
+            left: gives.interrupts,
             reads,
         }
     }
@@ -58,14 +55,19 @@ impl<'a> Source<'a> {
 impl Read for Source<'_> {
     fn read(&mut self, buffer: &mut [u8]) -> io::Result<usize> {
         *self.reads = self.reads.saturating_add(1);
-        if self.room == 0 {
-            if self.once {
-                self.room = usize::MAX;
+        if self.left > 0 {
+            self.left -= 1;
+            return Err(io::ErrorKind::Interrupted.into());
+        }
+        self.left = self.gives.interrupts;
+        if self.gives.room == 0 {
+            if self.gives.once {
+                self.gives.room = usize::MAX;
             }
             return Err(io::ErrorKind::Other.into());
         }
-        self.room -= 1;
-        Ok(give(&mut self.rest, buffer, self.most))
+        self.gives.room -= 1;
+        Ok(give(&mut self.rest, buffer, self.gives.most))
     }
 }
 
@@ -80,27 +82,36 @@ pub(crate) enum Then {
     FailsOnce,
 }
 
+/// How a writer takes bytes.
+#[derive(Clone, Copy)]
+pub(crate) struct Takes {
+    /// How many bytes it takes a write, at most.
+    pub(crate) most: usize,
+    /// For how many bytes it has room.
+    pub(crate) room: usize,
+    /// What it does then.
+    pub(crate) then: Then,
+    /// How many writes are interrupted before each one that isn't.
+    pub(crate) interrupts: u32,
+}
+
 /// Takes bytes.
 #[derive(Drop)]
 pub(crate) struct Sink<'a> {
-    /// What it has taken.
-    pub(crate) taken: &'a mut Vec<u8>,
-    /// For how many bytes it has room.
-    pub(crate) room: usize,
-    /// How many bytes it takes a write, at most.
-    pub(crate) most: usize,
-    /// What it does then.
-    pub(crate) then: Then,
+    // What it has taken.
+    taken: &'a mut Vec<u8>,
+    takes: Takes,
+    // How many writes are interrupted before the next that isn't.
+    left: u32,
 }
 
 impl<'a> Sink<'a> {
-    /// Takes all.
-    pub(crate) fn of(taken: &'a mut Vec<u8>) -> Self {
+    /// Takes bytes into this list.
+    pub(crate) fn new(taken: &'a mut Vec<u8>, takes: Takes) -> Self {
         Sink {
             taken,
-            room: usize::MAX,
-            most: usize::MAX,
-            then: Then::Fails,
+            takes,
+            left: takes.interrupts,
         }
     }
 
@@ -108,11 +119,11 @@ impl<'a> Sink<'a> {
     fn without_room(&mut self) -> io::Result<usize>
         ensures { IfOk result (λ count. count ≡ 0) }
     {
-        match self.then {
+        match self.takes.then {
             Then::Fails => Err(io::ErrorKind::Other.into()),
             Then::TakesNone => Ok(0),
             Then::FailsOnce => {
-                self.room = usize::MAX;
+                self.takes.room = usize::MAX;
                 Err(io::ErrorKind::Other.into())
             }
         }
@@ -124,18 +135,79 @@ impl Write for Sink<'_> {
         if bytes.is_empty() {
             return Ok(0);
         }
-        let count = bytes.len().min(self.room).min(self.most);
+        if self.left > 0 {
+            self.left -= 1;
+            return Err(io::ErrorKind::Interrupted.into());
+        }
+        self.left = self.takes.interrupts;
+        let count = bytes.len().min(self.takes.room).min(self.takes.most);
         if count == 0 {
             return self.without_room();
         }
         if self.taken.extend_from_slice(&bytes[..count]).is_err() {
             return Err(io::ErrorKind::Other.into());
         }
-        self.room -= count;
+        self.takes.room -= count;
         Ok(count)
     }
 
     fn flush(&mut self) -> io::Result<()> {
         Ok(())
     }
+}
+
+/// How the devices of a run give and take.
+#[derive(Clone, Copy)]
+pub(crate) struct Plan {
+    pub(crate) gives: Gives,
+    pub(crate) takes: Takes,
+    pub(crate) takes_errors: Takes,
+}
+
+// It takes all.
+const TAKES_ALL: Takes = Takes {
+    most: usize::MAX,
+    room: usize::MAX,
+    then: Then::Fails,
+    interrupts: 0,
+};
+
+/// They give and take all at once.
+pub(crate) const ALL: Plan = Plan {
+    gives: Gives {
+        most: usize::MAX,
+        room: usize::MAX,
+        once: false,
+        interrupts: 0,
+    },
+    takes: TAKES_ALL,
+    takes_errors: TAKES_ALL,
+};
+
+/// The reader gives a byte a read, and fails after `room` reads, for good or once.
+pub(crate) fn dripping(room: usize, once: bool) -> Plan {
+    let mut plan = ALL;
+    plan.gives.most = 1;
+    plan.gives.room = room;
+    plan.gives.once = once;
+    plan
+}
+
+/// The writer has room for so many bytes, and takes `most` a write.
+pub(crate) fn taking(room: usize, most: usize, then: Then) -> Plan {
+    let mut plan = ALL;
+    plan.takes.room = room;
+    plan.takes.most = most;
+    plan.takes.then = then;
+    plan
+}
+
+/// The reader gives a byte a read, the writers take three a write. Before each of these so many are interrupted, of the errors none.
+pub(crate) fn interrupted(reads: u32, writes: u32) -> Plan {
+    let mut plan = dripping(usize::MAX, false);
+    plan.gives.interrupts = reads;
+    plan.takes.most = 3;
+    plan.takes.interrupts = writes;
+    plan.takes_errors.most = 3;
+    plan
 }

@@ -1,5 +1,6 @@
 //! Help, whose text is the parser's.
-use crate::runs::{Ran, ended_with, run_text};
+use crate::fakes::ALL;
+use crate::runs::run_by;
 use std::alloc::Global;
 use std::sync::Wait;
 use std::thread::Threads;
@@ -21,26 +22,18 @@ const HELPS: [(&[&str], &str); 13] = [
     (&["bsp", "trace", "-h"], "trace"),
 ];
 
-// Returns true if a run that was asked for help says this.
-fn tells(left: &Ran, name: &str) -> bool {
-    if !ended_with(left, 0, b"") {
-        return false;
-    }
+// Returns true if a run with these words says this.
+fn tells<R: Threads + Wait + Sync>(rt: &R, alloc: Global, words: &[&str], name: &str) -> bool {
+    let left = run_by(rt, alloc, words, b"", ALL);
     match str::from_utf8(left.out.as_slice()) {
-        Ok(text) => text.contains(name),
+        Ok(text) => left.status == 0 && left.errors.is_empty() && text.contains(name),
         Err(_) => false,
     }
 }
 
-// Returns true if a run with these words says this.
-fn are_told<R: Threads + Wait + Sync>(rt: &R, alloc: Global, words: &[&str], name: &str) -> bool {
-    let left = run_text(rt, alloc, words, b"");
-    tells(&left, name)
-}
-
 #[test]
 fn help_names_what_the_command_line_takes(rt: HostRuntime) {
-    for (words, name) in HELPS {
-        assert!(rt; are_told(&rt, rt.alloc(), words, name));
+    for (words, name) in &HELPS {
+        assert!(rt; tells(&rt, rt.alloc(), words, name));
     }
 }

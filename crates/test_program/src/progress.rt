@@ -1,8 +1,6 @@
 //! What `run` reports of its progress, to a `Progress` of the test, and that workers share a job's segments.
-use crate::fakes::{Sink, Source};
-use crate::runs::SWAP;
-use bsp_cli::{Progress, WatchEnd, run_telling};
-use devices::{Reader, Writer};
+use crate::runs::{SWAP, status_of};
+use bsp_cli::{Progress, WatchEnd};
 use phase_records::JobStatus;
 use std::alloc::Global;
 use std::sync::Wait;
@@ -97,6 +95,18 @@ impl<'a> Progress for Counter<'a> {
     }
 }
 
+// The numbers of supersteps, tasks, segments that were left, ends, ends with the right status, and holds that were given up.
+fn seen(counts: &Counts) -> [u64; 6] {
+    [
+        of(&counts.supersteps),
+        of(&counts.tasks),
+        of(&counts.left),
+        of(&counts.ends),
+        of(&counts.ended),
+        of(&counts.gave_up),
+    ]
+}
+
 // Counts of nothing.
 fn nothing() -> Counts {
     Counts {
@@ -109,81 +119,42 @@ fn nothing() -> Counts {
     }
 }
 
-// Runs the program on two tasks that swap two cells, and returns the status.
-fn swapped<R: Threads + Wait + Sync>(
-    rt: &R,
-    alloc: Global,
-    words: &[&str],
-    counter: &Counter<'_>,
-) -> u8 {
-    let (mut out, mut errors) = (Vec::new(alloc), Vec::new(alloc));
-    let mut reads = 0;
-    run_telling(
-        rt,
-        alloc,
-        words,
-        &mut Reader::new(Source::of(SWAP.as_bytes(), &mut reads)),
-        &mut Writer::new(Sink::of(&mut out)),
-        &mut Writer::new(Sink::of(&mut errors)),
-        counter,
-    )
-}
+// The words of a command line, whether a task is held, and what is counted: supersteps and tasks on one thread, segments on several,
+// and ends.
+type Row = (&'static [&'static str], bool, [u64; 4]);
 
-// Returns true if the counts are these: supersteps and tasks on one thread, segments on several, and ends. Each run passes its
-// status on.
-fn are(counts: &Counts, supersteps: u64, tasks: u64, left: u64, ends: u64) -> bool {
-    of(&counts.supersteps) == supersteps
-        && of(&counts.tasks) == tasks
-        && of(&counts.left) == left
-        && of(&counts.ends) == ends
-        && of(&counts.ended) == 1
-        && of(&counts.gave_up) == 0
-}
-
-// Returns true if a run by these words reports this much.
+// Returns true if a run of two tasks that swap two cells succeeds and reports this much. Each run passes its status on.
 fn tells<R: Threads + Wait + Sync>(
     rt: &R,
     alloc: Global,
     words: &[&str],
     holds: bool,
-    want: (u64, u64, u64, u64),
+    [supersteps, tasks, left, ends]: [u64; 4],
 ) -> bool {
     let counts = nothing();
     let counter = Counter {
         counts: &counts,
         holds,
     };
-    swapped(rt, alloc, words, &counter) == 0 && are(&counts, want.0, want.1, want.2, want.3)
+    let status = status_of(rt, alloc, words, SWAP.as_bytes(), &counter);
+    status == 0 && seen(&counts) == [supersteps, tasks, left, ends, 1, 0]
 }
 
-// One worker reports two supersteps of two tasks each, and the end. Nothing is reported if no progress is asked for.
-#[test]
-fn progress_on_one_thread_is_told_of_each_superstep(rt: HostRuntime) {
-    assert!(rt;
-        tells(
-            &rt,
-            rt.alloc(),
-            &["bsp", "run", "--progress"],
-            false,
-            (2, 4, 0, 1)
-        )
-    );
-    assert!(rt; tells(&rt, rt.alloc(), &["bsp", "run"], false, (0, 0, 0, 0)));
-    assert!(rt;
-        tells(
-            &rt,
-            rt.alloc(),
-            &["bsp", "run", "--workers", "4"],
-            false,
-            (0, 0, 0, 0)
-        )
-    );
-}
+// One worker reports two supersteps of two tasks each, and the end. Nothing is reported if no progress is asked for. Four workers
+// report four segments and the end. One task waits until the other has left, so two threads work.
+const ROWS: [Row; 5] = [
+    (&["bsp", "run", "--progress"], false, [2, 4, 0, 1]),
+    (&["bsp", "run"], false, [0, 0, 0, 0]),
+    (&["bsp", "run", "--workers", "4"], false, [0, 0, 0, 0]),
+    (BY_FOUR, false, [0, 0, 4, 1]),
+    (BY_FOUR, true, [0, 0, 4, 1]),
+];
 
-// Four workers report four segments and the end. One task waits until the other has left, so two threads work.
+const BY_FOUR: &[&str] = &["bsp", "run", "--progress", "--workers", "4"];
+
 #[test]
-fn workers_that_are_asked_for_share_the_tasks(rt: HostRuntime) {
-    let words = ["bsp", "run", "--progress", "--workers", "4"];
-    assert!(rt; tells(&rt, rt.alloc(), &words, false, (0, 0, 4, 1)));
-    assert!(rt; tells(&rt, rt.alloc(), &words, true, (0, 0, 4, 1)));
+fn progress_is_told_of_each_superstep_or_segment(rt: HostRuntime) {
+    for (words, holds, want) in &ROWS {
+        assert!(rt; tells(&rt, rt.alloc(), words, *holds, *want));
+    }
 }

@@ -1,10 +1,8 @@
 //! Texts, and runs of the program on them.
-use crate::fakes::{Sink, Source, Then};
-use bsp_cli::run;
+use crate::fakes::{ALL, Plan, Sink, Source};
+use bsp_cli::{Progress, run, run_telling};
 use devices::{Reader, Writer};
 use std::alloc::Global;
-use std::io::{Read, Write};
-use std::process::Abort;
 use std::sync::Wait;
 use std::thread::Threads;
 
@@ -86,20 +84,18 @@ start sum 1
 ";
 
 /// Texts that each subcommand takes, after its name.
-pub(crate) fn texts() -> [(&'static str, &'static str); 10] {
-    [
-        ("trace", PHASER),
-        ("trace", IN_FLIGHT),
-        ("trace", BARRIER),
-        ("check", SWAP),
-        ("check", SUMS),
-        ("upgrade", SWAP),
-        ("upgrade", SUMS),
-        ("run", SWAP),
-        ("run", SPAWNS),
-        ("run", SUMS),
-    ]
-}
+pub(crate) const TEXTS: [(&str, &str); 10] = [
+    ("trace", PHASER),
+    ("trace", IN_FLIGHT),
+    ("trace", BARRIER),
+    ("check", SWAP),
+    ("check", SUMS),
+    ("upgrade", SWAP),
+    ("upgrade", SUMS),
+    ("run", SWAP),
+    ("run", SPAWNS),
+    ("run", SUMS),
+];
 
 /// What a run of the program left.
 #[derive(Drop)]
@@ -107,111 +103,90 @@ pub(crate) struct Ran {
     pub(crate) status: u8,
     pub(crate) out: Vec<u8>,
     pub(crate) errors: Vec<u8>,
+    /// How often it has read.
+    pub(crate) reads: u64,
 }
 
-/// Runs the program on these devices.
-pub(crate) fn run_with<
-    T: Threads + Wait + Sync,
-    R: Read + Drop,
-    W: Write + Drop + Send,
-    E: Write + Drop,
->(rt: &T, alloc: Global, words: &[&str], input: R, out: W, errors: E) -> u8 {
-    let mut reader = Reader::new(input);
-    let mut writer = Writer::new(out);
-    let mut error_writer = Writer::new(errors);
-    run(
-        rt,
-        alloc,
-        words,
-        &mut reader,
-        &mut writer,
-        &mut error_writer,
-    )
-}
-
-/// Runs the program on what a reader gives, with a writer of its output.
-pub(crate) fn run_into<T: Threads + Wait + Sync, R: Read + Drop>(
-    rt: &T,
-    alloc: Global,
-    words: &[&str],
-    input: R,
-    room: usize,
-    most: usize,
-    then: Then,
-) -> Ran {
-    let mut out = Vec::new(alloc);
-    let mut errors = Vec::new(alloc);
-    let writer = Sink {
-        taken: &mut out,
-        room,
-        most,
-        then,
-    };
-    let status = run_with(rt, alloc, words, input, writer, Sink::of(&mut errors));
-    Ran {
-        status,
-        out,
-        errors,
-    }
-}
-
-/// Runs the program on what a reader gives.
-pub(crate) fn run_on<T: Threads + Wait + Sync, R: Read + Drop>(
-    rt: &T,
-    alloc: Global,
-    words: &[&str],
-    input: R,
-) -> Ran {
-    run_into(rt, alloc, words, input, usize::MAX, usize::MAX, Then::Fails)
-}
-
-/// Runs the program on a text.
-pub(crate) fn run_text<T: Threads + Wait + Sync>(
+/// Runs the program on a text, by devices of this plan.
+pub(crate) fn run_by<T: Threads + Wait + Sync>(
     rt: &T,
     alloc: Global,
     words: &[&str],
     text: &[u8],
+    plan: Plan,
 ) -> Ran {
+    let (mut out, mut errors) = (Vec::new(alloc), Vec::new(alloc));
     let mut reads = 0;
-    run_on(rt, alloc, words, Source::of(text, &mut reads))
+    let status = run(
+        rt,
+        alloc,
+        words,
+        &mut Reader::new(Source::new(text, plan.gives, &mut reads)),
+        &mut Writer::new(Sink::new(&mut out, plan.takes)),
+        &mut Writer::new(Sink::new(&mut errors, plan.takes_errors)),
+    );
+    Ran {
+        status,
+        out,
+        errors,
+        reads,
+    }
 }
 
-// A run that ended with status 0.
-fn has_ended(rt: &impl Abort, left: &Ran) {
-    assert!(rt; left.status == 0);
+/// Runs the program on a text with this progress, and returns the status.
+pub(crate) fn status_of<T: Threads + Wait + Sync, P: Progress + Sync>(
+    rt: &T,
+    alloc: Global,
+    words: &[&str],
+    text: &[u8],
+    progress: &P,
+) -> u8 {
+    let (mut out, mut errors) = (Vec::new(alloc), Vec::new(alloc));
+    let mut reads = 0;
+    run_telling(
+        rt,
+        alloc,
+        words,
+        &mut Reader::new(Source::new(text, ALL.gives, &mut reads)),
+        &mut Writer::new(Sink::new(&mut out, ALL.takes)),
+        &mut Writer::new(Sink::new(&mut errors, ALL.takes_errors)),
+        progress,
+    )
 }
 
-/// Runs the program on a text, and sees that it takes it.
-pub(crate) fn whole_of<T: Abort + Threads + Wait + Sync>(
+/// Returns true if a run by devices of this plan leaves this status, output and errors.
+pub(crate) fn leaves<T: Threads + Wait + Sync>(
+    rt: &T,
+    alloc: Global,
+    words: &[&str],
+    text: &[u8],
+    plan: Plan,
+    want: (u8, &[u8], &[u8]),
+) -> bool {
+    let left = run_by(rt, alloc, words, text, plan);
+    left.status == want.0 && left.out.as_slice() == want.1 && left.errors.as_slice() == want.2
+}
+
+/// Returns true if runs by devices of these plans succeed, and leave what a run does whose devices give and take all at once.
+pub(crate) fn leave_all<T: Threads + Wait + Sync>(
     rt: &T,
     alloc: Global,
     words: &[&str],
     text: &str,
-) -> Vec<u8> {
-    let left = run_text(rt, alloc, words, text.as_bytes());
-    has_ended(rt, &left);
-    left.out
-}
-
-// Returns true if the bytes are these.
-fn are_bytes(bytes: &[u8], want: &[u8]) -> bool {
-    bytes == want
-}
-
-/// Returns true if a run ended with this status, and printed these errors.
-pub(crate) fn ended_with(left: &Ran, status: u8, errors: &[u8]) -> bool {
-    left.status == status && are_bytes(left.errors.as_slice(), errors)
-}
-
-/// Checks that a run left this.
-pub(crate) fn has_left(
-    rt: &impl Abort,
-    left: &Ran,
-    status: u8,
-    out: &[u8],
-    errors: &[u8],
-    at: usize,
-) {
-    let is_this = are_bytes(left.out.as_slice(), out) && ended_with(left, status, errors);
-    assert!(rt; is_this, "{at}");
+    plans: &[Plan],
+) -> bool {
+    let whole = run_by(rt, alloc, words, text.as_bytes(), ALL);
+    for plan in plans {
+        if !leaves(
+            rt,
+            alloc,
+            words,
+            text.as_bytes(),
+            *plan,
+            (0, &whole.out, b""),
+        ) {
+            return false;
+        }
+    }
+    whole.status == 0
 }

@@ -1,7 +1,6 @@
 //! What `--progress` prints, by a clock of the test: a line a second, however many supersteps end in it.
-use crate::fakes::{Sink, Source};
-use bsp_cli::{Seen, Teller, run_telling};
-use devices::{Reader, Writer};
+use crate::runs::status_of;
+use bsp_cli::{Seen, Teller};
 use std::alloc::Global;
 use std::fmt::Display;
 use std::io;
@@ -84,26 +83,6 @@ superstep 899, 1 tasks, 9 s
 superstep 999, 1 tasks, 10 s
 ";
 
-// Runs the program on the task that goes on for ever, and returns the status.
-fn watched<R: Threads + Wait + Sync>(
-    rt: &R,
-    alloc: Global,
-    words: &[&str],
-    teller: &Teller<'_, Desk<'_, R>>,
-) -> u8 {
-    let (mut out, mut errors) = (Vec::new(alloc), Vec::new(alloc));
-    let mut reads = 0;
-    run_telling(
-        rt,
-        alloc,
-        words,
-        &mut Reader::new(Source::of(ENDLESS.as_bytes(), &mut reads)),
-        &mut Writer::new(Sink::of(&mut out)),
-        &mut Writer::new(Sink::of(&mut errors)),
-        teller,
-    )
-}
-
 // Returns true if a run by these words prints this of its progress, and ends at its limit.
 fn prints<R: Threads + Wait + Sync>(rt: &R, alloc: Global, words: &[&str], want: &str) -> bool {
     let desk = Desk {
@@ -113,19 +92,17 @@ fn prints<R: Threads + Wait + Sync>(rt: &R, alloc: Global, words: &[&str], want:
         printed: Mutex::new(Vec::new(alloc)),
     };
     let seen = Seen::new();
-    let status = watched(rt, alloc, words, &Teller::new(&desk, &seen));
+    let teller = Teller::new(&desk, &seen);
+    let status = status_of(rt, alloc, words, ENDLESS.as_bytes(), &teller);
     let printed = desk.printed.lock(rt);
     status == 3 && printed.as_slice() == want.as_bytes()
 }
 
 // On one thread, by supersteps that are written as they end, and on two workers.
-#[test]
-fn progress_is_a_line_a_second(rt: HostRuntime) {
-    let words = ["bsp", "run", "--progress", "--limit", "1000"];
-    assert!(rt; prints(&rt, rt.alloc(), &words, TOLD));
-    let words = ["bsp", "run", "--progress", "--limit", "1000", "--stream"];
-    assert!(rt; prints(&rt, rt.alloc(), &words, TOLD));
-    let words = [
+const WORDS: [&[&str]; 3] = [
+    &["bsp", "run", "--progress", "--limit", "1000"],
+    &["bsp", "run", "--progress", "--limit", "1000", "--stream"],
+    &[
         "bsp",
         "run",
         "--progress",
@@ -133,6 +110,12 @@ fn progress_is_a_line_a_second(rt: HostRuntime) {
         "1000",
         "--workers",
         "2",
-    ];
-    assert!(rt; prints(&rt, rt.alloc(), &words, TOLD));
+    ],
+];
+
+#[test]
+fn progress_is_a_line_a_second(rt: HostRuntime) {
+    for words in &WORDS {
+        assert!(rt; prints(&rt, rt.alloc(), words, TOLD));
+    }
 }

@@ -1,23 +1,10 @@
 //! What the closure that ends the tree gets.
-use crate::left::job_of;
-use crate::pool::fixtures::{SPAWNS, SWAP, left_by};
+use crate::pool::fixtures::{End, SPAWNS, SWAP, run_text};
 use std::alloc::Global;
 use std::sync::Wait;
 use std::sync::atomic::{AtomicU64, Ordering};
 use std::thread::Threads;
-use task_code::job::Job;
 use worker_pool::{AllStart, OpenGate};
-
-// Returns the sum of what the closure gets in a run with two workers, or 0 if the run is refused.
-fn sum_in<R: Threads + Wait + Sync>(rt: &R, alloc: Global, job: &Job, widths: &str) -> u64 {
-    let sum = AtomicU64::new(0);
-    match left_by(
-        rt, alloc, job, widths, 2, 1000000, &OpenGate, &AllStart, &sum,
-    ) {
-        Ok(_) => sum.load(Ordering::SeqCst),
-        Err(_) => 0,
-    }
-}
 
 // A task that spawns one.
 const SPAWNS_ONE: &str = "bsp 1
@@ -40,23 +27,16 @@ const SUMS: [(&str, &str, u64); 4] = [
     (SPAWNS_ONE, "2", 2001002),
 ];
 
-// Returns true if this is the sum in a run of the job of this text.
-fn has_sum<R: Threads + Wait + Sync>(
-    rt: &R,
-    alloc: Global,
-    text: &str,
-    widths: &str,
-    want: u64,
-) -> bool {
-    match job_of(alloc, text) {
-        Ok(job) => sum_in(rt, alloc, &job, widths) == want,
-        Err(_) => false,
-    }
+// Returns how a run with two workers ended, and the sum of what the closure got.
+fn sum_in<R: Threads + Wait + Sync>(rt: &R, alloc: Global, text: &str, widths: &str) -> (End, u64) {
+    let sum = AtomicU64::new(0);
+    let end = run_text(rt, alloc, text, widths, 2, &OpenGate, &AllStart, &sum);
+    (end, sum.load(Ordering::SeqCst))
 }
 
 #[test]
 fn the_closure_gets_phases_and_parties_of_the_root(rt: HostRuntime) {
     for (text, widths, want) in &SUMS {
-        assert!(rt; has_sum(&rt, rt.alloc(), text, widths, *want));
+        assert!(rt; sum_in(&rt, rt.alloc(), text, widths) == (End::Ended(2), *want));
     }
 }

@@ -1,8 +1,9 @@
 //! Jobs run on worker threads.
 ghost use Rattle.std.specs.Prelude.{◌≤◌};
 
+use crate::left::job_of;
 use advance_rule::{EndPlan, StoredAdvance};
-use phase_records::Report;
+use phase_records::{JobStatus, Report};
 use std::alloc::Global;
 use std::sync::Wait;
 use std::sync::atomic::{AtomicU64, Ordering};
@@ -146,5 +147,47 @@ pub(crate) fn left_by<R: Threads + Wait + Sync, G: Gate + Sync, S: Starter>(
             sum,
         ),
         Err(_) => Err(Refused::Internal),
+    }
+}
+
+/// How a run ended.
+#[derive(Clone, Copy, PartialEq, Eq)]
+pub(crate) enum End {
+    /// After this many supersteps.
+    Ended(u32),
+    /// With a fault or at the limit, or the run is refused.
+    Otherwise,
+    /// The worker of this number couldn't be started.
+    NotStarted(u32),
+}
+
+// Returns how a run ended.
+fn end_of(ran: &Result<Report, Refused>) -> End {
+    match ran {
+        Ok(report) => match report.status {
+            JobStatus::Ended(steps) => End::Ended(steps),
+            _ => End::Otherwise,
+        },
+        Err(Refused::NotStarted(k)) => End::NotStarted(*k),
+        Err(_) => End::Otherwise,
+    }
+}
+
+/// Runs the job of a text on workers, on a tree of these widths, and returns how the run ended.
+pub(crate) fn run_text<R: Threads + Wait + Sync, G: Gate + Sync, S: Starter>(
+    rt: &R,
+    alloc: Global,
+    text: &str,
+    widths: &str,
+    workers: u32,
+    gate: &G,
+    starter: &S,
+    sum: &AtomicU64,
+) -> End {
+    match job_of(alloc, text) {
+        Ok(job) => end_of(&left_by(
+            rt, alloc, &job, widths, workers, 1000000, gate, starter, sum,
+        )),
+        Err(_) => End::Otherwise,
     }
 }

@@ -5,78 +5,77 @@ ghost use Rattle.advance_rule.specs.Action.{AnswersAction};
 use advance_rule::StoredAction;
 use cyclic_gate::{AwaitedStep, BarrierCore, BarrierFault, CyclicGate, GateFault};
 use std::alloc::AllocError;
-use std::process::Abort;
 use std::sync::Wait;
 use std::test::Fail;
 use std::thread;
 use std::thread::Threads;
 
-// Looks at a barrier: this many wait, in this generation, and it isn't broken.
+// Returns true if this many wait at a barrier, in this generation, and it isn't broken.
 fn is_as_it_was<F: Fn(u64) -> bool>(
-    rt: &impl Abort,
     core: &BarrierCore<F>,
     waiting: usize,
     generation: u64,
-) {
-    let is_same = core.waiting() == waiting && core.generation() == generation;
-    assert!(rt; is_same && !core.is_broken());
+) -> bool {
+    core.waiting() == waiting && core.generation() == generation && !core.is_broken()
 }
 
-// Looks at an answer: the caller waits, or three go on.
-fn is_waiting_or_tripped(
-    rt: &impl Abort,
-    awaited: &Result<AwaitedStep, BarrierFault>,
-    is_same: bool,
-) {
+// Returns true if the caller waits, or three go on.
+fn is_waiting_or_tripped(awaited: &Result<AwaitedStep, BarrierFault>, is_same: bool) -> bool {
     match awaited {
-        Ok(AwaitedStep::Waits(_)) => assert!(rt; is_same),
-        Ok(AwaitedStep::Tripped(all)) => assert_eq!(rt; all.len(), 3),
-        _ => panic!(rt; "neither waits nor trips"),
+        Ok(AwaitedStep::Waits(_)) => is_same,
+        Ok(AwaitedStep::Tripped(all)) => all.len() == 3,
+        _ => false,
     }
 }
 
-// A caller comes while others wait, and comes again if there was no memory.
-fn comes<F: Fn(u64) -> bool>(rt: &impl Abort, core: &mut BarrierCore<F>, caller: u32)
+// A caller comes while others wait, and comes again if there was no memory. Returns true if the barrier is as before in between, and
+// the caller waits or three go on.
+fn comes<F: Fn(u64) -> bool>(core: &mut BarrierCore<F>, caller: u32) -> bool
     requires rule { AnswersAction (F.pre core.old.action.closure) (F.post core.old.action.closure) core.old.action.plan }
     ensures rule { core.new.action ≡ core.old.action }
 {
     let (waiting, generation) = (core.waiting(), core.generation());
     let mut awaited = core.await_step(caller);
     if matches!(awaited, Err(BarrierFault::Memory)) {
-        is_as_it_was(rt, core, waiting, generation);
+        if !is_as_it_was(core, waiting, generation) {
+            return false;
+        }
         awaited = core.await_step(caller);
     }
-    is_waiting_or_tripped(rt, &awaited, core.generation() == generation);
+    is_waiting_or_tripped(&awaited, core.generation() == generation)
 }
 
-// Nine callers come, in three generations.
-fn all_come<F: Fn(u64) -> bool>(rt: &impl Abort, core: &mut BarrierCore<F>)
+// Returns true if nine callers come, in three generations.
+fn all_come<F: Fn(u64) -> bool>(core: &mut BarrierCore<F>) -> bool
     requires rule { AnswersAction (F.pre core.old.action.closure) (F.post core.old.action.closure) core.old.action.plan }
 {
     for caller in 0..9 {
-        comes(rt, core, caller);
+        if !comes(core, caller) {
+            return false;
+        }
     }
-    is_as_it_was(rt, core, 0, 3);
+    is_as_it_was(core, 0, 3)
 }
 
 #[test]
 fn callers_come_to_a_barrier(rt: HostRuntime) -> Result<(), Fail> {
     let action = StoredAction::new(|_generation: u64| false, None);
     let mut core = BarrierCore::new(rt.alloc(), 3, action)?;
-    all_come(&rt, &mut core);
+    assert!(rt; all_come(&mut core));
     Ok(())
 }
 
-// Lets the one caller of a gate come, and again if there was no memory.
-fn turns<R: Wait + Abort, F: Fn(u64) -> bool>(rt: &R, gate: &CyclicGate<F>)
+// Lets the one caller of a gate come, and again if there was no memory and it doesn't wait. Returns what it gets.
+fn turns<R: Wait, F: Fn(u64) -> bool>(rt: &R, gate: &CyclicGate<F>) -> Result<u32, GateFault>
     requires { AnswersAction (F.pre gate.now.action.closure) (F.post gate.now.action.closure) gate.now.action.plan }
 {
-    let mut turn = gate.await_turn(rt, 0);
-    if turn == Err(GateFault::Memory) {
-        assert!(rt; matches!(gate.abandon(rt, 0), Err(BarrierFault::NotWaiting)));
-        turn = gate.await_turn(rt, 0);
+    let turn = gate.await_turn(rt, 0);
+    if turn == Err(GateFault::Memory)
+        && matches!(gate.abandon(rt, 0), Err(BarrierFault::NotWaiting))
+    {
+        return gate.await_turn(rt, 0);
     }
-    assert!(rt; turn == Ok(0));
+    turn
 }
 
 #[test]
@@ -84,7 +83,7 @@ fn a_caller_comes_to_a_gate(rt: HostRuntime) -> Result<(), Fail> {
     let action = StoredAction::new(|_generation: u64| false, None);
     let gate = CyclicGate::new(rt.alloc(), 1, action)?;
     for _ in 0..9 {
-        turns(&rt, &gate);
+        assert!(rt; turns(&rt, &gate) == Ok(0));
     }
     Ok(())
 }

@@ -7,21 +7,7 @@ use std::alloc::{AllocError, Global};
 use task_code::job::Job;
 use tier_shape::Shape;
 
-// Returns the answers of a job to these steps, on a tree of this shape. There are none if the limit is out of its range.
-fn drive(
-    alloc: Global,
-    job: &Job,
-    shape: Shape,
-    limit: u32,
-    steps: &[JobStep],
-) -> Result<Vec<Answer>, AllocError> {
-    if limit == 0 || limit > 1000000 {
-        return Ok(Vec::new(alloc));
-    }
-    drive_job(alloc, job, shape, limit, steps)
-}
-
-// Returns the answers of a job to these steps, on a tree of these widths, if there are any.
+// Returns the answers of a job to these steps, on a tree of these widths. There are none if the limit is out of its range.
 pub(crate) fn answers_of(
     alloc: Global,
     job: &Job,
@@ -29,8 +15,11 @@ pub(crate) fn answers_of(
     limit: u32,
     steps: &[JobStep],
 ) -> Result<Vec<Answer>, AllocError> {
+    if limit == 0 || limit > 1000000 {
+        return Ok(Vec::new(alloc));
+    }
     match Shape::from_widths(alloc, widths) {
-        Ok(shape) => drive(alloc, job, shape, limit, steps),
+        Ok(shape) => drive_job(alloc, job, shape, limit, steps),
         Err(_) => Ok(Vec::new(alloc)),
     }
 }
@@ -80,14 +69,6 @@ pub(crate) fn add_tries(
     Ok(())
 }
 
-// Returns true if these answers finish a job once, with what one thread leaves.
-fn are_as_alone(alloc: Global, job: &Job, limit: u32, answers: &[Answer]) -> bool {
-    match finished(answers) {
-        Some(report) => is_left_alone(alloc, job, limit, report),
-        None => false,
-    }
-}
-
 // Returns true if this schedule leaves what one thread leaves, and finishes the job once.
 pub(crate) fn is_as_alone(
     alloc: Global,
@@ -96,8 +77,11 @@ pub(crate) fn is_as_alone(
     limit: u32,
     steps: &[JobStep],
 ) -> bool {
-    match answers_of(alloc, job, widths, limit, steps) {
-        Ok(answers) => are_as_alone(alloc, job, limit, &answers),
-        Err(_) => false,
+    let Ok(answers) = answers_of(alloc, job, widths, limit, steps) else {
+        return false;
+    };
+    match finished(&answers) {
+        Some(report) => is_left_alone(alloc, job, limit, report),
+        None => false,
     }
 }

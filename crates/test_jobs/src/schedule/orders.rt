@@ -4,7 +4,6 @@ use crate::schedule::fixtures::{add_tries, is_as_alone};
 use job_schedule::step::JobStep;
 use std::alloc::{AllocError, Global};
 use std::process::Abort;
-use task_code::job::Job;
 
 const SWAP: &str =
     "bsp 1\narray a 2 10 20\nbody swap\nlet other = 1 - arg\nput a[arg] = a[other]\nsync\nprint a[arg]\nend\nstart swap 0\nstart swap 1\n";
@@ -40,39 +39,37 @@ fn tries_of(alloc: Global, workers: usize, tries: usize) -> Result<Vec<JobStep>,
     Ok(steps)
 }
 
-// Returns true if these steps leave of a job what one thread leaves, on both trees.
-fn leave_the_same(alloc: Global, job: &Job, limit: u32, steps: &[JobStep]) -> bool {
-    is_as_alone(alloc, job, "flat", limit, steps) && is_as_alone(alloc, job, "2x3", limit, steps)
-}
-
-// Returns true if `tries` tries of workers in turn do so.
-fn tries_leave_the_same(
+// Returns true if `tries` tries of workers in turn leave of the job of this text what one thread leaves, on a tree of these widths.
+fn is_so(
     alloc: Global,
-    job: &Job,
+    text: &str,
     limit: u32,
+    widths: &str,
     workers: usize,
     tries: usize,
 ) -> bool {
+    let Ok(job) = job_of(alloc, text) else {
+        return false;
+    };
     match tries_of(alloc, workers, tries) {
-        Ok(steps) => leave_the_same(alloc, job, limit, &steps),
+        Ok(steps) => is_as_alone(alloc, &job, widths, limit, &steps),
         Err(_) => false,
     }
 }
 
-// Returns true if 400 turns of one worker do so, and 200 of each of eight.
-fn is_so(alloc: Global, text: &str, limit: u32) -> bool {
-    match job_of(alloc, text) {
-        Ok(job) => {
-            tries_leave_the_same(alloc, &job, limit, 1, 2000)
-                && tries_leave_the_same(alloc, &job, limit, 8, 8000)
-        }
-        Err(_) => false,
-    }
-}
+// The widths of each tree, and how many tries the workers make: 400 turns of one worker, and 200 of each of eight.
+const CREWS: [(&str, usize, usize); 4] = [
+    ("flat", 1, 2000),
+    ("2x3", 1, 2000),
+    ("flat", 8, 8000),
+    ("2x3", 8, 8000),
+];
 
 #[test]
 fn written_orders_leave_the_same(rt: HostRuntime) {
     for (text, limit) in &JOBS {
-        assert!(rt; is_so(rt.alloc(), text, *limit));
+        for (widths, workers, tries) in &CREWS {
+            assert!(rt; is_so(rt.alloc(), text, *limit, widths, *workers, *tries));
+        }
     }
 }

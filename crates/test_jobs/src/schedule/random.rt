@@ -91,20 +91,15 @@ fn all_leave_the_same(alloc: Global, job: &Job, number: u32) -> bool {
     true
 }
 
-// Returns true if they do so with the job of this text.
-fn is_so(alloc: Global, text: &str, number: u32) -> bool {
-    match job_of(alloc, text) {
-        Ok(job) => all_leave_the_same(alloc, &job, number),
-        Err(_) => false,
-    }
-}
-
 // Returns true if they do so with the random job of up to four start tasks by the numbers after this.
 fn is_so_by(alloc: Global, number: u32) -> bool {
     let first = next(number);
     let starts = below(first, 5);
-    match text_of(alloc, starts, first) {
-        Ok(text) => is_so(alloc, text.as_str(), skip(first, starts)),
+    let Ok(text) = text_of(alloc, starts, first) else {
+        return false;
+    };
+    match job_of(alloc, text.as_str()) {
+        Ok(job) => all_leave_the_same(alloc, &job, skip(first, starts)),
         Err(_) => false,
     }
 }

@@ -4,7 +4,6 @@ use crate::schedule::fixtures::answers_of;
 use job_schedule::step::{Answer, JobStep};
 use std::alloc::{AllocError, Global};
 use std::process::Abort;
-use task_code::job::Job;
 use tier_core::call::Played;
 
 // An answer, without what it carries except for the tree's.
@@ -121,33 +120,19 @@ fn steps_of(alloc: Global, rows: &[Row]) -> Result<Vec<JobStep>, AllocError> {
     Ok(steps)
 }
 
-// Returns true if a job's steps are answered as these rows say.
-fn answers_so(alloc: Global, job: &Job, widths: &str, rows: &[Row], steps: &[JobStep]) -> bool {
-    match answers_of(alloc, job, widths, 10, steps) {
-        Ok(answers) => are_told(&answers, rows),
-        Err(_) => false,
-    }
-}
-
-// Returns true if the steps of these rows are answered so.
-fn plays_so(alloc: Global, job: &Job, widths: &str, rows: &[Row]) -> bool {
-    match steps_of(alloc, rows) {
-        Ok(steps) => answers_so(alloc, job, widths, rows, &steps),
-        Err(_) => false,
-    }
-}
-
-// Returns true if those of the job of this text are answered so.
-fn is_so(alloc: Global, text: &str, widths: &str, rows: &[Row]) -> bool {
-    match job_of(alloc, text) {
-        Ok(job) => plays_so(alloc, &job, widths, rows),
-        Err(_) => false,
-    }
+// Returns true if the steps of these rows are answered so, by the job of this text.
+fn is_so(alloc: Global, text: &str, widths: &str, rows: &[Row]) -> Result<bool, AllocError> {
+    let Ok(job) = job_of(alloc, text) else {
+        return Ok(false);
+    };
+    let steps = steps_of(alloc, rows)?;
+    let answers = answers_of(alloc, &job, widths, 10, &steps)?;
+    Ok(are_told(&answers, rows))
 }
 
 #[test]
 fn workers_are_answered_as_the_rows_say(rt: HostRuntime) {
     for (text, widths, rows) in &RUNS {
-        assert!(rt; is_so(rt.alloc(), text, widths, rows));
+        assert!(rt; matches!(is_so(rt.alloc(), text, widths, rows), Ok(true)));
     }
 }

@@ -55,7 +55,7 @@ fn answer_to<'j>(
 }
 
 // Returns true if calls made one after another get these answers.
-fn plays_so<'j>(
+pub(crate) fn plays_so<'j>(
     alloc: Global,
     round: &mut Round<'j>,
     job: &'j Job,
@@ -68,20 +68,4 @@ fn plays_so<'j>(
         right = right && answer_to(alloc, round, job, other, &mut kept, *call) == *want;
     }
     right
-}
-
-// Returns true if a round of this job answers so, within three supersteps.
-pub(crate) fn answers_so<'j>(
-    alloc: Global,
-    job: &'j Job,
-    other: &'j Job,
-    calls: &[(Move, Answer)],
-) -> bool {
-    match Round::new(alloc, job, 3) {
-        Ok(round) => {
-            let mut round = round;
-            plays_so(alloc, &mut round, job, other, calls)
-        }
-        Err(_) => false,
-    }
 }

@@ -33,32 +33,16 @@ pub(crate) enum Answer {
     Is(bool),
 }
 
-// Returns how a job has ended.
-fn told(status: &JobStatus) -> Answer {
-    match status {
-        JobStatus::Ended(step) => Answer::Ended(*step),
-        JobStatus::Fault { code, step, .. } => Answer::Fault(*code, *step),
-        JobStatus::Limit(step) => Answer::Limit(*step),
-    }
-}
-
 // Returns how a job has ended, if it has.
 pub(crate) fn status_of(round: &Round<'_>) -> Answer {
     if !round.has_ended() {
         return Answer::Running;
     }
     match round.status() {
-        Some(status) => told(&status),
+        Some(JobStatus::Ended(step)) => Answer::Ended(step),
+        Some(JobStatus::Fault { code, step, .. }) => Answer::Fault(code, step),
+        Some(JobStatus::Limit(step)) => Answer::Limit(step),
         None => Answer::Running,
-    }
-}
-
-// Returns why a delivery is refused.
-fn refused(fault: AcceptFault) -> Answer {
-    match fault {
-        AcceptFault::WrongStep => Answer::WrongStep,
-        AcceptFault::Stranger => Answer::Stranger,
-        AcceptFault::Double => Answer::Double,
     }
 }
 
@@ -69,7 +53,9 @@ fn accept<'j>(round: &mut Round<'j>, delivery: Delivery<'j>) -> Answer {
     }
     match round.accept(delivery) {
         Ok(()) => Answer::Taken,
-        Err(fault) => refused(fault),
+        Err(AcceptFault::WrongStep) => Answer::WrongStep,
+        Err(AcceptFault::Stranger) => Answer::Stranger,
+        Err(AcceptFault::Double) => Answer::Double,
     }
 }
 
@@ -96,16 +82,6 @@ pub(crate) fn deliver(alloc: Global, round: &mut Round<'_>, path: &[u16]) -> Ans
     }
 }
 
-// Returns how a round was closed.
-fn closed(outcome: Outcome) -> Answer {
-    match outcome {
-        Outcome::Landed => Answer::Landed,
-        Outcome::Faulted => Answer::Faulted,
-        Outcome::TooMany => Answer::TooMany,
-        Outcome::Overflowed => Answer::Overflowed,
-    }
-}
-
 // Returns why a round wasn't closed.
 fn not_closed(fault: &CloseFault) -> Answer {
     match fault {
@@ -123,7 +99,10 @@ pub(crate) fn close(alloc: Global, round: &mut Round<'_>) -> Answer {
         return Answer::NoOrder;
     }
     match round.close_round(alloc) {
-        Ok(outcome) => closed(outcome),
+        Ok(Outcome::Landed) => Answer::Landed,
+        Ok(Outcome::Faulted) => Answer::Faulted,
+        Ok(Outcome::TooMany) => Answer::TooMany,
+        Ok(Outcome::Overflowed) => Answer::Overflowed,
         Err(fault) => not_closed(&fault),
     }
 }

@@ -1,10 +1,10 @@
 //! A round's deliveries in any order, what it answers and refuses, and what it says of itself.
 use crate::left::job_of;
-use crate::step::calls::{Move, answers_so};
+use crate::step::calls::{Move, plays_so};
 use crate::step::hands::Answer;
 use std::alloc::Global;
 use std::process::Abort;
-use task_code::job::Job;
+use step_core::Round;
 
 // Tasks that put to one cell, print and spawn.
 const SPAWNS: &str =
@@ -83,18 +83,19 @@ const ROUNDS: [(&str, &str, &[Row]); 6] = [
     (TWO, ONE, &WHAT_IT_IS),
 ];
 
-// Returns true if the round of a job answers so beside the job of this text.
-fn answers_beside(alloc: Global, job: &Job, other: &str, calls: &[Row]) -> bool {
-    match job_of(alloc, other) {
-        Ok(other) => answers_so(alloc, job, &other, calls),
-        Err(_) => false,
-    }
-}
-
-// Returns true if the round of the job of this text does so.
+// Returns true if the round of the job of this text answers so beside another job, within three supersteps.
 fn is_so(alloc: Global, text: &str, other: &str, calls: &[Row]) -> bool {
-    match job_of(alloc, text) {
-        Ok(job) => answers_beside(alloc, &job, other, calls),
+    let Ok(job) = job_of(alloc, text) else {
+        return false;
+    };
+    let Ok(other) = job_of(alloc, other) else {
+        return false;
+    };
+    match Round::new(alloc, &job, 3) {
+        Ok(round) => {
+            let mut round = round;
+            plays_so(alloc, &mut round, &job, &other, calls)
+        }
         Err(_) => false,
     }
 }

@@ -16,26 +16,6 @@ fn turn(live: &mut Vec<Path>, first: usize, forwards: bool) {
     live.rotate_left(first.min(count));
 }
 
-// Hands in the deliveries of these tasks.
-fn deliver_all(alloc: Global, round: &mut Round<'_>, live: &[Path]) {
-    for path in live {
-        deliver(alloc, round, path.as_slice());
-    }
-}
-
-// Hands in the deliveries of these tasks in such an order, and closes the round.
-fn deliver_and_close(
-    alloc: Global,
-    round: &mut Round<'_>,
-    live: &mut Vec<Path>,
-    first: usize,
-    forwards: bool,
-) -> Answer {
-    turn(live, first, forwards);
-    deliver_all(alloc, round, live);
-    close(alloc, round)
-}
-
 // Hands in the deliveries of all live tasks in such an order, and closes the round.
 pub(crate) fn superstep_from(
     alloc: Global,
@@ -43,13 +23,15 @@ pub(crate) fn superstep_from(
     first: usize,
     forwards: bool,
 ) -> Answer {
-    match round.live(alloc) {
-        Ok(paths) => {
-            let mut live = paths;
-            deliver_and_close(alloc, round, &mut live, first, forwards)
-        }
-        Err(_) => Answer::NoMemory,
+    let Ok(paths) = round.live(alloc) else {
+        return Answer::NoMemory;
+    };
+    let mut live = paths;
+    turn(&mut live, first, forwards);
+    for path in &live {
+        deliver(alloc, round, path.as_slice());
     }
+    close(alloc, round)
 }
 
 // Returns true if a round has ended with the report that its job leaves on one thread within three supersteps.

@@ -3,7 +3,6 @@ use crate::left::job_of;
 use std::alloc::Global;
 use step_core::{Watch, run_watched};
 use superstep_memory::arrays::Arrays;
-use task_code::job::Job;
 
 // A task that spawns two.
 const SPAWNS: &str = "bsp 1
@@ -62,30 +61,32 @@ fn are(notes: &Notes, want: &[(u32, usize)]) -> bool {
     same
 }
 
-// Returns true if a run of this job within three supersteps makes these calls.
-fn makes_calls(alloc: Global, job: &Job, want: &[(u32, usize)]) -> bool {
+// Returns true if a run of the job of this text within three supersteps makes these calls.
+fn makes_calls(alloc: Global, text: &str, want: &[(u32, usize)]) -> bool {
+    let Ok(job) = job_of(alloc, text) else {
+        return false;
+    };
     let mut notes = Notes {
         calls: [(0, 0); 8],
         count: 0,
     };
-    match run_watched(alloc, job, 3, &mut notes) {
+    match run_watched(alloc, &job, 3, &mut notes) {
         Ok(_) => are(&notes, want),
         Err(_) => false,
     }
 }
 
-// Returns true if a run of the job of this text does so.
-fn text_makes_calls(alloc: Global, text: &str, want: &[(u32, usize)]) -> bool {
-    match job_of(alloc, text) {
-        Ok(job) => makes_calls(alloc, &job, want),
-        Err(_) => false,
-    }
-}
+// Jobs, and the calls of their watchers.
+const ROWS: [(&str, &[(u32, usize)]); 4] = [
+    (SPAWNS, &[(0, 1), (1, 3)]),
+    (FAULTS, &[(0, 1), (1, 1)]),
+    (FOREVER, &[(0, 2), (1, 2), (2, 2)]),
+    ("bsp 1\n", &[]),
+];
 
 #[test]
 fn each_superstep_is_watched_once(rt: HostRuntime) {
-    assert!(rt; text_makes_calls(rt.alloc(), SPAWNS, &[(0, 1), (1, 3)]));
-    assert!(rt; text_makes_calls(rt.alloc(), FAULTS, &[(0, 1), (1, 1)]));
-    assert!(rt; text_makes_calls(rt.alloc(), FOREVER, &[(0, 2), (1, 2), (2, 2)]));
-    assert!(rt; text_makes_calls(rt.alloc(), "bsp 1\n", &[]));
+    for (text, calls) in &ROWS {
+        assert!(rt; makes_calls(rt.alloc(), text, calls));
+    }
 }
