@@ -103,34 +103,45 @@ fn empties<F: Fn(u32, u32) -> bool>(
     }
 }
 
-// Two members at one tier and one at another pass phase 0. One of the two and the single one leave in phase 1, and the last
-// one in phase 2. After each call the closure has been called once for each advance.
+// Three members at one tier and one at another pass phase 0. One of the three leaves last in phase 1, one more and then the
+// single one in phase 2, and the last one in phase 3. After each call the closure has been called once for each advance.
 fn two_crews_pass<F: Fn(u32, u32) -> bool>(
     rt: &impl Abort,
     tree: &Tree<F>,
     mut door: Door,
     tiers: (u16, u16),
     log: &AtomicU64,
-    parties: u32,
+    parties: (u32, u32),
 )
     requires own { door.tree ≡ tree.now.tree }
     requires rule { Answers (F.pre tree.now.rule.closure) (F.post tree.now.rule.closure) (end_ends_at tree.now.rule.plan) }
 {
     let second = tree.split(&mut door);
-    let one = joins(rt, tree, door, tiers.0, 2);
+    let one = joins(rt, tree, door, tiers.0, 3);
     let other = joins(rt, tree, second, tiers.1, 1);
     let one = goes(rt, tree, one, false, log, written(&[]));
     let one = goes(rt, tree, one, false, log, written(&[]));
-    let first = written(&[(0, parties)]);
-    let other = goes(rt, tree, other, false, log, first);
-    let one = goes(rt, tree, one, true, log, first);
-    let one = goes(rt, tree, one, false, log, first);
-    empties(rt, tree, other, log, written(&[(0, parties), (1, 1)]));
-    empties(rt, tree, one, log, written(&[(0, parties), (1, 1), (2, 0)]));
+    let one = goes(rt, tree, one, false, log, written(&[]));
+    let (first, next) = ((0, parties.0), (1, parties.1));
+    let other = goes(rt, tree, other, false, log, written(&[first]));
+    let other = goes(rt, tree, other, false, log, written(&[first]));
+    let one = goes(rt, tree, one, false, log, written(&[first]));
+    let one = goes(rt, tree, one, false, log, written(&[first]));
+    let one = goes(rt, tree, one, true, log, written(&[first, next]));
+    let one = goes(rt, tree, one, true, log, written(&[first, next]));
+    let one = goes(rt, tree, one, false, log, written(&[first, next]));
+    empties(rt, tree, other, log, written(&[first, next, (2, 1)]));
+    empties(rt, tree, one, log, written(&[first, next, (2, 1), (3, 0)]));
 }
 
-// Two crews pass on a tree of these widths, whose root has this number of parties at the first advance.
-fn told_alone(rt: &impl Abort, alloc: Global, widths: &str, tiers: (u16, u16), parties: u32) {
+// Two crews pass on a tree of these widths, whose root has these numbers of parties at the first two advances.
+fn told_alone(
+    rt: &impl Abort,
+    alloc: Global,
+    widths: &str,
+    tiers: (u16, u16),
+    parties: (u32, u32),
+) {
     let log = AtomicU64::new(1);
     let ends = |phase: u32, count: u32| {
         write(&log, phase, count);
@@ -145,8 +156,8 @@ fn told_alone(rt: &impl Abort, alloc: Global, widths: &str, tiers: (u16, u16), p
 // On one tier all members are parties of the root; on the other tree its children are.
 #[test]
 fn one_thread_advances(rt: HostRuntime) {
-    told_alone(&rt, rt.alloc(), "flat", (0, 0), 3);
-    told_alone(&rt, rt.alloc(), "2x2", (3, 6), 2);
+    told_alone(&rt, rt.alloc(), "flat", (0, 0), (4, 3));
+    told_alone(&rt, rt.alloc(), "2x2", (3, 6), (2, 2));
 }
 
 // A member passes three phases, and leaves.

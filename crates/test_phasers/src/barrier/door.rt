@@ -8,15 +8,22 @@ use std::sync::atomic::{AtomicU64, Ordering};
 use std::thread;
 use std::thread::Threads;
 
-// Counts the generations, if they come in order.
+// What is counted once the action has run for another generation than the next, or twice for one.
+const OUT_OF_ORDER: u64 = u64::MAX;
+
+// Counts the generations, if they come in order, each once.
 #[derive(Drop)]
 struct InOrder<'a>(&'a AtomicU64);
 
 impl Action for InOrder<'_> {
     fn run(&self, generation: u64) {
-        if self.0.load(Ordering::SeqCst) == generation {
-            self.0.fetch_add(1, Ordering::SeqCst);
-        }
+        let runs = self.0.load(Ordering::SeqCst);
+        let next = if runs == generation {
+            runs.wrapping_add(1)
+        } else {
+            OUT_OF_ORDER
+        };
+        self.0.store(next, Ordering::SeqCst);
     }
 }
 
@@ -165,9 +172,11 @@ fn is_played<R: Threads + Wait + Abort + Sync>(rt: &R, alloc: Global, scene: &Sc
             kept = kept.max(*it);
         }
     }
+    let runs = runs.load(Ordering::SeqCst);
     least <= kept
         && kept <= most
-        && runs.load(Ordering::SeqCst) >= least_runs
+        && least_runs <= runs
+        && runs < OUT_OF_ORDER
         && barrier.kept(rt) == 0
 }
 

@@ -19,6 +19,9 @@ const BROKEN: Turn = Err(GateFault::Broken);
 // What a thread answers that ended the wait of all others by one call.
 const ENDED: Turn = Ok(7);
 
+// What a thread answers that found something else wrong.
+const WRONG: Turn = Err(GateFault::Memory);
+
 // How the last thread ends the wait of the others.
 #[derive(Clone, Copy)]
 enum Ending {
@@ -34,16 +37,19 @@ enum Ending {
     TakesAway(u32),
 }
 
-// How many threads have come, how many have got their turn, and whether all is over.
+// How many threads have come, how many have got their turn, and whether all is over. Then how often the action has run, and
+// how often all parties of the gate have come in the end.
 #[derive(Drop)]
-struct Marks {
+struct Marks<'a> {
     coming: AtomicU32,
     gone: AtomicU32,
     over: AtomicU32,
+    runs: &'a AtomicU32,
+    trips: u32,
 }
 
-// How many threads wait, how their wait ends, and what the last thread gets. Of two threads that only come, each may be the
-// last, so there it is `None`. Then what the others get, or all of them, in any order.
+// How many threads wait, how their wait ends, and what the last thread gets. Of threads that only come, each may be the last,
+// however long one gives the others, so there it is `None`. Then what the others get, or all of them, in any order.
 type Scene<'a> = (u32, Ending, Option<Turn>, &'a [Turn]);
 
 // Comes as a caller, and as the caller 9 if that one waits.
@@ -64,7 +70,7 @@ fn comes<R: Wait, F: Fn(u64) -> bool>(rt: &R, gate: &CyclicGate<F>, caller: u32)
 fn waits<R: Wait, F: Fn(u64) -> bool>(
     rt: &R,
     gate: &CyclicGate<F>,
-    marks: &Marks,
+    marks: &Marks<'_>,
     ending: Ending,
     caller: u32,
 ) -> Turn
@@ -94,34 +100,47 @@ fn gives_time(count: &AtomicU32, want: u32, most: u32) {
     }
 }
 
+// Returns how many callers a list has, or more than can wait if it has another one than those below `waiting`.
+fn counted(callers: &[u32], waiting: u32) -> usize {
+    for caller in callers {
+        if *caller >= waiting {
+            return usize::MAX;
+        }
+    }
+    callers.len()
+}
+
 // Ends the wait of all who wait, by one call, and returns how many they are.
-fn ends_once<R: Wait, F: Fn(u64) -> bool>(rt: &R, gate: &CyclicGate<F>, ending: Ending) -> usize {
+fn ends_once<R: Wait, F: Fn(u64) -> bool>(
+    rt: &R,
+    gate: &CyclicGate<F>,
+    ending: Ending,
+    waiting: u32,
+) -> usize {
     match ending {
         Ending::Comes | Ending::ComesAgain => 0,
-        Ending::Resets => gate.reset(rt).len(),
-        Ending::BreaksOff => gate.break_off(rt).len(),
+        Ending::Resets => counted(&gate.reset(rt), waiting),
+        Ending::BreaksOff => counted(&gate.break_off(rt), waiting),
         Ending::TakesAway(caller) => match gate.abandon(rt, caller) {
-            Ok(others) => others.len().saturating_add(1),
+            Ok(others) if others.contains(&caller) => usize::MAX,
+            Ok(others) => counted(&others, waiting).saturating_add(1),
             Err(_) => 0,
         },
     }
 }
 
 // Ends the wait of the others. If nobody waits yet, tries again. If that came too early for some, breaks the gate until they
-// are gone.
+// are gone. It is wrong if the call never ends a wait, or ends that of a caller who doesn't wait.
 fn ends_the_wait<R: Wait, F: Fn(u64) -> bool>(
     rt: &R,
     gate: &CyclicGate<F>,
-    marks: &Marks,
+    marks: &Marks<'_>,
     ending: Ending,
     waiting: u32,
 ) -> Turn {
+    let mut ended = 0;
     for _ in 0..1000000u32 {
-        let ended = ends_once(rt, gate, ending);
-        if ended == waiting as usize {
-            marks.over.store(1, Ordering::SeqCst);
-            return ENDED;
-        }
+        ended = ends_once(rt, gate, ending, waiting);
         if ended > 0 {
             break;
         }
@@ -131,18 +150,24 @@ fn ends_the_wait<R: Wait, F: Fn(u64) -> bool>(
         thread::yield_now();
     }
     marks.over.store(1, Ordering::SeqCst);
+    if ended == waiting as usize {
+        return ENDED;
+    }
     for _ in 0..100000u32 {
         gate.break_off(rt);
         gives_time(&marks.gone, waiting, 10);
+    }
+    if ended == 0 || ended > waiting as usize {
+        return WRONG;
     }
     ENDED
 }
 
 // Does what the thread of this number does: the last ends the wait of the others, once they had time to come.
-fn does<R: Wait, F: Fn(u64) -> bool>(
+fn goes<R: Wait, F: Fn(u64) -> bool>(
     rt: &R,
     gate: &CyclicGate<F>,
-    marks: &Marks,
+    marks: &Marks<'_>,
     scene: &Scene<'_>,
     thread: usize,
 ) -> Turn
@@ -161,19 +186,43 @@ fn does<R: Wait, F: Fn(u64) -> bool>(
     }
 }
 
+// Does what the thread of this number does. The action has to have run once for each time that all parties came, before any
+// of them goes on.
+fn does<R: Wait, F: Fn(u64) -> bool>(
+    rt: &R,
+    gate: &CyclicGate<F>,
+    marks: &Marks<'_>,
+    scene: &Scene<'_>,
+    thread: usize,
+) -> Turn
+    requires { AnswersAction (F.pre gate.now.action.closure) (F.post gate.now.action.closure) gate.now.action.plan }
+{
+    let turn = goes(rt, gate, marks, scene, thread);
+    if marks.runs.load(Ordering::SeqCst) != marks.trips {
+        return WRONG;
+    }
+    turn
+}
+
+// Returns how often an answer is among these.
+fn times(turns: &[Turn], want: Turn) -> u32 {
+    let mut times = 0u32;
+    for turn in turns {
+        if *turn == want {
+            times = times.wrapping_add(1);
+        }
+    }
+    times
+}
+
 // Returns true if these are the same answers, in any order.
 fn are(turns: &[Turn], wants: &[Turn]) -> bool {
-    for turn in turns {
-        if !wants.contains(turn) {
-            return false;
-        }
-    }
     for want in wants {
-        if !turns.contains(want) {
+        if times(turns, *want) != times(wants, *want) {
             return false;
         }
     }
-    true
+    turns.len() == wants.len()
 }
 
 // Returns true if the threads got what a scene says.
@@ -205,21 +254,17 @@ fn is_played<R: Threads + Wait + Abort + Sync, F: Fn(u64) -> bool + Sync>(
     alloc: Global,
     gate: &CyclicGate<F>,
     scene: &Scene<'_>,
+    marks: &Marks<'_>,
 ) -> bool
     requires { AnswersAction (F.pre gate.now.action.closure) (F.post gate.now.action.closure) gate.now.action.plan }
 {
-    let marks = Marks {
-        coming: AtomicU32::new(0),
-        gone: AtomicU32::new(0),
-        over: AtomicU32::new(0),
-    };
     let turns = thread::map_indices(
         rt,
         alloc,
         scene.0.saturating_add(1) as usize,
         &|i: usize| -> Turn
             requires { AnswersAction (F.pre gate.now.action.closure) (F.post gate.now.action.closure) gate.now.action.plan }
-        { does(rt, gate, &marks, scene, i) },
+        { does(rt, gate, marks, scene, i) },
     );
     are_answered(&turns.expect(rt, "memory"), scene)
         && gate.kept(rt) == 0
@@ -232,10 +277,26 @@ type Row<'a> = (i64, Option<u64>, &'a [Scene<'a>]);
 // Plays the scenes of a row at a new gate.
 fn plays<R: Threads + Wait + Abort + Sync>(rt: &R, alloc: Global, row: &Row<'_>) -> bool {
     let (parties, fails, scenes) = *row;
-    let action = StoredAction::new(|generation: u64| fails == Some(generation), fails);
+    let runs = AtomicU32::new(0);
+    let action = |generation: u64| {
+        runs.fetch_add(1, Ordering::SeqCst);
+        fails == Some(generation)
+    };
+    let action = StoredAction::new(action, fails);
     let gate = CyclicGate::new(alloc, parties, action).expect(rt, "a gate");
+    let mut trips = 0u32;
     for scene in scenes {
-        if !is_played(rt, alloc, &gate, scene) {
+        if matches!(scene.1, Ending::Comes | Ending::ComesAgain) {
+            trips = trips.wrapping_add(1);
+        }
+        let marks = Marks {
+            coming: AtomicU32::new(0),
+            gone: AtomicU32::new(0),
+            over: AtomicU32::new(0),
+            runs: &runs,
+            trips,
+        };
+        if !is_played(rt, alloc, &gate, scene, &marks) {
             return false;
         }
     }
@@ -244,6 +305,8 @@ fn plays<R: Threads + Wait + Abort + Sync>(rt: &R, alloc: Global, row: &Row<'_>)
 
 const FAILED: Turn = Err(GateFault::ActionFailed);
 
+const THREE: [Turn; 3] = [BROKEN, BROKEN, BROKEN];
+
 // One thread or three wait, and another ends their wait.
 const ONE_IS_RESET: [Scene<'static>; 1] = [(1, Ending::Resets, Some(ENDED), &[BROKEN])];
 
@@ -251,16 +314,11 @@ const ONE_IS_BROKEN: [Scene<'static>; 1] = [(1, Ending::BreaksOff, Some(ENDED), 
 
 const ONE_IS_TAKEN: [Scene<'static>; 1] = [(1, Ending::TakesAway(0), Some(ENDED), &[BROKEN])];
 
-const THREE_ARE_RESET: [Scene<'static>; 1] = [(3, Ending::Resets, Some(ENDED), &[BROKEN])];
+const THREE_ARE_RESET: [Scene<'static>; 1] = [(3, Ending::Resets, Some(ENDED), &THREE)];
 
-const THREE_ARE_BROKEN: [Scene<'static>; 1] = [(3, Ending::BreaksOff, Some(ENDED), &[BROKEN])];
+const THREE_ARE_BROKEN: [Scene<'static>; 1] = [(3, Ending::BreaksOff, Some(ENDED), &THREE)];
 
-const ONE_OF_THREE_IS_TAKEN: [Scene<'static>; 1] = [(
-    3,
-    Ending::TakesAway(0),
-    Some(ENDED),
-    &[BROKEN],
-)];
+const ONE_OF_THREE_IS_TAKEN: [Scene<'static>; 1] = [(3, Ending::TakesAway(0), Some(ENDED), &THREE)];
 
 // Two threads meet, also if both come as caller 0.
 const TWO_MEET: [Scene<'static>; 1] = [(1, Ending::Comes, None, &[Ok(1), Ok(0)])];
@@ -270,12 +328,17 @@ const TWO_COME_AGAIN: [Scene<'static>; 1] = [(1, Ending::ComesAgain, None, &[Ok(
 // The action fails when two or four come.
 const TWO_FAIL: [Scene<'static>; 1] = [(1, Ending::Comes, None, &[BROKEN, FAILED])];
 
-const FOUR_FAIL: [Scene<'static>; 1] = [(3, Ending::Comes, Some(FAILED), &[BROKEN])];
+const FOUR_FAIL: [Scene<'static>; 1] = [(
+    3,
+    Ending::Comes,
+    None,
+    &[BROKEN, BROKEN, BROKEN, FAILED],
+)];
 
 // Three threads meet. Then one of two that wait is taken away, which breaks the gate. After a reset they meet there again.
 const MEET_TWICE: [Scene<'static>; 3] = [
     (2, Ending::Comes, None, &[Ok(0), Ok(1), Ok(2)]),
-    (2, Ending::TakesAway(1), Some(ENDED), &[BROKEN]),
+    (2, Ending::TakesAway(1), Some(ENDED), &[BROKEN, BROKEN]),
     (2, Ending::Comes, None, &[Ok(0), Ok(1), Ok(2)]),
 ];
 
@@ -300,7 +363,7 @@ fn who_waits_is_answered(rt: HostRuntime) {
     }
 }
 
-const A_TRIP: [Scene<'static>; 1] = [(3, Ending::Comes, Some(Ok(0)), &[Ok(1), Ok(2), Ok(3)])];
+const A_TRIP: [Scene<'static>; 1] = [(3, Ending::Comes, None, &[Ok(0), Ok(1), Ok(2), Ok(3)])];
 
 #[test]
 fn a_trip_wakes_three(rt: HostRuntime) {
