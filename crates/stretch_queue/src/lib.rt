@@ -3,8 +3,8 @@
 //!
 //! * `queue`: all that is shared. `running`: what names a run in contracts.
 //! * `inbox`: the stretches that a worker is to run; `outbox`: those that it has run, until the superstep is closed.
-//! * `hand`: a stretch while a worker holds it. `tokens`: the members that arrive for its tasks; `moves`: how many tasks came and
-//!   left. `led`: the sign that members have advanced the tree.
+//! * `hand`: a stretch while a worker holds it. `tokens`: the members that arrive for its tasks; `members`: those of all stretches
+//!   that no worker holds; `moves`: how many tasks came and left. `led`: the sign that members have advanced the tree.
 //! * `hook`: what closes supersteps; `watched`: a hook with a watcher. `hooks`: what a caller hooks into segments and starts.
 //!   `fault`: why a run leaves nothing.
 //! * `specs/Watched.antt`: what a run leaves; `QueueValue.antt`: what always holds for the queue.
@@ -16,6 +16,7 @@ pub mod hook;
 pub mod hooks;
 pub mod inbox;
 pub mod led;
+pub mod members;
 pub mod moves;
 pub mod outbox;
 pub mod queue;

@@ -10,6 +10,7 @@ use crate::fault::{Reason, Refused};
 use crate::hand::HeldStretch;
 use crate::hook::{Closed, Hook};
 use crate::led::Led;
+use crate::members::{Members, Recut};
 use crate::outbox::{Arrived, DoneStretch};
 use crate::running::Running;
 use crate::tokens::Tokens;
@@ -38,15 +39,6 @@ pub struct Stopped<J: Running> {
     ghost own: { (pass.name ≡ J.stops) × (is_some pass.held ≡ true) },
 }
 
-/// All members of a run after tasks have moved between stretches. They have to be cut anew for the next stretches.
-#[derive(Drop)]
-pub struct Recut<J: Running> {
-    /// The members.
-    pub tokens: Vec<Tokens<J>>,
-    /// How many tasks each of the next stretches has.
-    pub sizes: Vec<usize>,
-}
-
 /// The effect of handing back the members of a stretch.
 #[derive(Drop)]
 pub enum HandedBack<J: Running> {
@@ -56,7 +48,7 @@ pub enum HandedBack<J: Running> {
     Ready,
     /// A fault or the hook has ended the run; the tree must be ended too.
     Ended,
-    /// The members have to be cut anew. No stretch is ready before that.
+    /// These members have to be cut anew. No stretch is ready before that.
     Recut(Recut<J>),
 }
 
@@ -73,14 +65,10 @@ pub struct Queue<'t, 'p, P: TaskLoop, H: Hook<P>, J: Running> {
     // What the next stretch takes along.
     lines: Option<H::Lines>,
     lists: Lists,
-    // By the number of a stretch: the members of its tasks. `None` while a worker holds them.
-    tokens: Vec<Option<Tokens<J>>>,
-    // By the number of a stretch: how many members it has after this superstep, once it is delivered.
-    sizes: Vec<usize>,
+    // The members of the tasks of each stretch.
+    members: Members<J>,
     // The numbers of the stretches that are there with the members of their tasks.
     ready: VecDeque<usize>,
-    // Whether tasks have moved between stretches, so that members have to be cut anew once all are back.
-    moved: bool,
     // The first refusal of the run.
     first: Option<Refused>,
     of: PhantomData<J>,
@@ -130,17 +118,21 @@ fn numbers_below(alloc: Global, count: usize) -> Result<VecDeque<usize>, AllocEr
     Ok(numbers)
 }
 
-// Returns the numbers of all stretches, which are ready, and the refusal of the run if memory runs out.
-fn begin_ready(
+// Returns the members of all stretches, with the numbers of these, which are ready; and the refusal of the run if memory runs out.
+fn begin_ready<J: Running>(
     alloc: Global,
-    count: usize,
-    sizes: &mut Vec<usize>,
-) -> (VecDeque<usize>, Option<Refused>)
-    ensures { (workers : ℕ) → IfSome result.1 (IsOfWorkers workers) }
+    tokens: Vec<Option<Tokens<J>>>,
+) -> (Members<J>, VecDeque<usize>, Option<Refused>)
+    ensures { (workers : ℕ) → IfSome result.2 (IsOfWorkers workers) }
 {
-    match (sizes.resize(count, 0), numbers_below(alloc, count)) {
-        (Ok(()), Ok(ready)) => (ready, None),
-        (_, _) => (VecDeque::new(alloc), Some(Refused::Memory)),
+    let numbers = numbers_below(alloc, tokens.len());
+    match (Members::new(alloc, tokens), numbers) {
+        (Ok(members), Ok(ready)) => (members, ready, None),
+        (_, _) => (
+            Members::none(alloc),
+            VecDeque::new(alloc),
+            Some(Refused::Memory),
+        ),
     }
 }
 
@@ -154,43 +146,6 @@ pub fn lengths_of<P: Program>(
         lengths.push(stretches.length(number))?;
     }
     Ok(lengths)
-}
-
-// Moves members that are there to the end of a list.
-fn gather<J: Running>(
-    alloc: Global,
-    places: &mut Vec<Option<Tokens<J>>>,
-) -> Result<Vec<Tokens<J>>, AllocError> {
-    let mut tokens = Vec::with_capacity(alloc, places.len())?;
-    while let Some(place) = places.pop() {
-        if let Some(one) = place {
-            tokens.push(one)?;
-        }
-    }
-    Ok(tokens)
-}
-
-// Returns true if no place is empty.
-fn are_full<J: Running>(places: &[Option<Tokens<J>>]) -> bool {
-    for place in places {
-        if place.is_none() {
-            return false;
-        }
-    }
-    true
-}
-
-// Appends the numbers of the places that have members.
-fn list_ready<J: Running>(
-    places: &[Option<Tokens<J>>],
-    ready: &mut VecDeque<usize>,
-) -> Result<(), Reason> {
-    for number in 0..places.len() {
-        if places[number].is_some() && ready.push_back(number).is_err() {
-            return Err(Reason::Memory);
-        }
-    }
-    Ok(())
 }
 
 impl<'t, 'p, P: TaskLoop, H: Hook<P>, J: Running> Queue<'t, 'p, P, H, J> {
@@ -222,18 +177,15 @@ impl<'t, 'p, P: TaskLoop, H: Hook<P>, J: Running> Queue<'t, 'p, P, H, J> {
         requires stopped { stopped ≡ true → status_in stretches ≡ None }
         ensures stretches { result.stretches ≡ stretches.entry }
     {
-        let mut sizes = Vec::new(alloc);
-        let (ready, first) = begin_ready(alloc, tokens.len(), &mut sizes);
+        let (members, ready, first) = begin_ready(alloc, tokens);
         Queue {
             stretches,
             hook,
             stopped,
             lines: None,
             lists,
-            tokens,
-            sizes,
+            members,
             ready,
-            moved: false,
             first,
             of: PhantomData,
         }
@@ -283,10 +235,7 @@ impl<'t, 'p, P: TaskLoop, H: Hook<P>, J: Running> Queue<'t, 'p, P, H, J> {
     fn take_tokens(&mut self, number: usize) -> Option<Tokens<J>>
         ensures { self.new ≡ self.old }
     {
-        match self.tokens.get_mut(number) {
-            Some(place) => mem::replace(place, None),
-            None => None,
-        }
+        self.members.take(number)
     }
 
     // Hands out the stretch of this number, with the members of its tasks. Fails with `Internal` if they aren't there, or aren't as
@@ -367,9 +316,7 @@ impl<'t, 'p, P: TaskLoop, H: Hook<P>, J: Running> Queue<'t, 'p, P, H, J> {
     fn note_size(&mut self, number: usize, size: usize)
         ensures { self.new ≡ self.old }
     {
-        if let Some(place) = self.sizes.get_mut(number) {
-            *place = size;
-        }
+        self.members.note_size(number, size);
     }
 
     /// Takes back a stretch whose segments have run.
@@ -403,12 +350,10 @@ impl<'t, 'p, P: TaskLoop, H: Hook<P>, J: Running> Queue<'t, 'p, P, H, J> {
         ensures same { self.new ≡ self.old }
         ensures internal { IfErr result (λ fault. fault ≡ reason.Internal) }
     {
-        match self.tokens.get_mut(number) {
-            Some(place) => {
-                *place = Some(tokens);
-                Ok(())
-            }
-            None => Err(Reason::Internal),
+        if self.members.put(number, tokens) {
+            Ok(())
+        } else {
+            Err(Reason::Internal)
         }
     }
 
@@ -422,49 +367,35 @@ impl<'t, 'p, P: TaskLoop, H: Hook<P>, J: Running> Queue<'t, 'p, P, H, J> {
         }
     }
 
-    // Returns true if each stretch has as many tasks as its members after the last superstep.
-    fn are_same(&self) -> bool {
-        if self.stretches.len() != self.sizes.len() {
-            return false;
-        }
-        for number in 0..self.sizes.len() {
-            if self.sizes.get(number).copied() != Some(self.stretches.length(number)) {
-                return false;
-            }
-        }
-        true
-    }
-
     // Makes the stretches ready whose members are back.
     fn make_all_ready(&mut self) -> Result<(), Reason>
         ensures same { (self.new.stretches ≡ self.old.stretches) × (self.new.stopped ≡ self.old.stopped) × (self.new.first ≡ self.old.first) }
     {
-        list_ready(&self.tokens, &mut self.ready)
+        self.members.list_back(&mut self.ready)?;
+        Ok(())
     }
 
-    // Takes all members, if none is missing, for the next stretches.
+    // Takes the members that have to be cut anew for the next stretches, if none of them is missing.
     fn recut(&mut self, alloc: Global) -> Result<HandedBack<J>, Reason>
         ensures same { self.new ≡ self.old }
     {
-        if !are_full(&self.tokens) {
-            return Ok(HandedBack::Unchanged);
+        match self.members.take_moving(alloc, &self.stretches)? {
+            Some(recut) => Ok(HandedBack::Recut(recut)),
+            None => Ok(HandedBack::Unchanged),
         }
-        let tokens = gather(alloc, &mut self.tokens)?;
-        let sizes = lengths_of(alloc, &self.stretches)?;
-        Ok(HandedBack::Recut(Recut { tokens, sizes }))
     }
 
-    // Prepares the next superstep: makes its stretches ready as far as the members of their tasks are back, or if tasks have moved
-    // between stretches, takes all members once they are back.
+    // Prepares the next superstep: makes its stretches ready as far as the members of their tasks are back. If tasks have moved
+    // between stretches, takes the members of these stretches once they are back.
     fn prepare(&mut self, alloc: Global) -> Result<HandedBack<J>, Reason>
         ensures same { (self.new.stretches ≡ self.old.stretches) × (self.new.stopped ≡ self.old.stopped) × (self.new.first ≡ self.old.first) }
     {
-        if self.are_same() {
-            self.make_all_ready()?;
-            return Ok(HandedBack::Ready);
+        self.members.find_moving(&self.stretches)?;
+        if self.members.are_moving() {
+            return self.recut(alloc);
         }
-        self.moved = true;
-        self.recut(alloc)
+        self.make_all_ready()?;
+        Ok(HandedBack::Ready)
     }
 
     // Closes the superstep.
@@ -521,7 +452,7 @@ impl<'t, 'p, P: TaskLoop, H: Hook<P>, J: Running> Queue<'t, 'p, P, H, J> {
     {
         let Arrived { number, tokens, .. } = arrived;
         self.put_tokens(number, tokens)?;
-        if self.moved {
+        if self.members.are_moving() {
             return self.recut(alloc);
         }
         self.make_ready(number)?;
@@ -558,22 +489,15 @@ impl<'t, 'p, P: TaskLoop, H: Hook<P>, J: Running> Queue<'t, 'p, P, H, J> {
         }
     }
 
-    /// Takes back all members, which were cut anew for the next stretches: those of the stretch of each number. Makes the
-    /// stretches ready. Fails only if memory runs out; then workers must stop.
+    /// Takes back members that were cut anew, those of each stretch that they are for, in order. Makes all stretches ready whose
+    /// members are back. Fails only if memory runs out; then workers must stop.
     pub fn put_back(&mut self, tokens: Vec<Option<Tokens<J>>>) -> Result<(), Reason>
         ensures same { self.new.stretches ≡ self.old.stretches }
         ensures noted { IfErr result (λ reason. self.new.first ≡ Some (refusal_of reason)) }
         ensures unrefused { OnOk result (self.new.first ≡ self.old.first) }
     {
-        self.sizes.clear();
-        let made = self.sizes.resize(tokens.len(), 0);
-        self.tokens = tokens;
-        self.moved = false;
-        let ready = match made {
-            Ok(()) => self.make_all_ready(),
-            Err(_) => Err(Reason::Memory),
-        };
-        match ready {
+        self.members.put_moving(tokens);
+        match self.make_all_ready() {
             Ok(()) => Ok(()),
             Err(reason) => {
                 self.first = Some(reason.refusal());

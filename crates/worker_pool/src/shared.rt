@@ -13,8 +13,9 @@ use stretch_queue::fault::{Reason, Refused};
 use stretch_queue::hand::{HeldStretch, RanStretch};
 use stretch_queue::hook::{Hook, Lines};
 use stretch_queue::led::Led;
+use stretch_queue::members::Recut;
 use stretch_queue::outbox::{Arrived, Delivered};
-use stretch_queue::queue::{HandedBack, Queue, Recut, Stopped};
+use stretch_queue::queue::{HandedBack, Queue, Stopped};
 use stretch_queue::running::Running;
 use stretch_queue::tokens::OwnToken;
 
@@ -138,7 +139,7 @@ impl<'t, 'p, P: TaskLoop, H: Hook<P>, J: Running, F: Fn(u32, u32) -> bool> Share
         self.lanes[worker].deliver(rt, ran)
     }
 
-    // Cuts all members anew for the next stretches, and hands these out.
+    // Cuts members anew for the next stretches, and hands these out.
     fn cut_anew<R: Wait>(&self, rt: &R, alloc: Global, recut: Recut<J>) -> Result<(), Reason> {
         let tokens = self.tree.cut_anew(alloc, recut)?;
         let mut queue = self.queue.lock(rt);

@@ -8,7 +8,7 @@ use std::thread;
 use stretch_queue::fault::Reason;
 use stretch_queue::led::Led;
 use stretch_queue::moves::{LeafMoves, Moves};
-use stretch_queue::queue::Recut;
+use stretch_queue::members::Recut;
 use stretch_queue::running::Running;
 use stretch_queue::tokens::{Bundle, OwnToken, Tokens};
 use tier_calls::registering_all::Halt;
@@ -474,7 +474,7 @@ impl<J: Running, F: Fn(u32, u32) -> bool> WorkerTree<J, F> {
         Ok(all)
     }
 
-    /// Cuts all members anew, for stretches between which tasks have moved.
+    /// Cuts the members of stretches between which tasks have moved, for what tasks these have now.
     pub(crate) fn cut_anew(
         &self,
         alloc: Global,
