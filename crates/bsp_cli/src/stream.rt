@@ -15,7 +15,7 @@ use phase_records::JobStatus;
 use std::alloc::Global;
 use std::sync::Wait;
 use std::thread::Threads;
-use stream_workers::{Unstreamed, stream_within};
+use stream_workers::{WorkersStreamFault, stream_within};
 use task_code::job::Job;
 use tier_shape::Shape;
 use worker_pool::{AllStart, Gate, OpenGate};
@@ -50,14 +50,14 @@ fn stream_here<W: CountedWrite>(
 }
 
 // Returns the program's fault for why a run on workers didn't end.
-fn fault_shared(unstreamed: Unstreamed) -> RunFault
+fn fault_shared(unstreamed: WorkersStreamFault) -> RunFault
     ensures streams { (workers limit : ℕ) (p : Program) (old new : Option (List ℕ)) → StreamsOn workers p limit old new (Err unstreamed)
         → StreamsJob workers p limit old new (Err result) }
     ensures cause { (old new : ℕ) → CauseOn old new (Err unstreamed) → WriteCause {T = Ending} old new (Err result) }
 {
     match unstreamed {
-        Unstreamed::Fault(fault) => fault_alone(fault),
-        Unstreamed::NotStarted(k) => RunFault::NotStarted(k),
+        WorkersStreamFault::Fault(fault) => fault_alone(fault),
+        WorkersStreamFault::NotStarted(k) => RunFault::NotStarted(k),
     }
 }
 

@@ -19,12 +19,12 @@ use Rattle.job_program.specs.JobTasks.{JobMay}
 use Rattle.step_parts.specs.Superstep.{State, job_frame, job_says}
 use Rattle.step_parts.specs.JobMeaning.{so_far, starts}
 use Rattle.job_program.proofs.Starts.{starts_begin, job_report}
-use Rattle.program_stretches.specs.Opening.{OpeningValue, live_of}
+use Rattle.program_stretches.specs.SuperstepStart.{SuperstepStartValue, live_of}
 use Rattle.program_stretches.specs.LinesValue.{LinesValue}
 use Rattle.program_stretches.specs.Reached.{IsReached, HasRunOn}
 use Rattle.program_stretches.specs.StretchesValue.{state_with}
 use Rattle.program_stretches.specs.Closing.{HasLeft}
-use Rattle.program_stretches.proofs.Course.{last_same}
+use Rattle.program_stretches.proofs.RunsSoFar.{last_same}
 use Rattle.job_stream.specs.Streamed.{IsPiece, IsRest}
 use Rattle.job_stream.specs.Running.{IsRunOf, IsGivenAfter, job_reading}
 
@@ -89,25 +89,25 @@ piece_at j limit given st l h calm first next prints records le =
           ∙ (λ i. (early i).records ++ sym records i) ∙ ap (λ (m : ℕ). (so_far p limit m).records ++ l.records) (sym first);
     }
 
--- the first opening of a log that went on
-first_same : (a b : OpeningValue JobProgram TaskValue) (since more : List (OpeningValue JobProgram TaskValue)) (log earlier : List (OpeningValue JobProgram TaskValue))
+-- the start of the first superstep of a log that went on
+first_same : (a b : SuperstepStartValue JobProgram TaskValue) (since more : List (SuperstepStartValue JobProgram TaskValue)) (log earlier : List (SuperstepStartValue JobProgram TaskValue))
     → WasBefore earlier log → earlier ≡ since ++ a ∷ [] → log ≡ more ++ b ∷ [] → b ≡ a
 first_same a b since more log earlier w e f =
     last_same job_reading more (w.since ++ since) b a
-    (sym f ∙ w.is ∙ ap (λ (l : List (OpeningValue JobProgram TaskValue)). w.since ++ l) e ∙ sym (append_assoc w.since since (a ∷ [])))
+    (sym f ∙ w.is ∙ ap (λ (l : List (SuperstepStartValue JobProgram TaskValue)). w.since ++ l) e ∙ sym (append_assoc w.since since (a ∷ [])))
 
-pub given_piece : (j : JobValue) (limit : ℕ) (log : List (OpeningValue JobProgram TaskValue)) (l : LinesValue) → IsRunOf j limit log → IsGivenAfter job_reading log l → l.next ≤ limit
+pub given_piece : (j : JobValue) (limit : ℕ) (log : List (SuperstepStartValue JobProgram TaskValue)) (l : LinesValue) → IsRunOf j limit log → IsGivenAfter job_reading log l → l.next ≤ limit
     → IsPiece (program_of j) limit l
 given_piece j limit log l r h le =
     let v = h.run in
-    let c = h.given.course in
+    let c = h.given.run in
     let b = c.after.begun in
     let same : b.first ≡ r.first = first_same r.first b.first r.since b.since v.log log h.since r.begun b.is in
-    let is_job : v.program.job.now ≡ j = ap (λ q. q.job.now) b.program ∙ ap (λ (o : OpeningValue JobProgram TaskValue). o.program.job.now) same ∙ r.job in
-    let most : v.most ≡ 4096 = b.most ∙ ap (λ (o : OpeningValue JobProgram TaskValue). o.most) same ∙ r.most in
-    let to : v.limit ≡ limit = b.limit ∙ ap (λ (o : OpeningValue JobProgram TaskValue). o.limit) same ∙ r.limit_is in
-    let arrays : b.first.arrays ≡ j.arrays = ap (λ (o : OpeningValue JobProgram TaskValue). o.arrays) same ∙ r.arrays in
-    let tasks : map (task_of (plans j.bodies)) (live_of b.first) ≡ starts (program_of j) = ap (λ (o : OpeningValue JobProgram TaskValue). map (task_of (plans j.bodies)) (live_of o)) same ∙ r.tasks in
+    let is_job : v.program.job.now ≡ j = ap (λ q. q.job.now) b.program ∙ ap (λ (o : SuperstepStartValue JobProgram TaskValue). o.program.job.now) same ∙ r.job in
+    let most : v.most ≡ 4096 = b.most ∙ ap (λ (o : SuperstepStartValue JobProgram TaskValue). o.most) same ∙ r.most in
+    let to : v.limit ≡ limit = b.limit ∙ ap (λ (o : SuperstepStartValue JobProgram TaskValue). o.limit) same ∙ r.limit_is in
+    let arrays : b.first.arrays ≡ j.arrays = ap (λ (o : SuperstepStartValue JobProgram TaskValue). o.arrays) same ∙ r.arrays in
+    let tasks : map (task_of (plans j.bodies)) (live_of b.first) ≡ starts (program_of j) = ap (λ (o : SuperstepStartValue JobProgram TaskValue). map (task_of (plans j.bodies)) (live_of o)) same ∙ r.tasks in
     let st = state_with v c.live in
     let reached : Reached j 4096 j.arrays (starts (program_of j)) limit v.given st =
     subst (λ (ts : List job.Task). Reached j 4096 j.arrays ts limit v.given st) tasks
@@ -136,16 +136,16 @@ rest_of_run j limit given outcome living h =
       status = ap (λ (x : ReportValue). x.status) h.rest;
     }
 
-pub left_rest : (j : JobValue) (limit given : ℕ) (earlier log : List (OpeningValue JobProgram TaskValue)) (outcome : ReportValue) (living : List TaskValue)
+pub left_rest : (j : JobValue) (limit given : ℕ) (earlier log : List (SuperstepStartValue JobProgram TaskValue)) (outcome : ReportValue) (living : List TaskValue)
     → IsRunOf j limit earlier → WasBefore earlier log → HasLeft job_reading log given outcome living → IsRest (program_of j) limit given outcome
 left_rest j limit given earlier log outcome living r w h =
     let same : h.first ≡ r.first = first_same r.first h.first r.since h.since log earlier w r.begun h.begun in
     let o = h.first in
-    let is_job : o.program.job.now ≡ j = ap (λ (x : OpeningValue JobProgram TaskValue). x.program.job.now) same ∙ r.job in
-    let most : o.most ≡ 4096 = ap (λ (x : OpeningValue JobProgram TaskValue). x.most) same ∙ r.most in
-    let to : o.limit ≡ limit = ap (λ (x : OpeningValue JobProgram TaskValue). x.limit) same ∙ r.limit_is in
-    let arrays : o.arrays ≡ j.arrays = ap (λ (x : OpeningValue JobProgram TaskValue). x.arrays) same ∙ r.arrays in
-    let tasks : map (task_of (plans j.bodies)) (live_of o) ≡ starts (program_of j) = ap (λ (x : OpeningValue JobProgram TaskValue). map (task_of (plans j.bodies)) (live_of x)) same ∙ r.tasks in
+    let is_job : o.program.job.now ≡ j = ap (λ (x : SuperstepStartValue JobProgram TaskValue). x.program.job.now) same ∙ r.job in
+    let most : o.most ≡ 4096 = ap (λ (x : SuperstepStartValue JobProgram TaskValue). x.most) same ∙ r.most in
+    let to : o.limit ≡ limit = ap (λ (x : SuperstepStartValue JobProgram TaskValue). x.limit) same ∙ r.limit_is in
+    let arrays : o.arrays ≡ j.arrays = ap (λ (x : SuperstepStartValue JobProgram TaskValue). x.arrays) same ∙ r.arrays in
+    let tasks : map (task_of (plans j.bodies)) (live_of o) ≡ starts (program_of j) = ap (λ (x : SuperstepStartValue JobProgram TaskValue). map (task_of (plans j.bodies)) (live_of x)) same ∙ r.tasks in
     let live = map (task_of (plans j.bodies)) living in
     rest_of_run j limit given outcome live
     (subst (λ (ts : List job.Task). RunOn j 4096 j.arrays ts limit given outcome live) tasks

@@ -12,7 +12,7 @@ use Rattle.task_code.specs.JobValue.{JobValue}
 use Rattle.task_actions.specs.TaskValue.{TaskValue}
 use Rattle.step_parts.specs.Program.{Program, program_of}
 use Rattle.job_program.specs.declared.job.JobProgram.{JobProgram}
-use Rattle.program_stretches.specs.Opening.{OpeningValue}
+use Rattle.program_stretches.specs.SuperstepStart.{SuperstepStartValue}
 use Rattle.stretch_parts.specs.Parts.{Reading}
 use Rattle.program_stretches.specs.LinesValue.{LinesValue}
 use Rattle.program_stretches.specs.StretchesValue.{StretchesValue}
@@ -27,11 +27,11 @@ use Rattle.job_stream.proofs.Pieces.{given_piece}
 -- ---- one superstep
 
 -- a log that went on is of the same run
-pub run_on : (j : JobValue) (limit : ℕ) (earlier log : List (OpeningValue JobProgram TaskValue)) → IsRunOf j limit earlier → WasBefore earlier log → IsRunOf j limit log
+pub run_on : (j : JobValue) (limit : ℕ) (earlier log : List (SuperstepStartValue JobProgram TaskValue)) → IsRunOf j limit earlier → WasBefore earlier log → IsRunOf j limit log
 run_on j limit earlier log r w = record {
   first = r.first;
   since = w.since ++ r.since;
-  begun = w.is ∙ ap (λ (l : List (OpeningValue JobProgram TaskValue)). w.since ++ l) r.begun ∙ sym (append_assoc w.since r.since (r.first ∷ []));
+  begun = w.is ∙ ap (λ (l : List (SuperstepStartValue JobProgram TaskValue)). w.since ++ l) r.begun ∙ sym (append_assoc w.since r.since (r.first ∷ []));
   job = r.job;
   most = r.most;
   limit_is = r.limit_is;

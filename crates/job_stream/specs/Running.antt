@@ -13,16 +13,16 @@ use Rattle.job_program.specs.JobTasks.{JobMay}
 use Rattle.job_program.specs.JobRun.{JobRunValue, IsAfter}
 use Rattle.phase_records.specs.PrintValue.{PrintValue}
 use Rattle.phase_records.specs.declared.record.PhaseRecord.{PhaseRecord}
-use Rattle.program_stretches.specs.Opening.{OpeningValue, live_of}
+use Rattle.program_stretches.specs.SuperstepStart.{SuperstepStartValue, live_of}
 use Rattle.stretch_parts.specs.Parts.{Reading, reading_of}
 use Rattle.program_stretches.specs.LinesValue.{LinesValue}
 use Rattle.program_stretches.specs.StretchesValue.{StretchesValue}
 use Rattle.program_stretches.specs.Closing.{IsGiven}
 
--- a log of the openings of a run that began as this job begins
-pub record IsRunOf (j : JobValue) (limit : ℕ) (log : List (OpeningValue JobProgram TaskValue)) : Type 0 where
-  pub first : OpeningValue JobProgram TaskValue
-  pub since : List (OpeningValue JobProgram TaskValue)
+-- a log of the starts of a run that began as this job begins
+pub record IsRunOf (j : JobValue) (limit : ℕ) (log : List (SuperstepStartValue JobProgram TaskValue)) : Type 0 where
+  pub first : SuperstepStartValue JobProgram TaskValue
+  pub since : List (SuperstepStartValue JobProgram TaskValue)
   pub begun : log ≡ since ++ first ∷ []
   pub job : first.program.job.now ≡ j
   pub most : first.most ≡ 4096
@@ -32,7 +32,7 @@ pub record IsRunOf (j : JobValue) (limit : ℕ) (log : List (OpeningValue JobPro
 
 module _ {Q S T : Type 0} where
   -- this was given away by a run whose log went on from this one, and that no fault has ended
-  pub record IsGivenAfter (m : Q → Reading S T) (log : List (OpeningValue Q S)) (lines : LinesValue) : Type 0 where
+  pub record IsGivenAfter (m : Q → Reading S T) (log : List (SuperstepStartValue Q S)) (lines : LinesValue) : Type 0 where
     pub run : StretchesValue Q S
     pub since : WasBefore log run.log
     pub calm : run.fault ≡ None

@@ -13,7 +13,7 @@ use crate::text::{write_lines, write_rest};
 use devices::CountedWrite;
 use job_program::{JobProgram, JobSteps};
 use phase_records::{JobStatus, Report};
-use program_stretches::{Left, Lines, Opened};
+use program_stretches::{Left, Lines, SuperstepStart};
 use programs::alone::Ran;
 use snapshot_log::log::{Log, Snapshot};
 use std::alloc::{AllocError, Global};
@@ -112,9 +112,9 @@ fn finish<W: CountedWrite>(
 
 // Returns what a run left, if it gave away the lines of `written` supersteps.
 fn rest_of<'t, 'p, 'j>(
-    log: &'t Log<Opened<'p, JobProgram<'j>, Task>>,
+    log: &'t Log<SuperstepStart<'p, JobProgram<'j>, Task>>,
     left: Left<'p, JobProgram<'j>>,
-    first: Snapshot<Opened<'p, JobProgram<'j>, Task>>,
+    first: Snapshot<SuperstepStart<'p, JobProgram<'j>, Task>>,
     job: &Job,
     limit: u32,
     written: u32,
@@ -168,9 +168,9 @@ fn status_of(report: Report) -> JobStatus
 /// exactly these. Returns how the run ended. `first` is a snapshot of the run's log.
 pub fn write_left<'t, 'p, 'j, W: CountedWrite>(
     alloc: Global,
-    log: &'t Log<Opened<'p, JobProgram<'j>, Task>>,
+    log: &'t Log<SuperstepStart<'p, JobProgram<'j>, Task>>,
     left: Left<'p, JobProgram<'j>>,
-    first: Snapshot<Opened<'p, JobProgram<'j>, Task>>,
+    first: Snapshot<SuperstepStart<'p, JobProgram<'j>, Task>>,
     job: &Job,
     limit: u32,
     written: u32,

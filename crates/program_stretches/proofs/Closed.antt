@@ -26,22 +26,22 @@ use Rattle.programs.proofs.Reached.{starts_read}
 use Rattle.program_stretches.specs.declared.fault.Outcome.{Outcome}
 use Rattle.program_stretches.specs.declared.fault.Outcome.TheVariants.{Landed, Faulted, TooMany, Overflowed}
 use Rattle.stretch_parts.specs.Parts.{Reading, HasDone, AreOwn, AreFresh, fresh_part, covers, is_done, fault_in, tasks_in, puts_in, deeds_in, prints_in, without_puts, renewed}
-use Rattle.program_stretches.specs.Opening.{OpeningValue, live_of, states_by, AllOpen}
+use Rattle.program_stretches.specs.SuperstepStart.{SuperstepStartValue, live_of, states_by, AllOpen}
 use Rattle.program_stretches.specs.Did.{DidAll, IsStepTo}
-use Rattle.program_stretches.specs.StretchesValue.{StretchesValue, state_with, status_for, status_in, is_at_limit, IsAfter, IsOpen, IsCourse, HaveRun}
+use Rattle.program_stretches.specs.StretchesValue.{StretchesValue, state_with, status_for, status_in, is_at_limit, IsAfter, IsOpen, IsRunSoFar, HaveRun}
 use Rattle.program_stretches.specs.Closing.{EndsAs, IsClosed, CountsAs, HasLeftTo, HasLeft, opened_with}
 use Rattle.program_stretches.proofs.Taken.{has_run, faulted, fits, many, over, goes_on}
-use Rattle.program_stretches.proofs.Course.{status_is, unfaulted, same_states, after_next}
+use Rattle.program_stretches.proofs.RunsSoFar.{status_is, unfaulted, same_states, after_next}
 use Rattle.stretch_parts.proofs.Along.{both}
 use Rattle.program_stretches.proofs.Whole.{at_number, drop_more, drop_end, HaveDid, have_did}
 use Rattle.stretch_parts.specs.PartValue.{PartValue}
 
 module _ {Q S T : Type 0} (m : Q → Reading S T) (v : StretchesValue Q S) (law : (t : S) → (m v.program).frame.path ((m v.program).meant t) ≡ (m v.program).path t) (run : status_in v ≡ None) where
   -- the run as the superstep began
-  abbrev pub state_of : OpeningValue Q S → State T
+  abbrev pub state_of : SuperstepStartValue Q S → State T
   state_of o = state_with v (map (m v.program).meant (live_of o))
 
-  module _ (o : OpeningValue Q S) (begun : IsAfter m v (map (m v.program).meant (live_of o))) where
+  module _ (o : SuperstepStartValue Q S) (begun : IsAfter m v (map (m v.program).meant (live_of o))) where
     start_paths : map (m v.program).frame.path (map (m v.program).meant (live_of begun.begun.first)) ≡ children [] 0 (length (map (m v.program).meant (live_of begun.begun.first)))
     start_paths = starts_read (m v.program).frame (m v.program).meant (m v.program).path law (live_of begun.begun.first) begun.begun.paths
 
@@ -109,11 +109,11 @@ module _ {Q S T : Type 0} (m : Q → Reading S T) (v : StretchesValue Q S) (law 
           None puts us ds after d refl told (omega (arith, l, le)) e none
 
   -- a fault is how it ends
-  pub closed_end : (o : OpeningValue Q S) (older : List (OpeningValue Q S)) → v.log ≡ o ∷ older → (f : ℕ × List ℕ) (w : StretchesValue Q S) → w ≡ record v { fault = Some f }
+  pub closed_end : (o : SuperstepStartValue Q S) (older : List (SuperstepStartValue Q S)) → v.log ≡ o ∷ older → (f : ℕ × List ℕ) (w : StretchesValue Q S) → w ≡ record v { fault = Some f }
       → (out : Outcome) → IsStepTo (m v.program).frame (m v.program).may v.most (state_of o) (ended_by (state_of o) f) out → ((x : StretchesValue Q S) (live : List T) → x.fault ≡ Some f → EndsAs m out x live) → IsClosed m v w out
   closed_end o older log f w e out step leaves =
       subst (λ (x : StretchesValue Q S). IsClosed m v x out) (sym e) (record {
-        opening = o;
+        start = o;
         older = older;
         log = log;
         live = map (m v.program).meant (live_of o);
@@ -127,7 +127,7 @@ pub moved_count : {Q S T : Type 0} (m : Q → Reading S T) (v : StretchesValue Q
     (puts : List Put) (us : List S) (ds : List (DeedValue S)) (after : List PrintValue) (h : HaveRun m v puts us ds after) (told : PhaseRecord) → told ≡ told_in v.step ds
     → told.parties - told.left ≡ length (in_path_order (m v.program).path (living_with us ds))
 moved_count m v law run puts us ds after h told is_told =
-    let f = fit m v law run h.opening h.begun puts us ds after h.did in
+    let f = fit m v law run h.start h.begun puts us ds after h.did in
     let living = f.living in
     let n = count_in_order (m v.program).path (living_with us ds) in
     let e = ap (λ (r : PhaseRecord). r.left) is_told in
@@ -142,9 +142,9 @@ module _ {Q S T : Type 0} (m : Q → Reading S T) (v : StretchesValue Q S) (law 
     (puts : List Put) (us : List S) (ds : List (DeedValue S)) (after : List PrintValue) (h : HaveRun m v puts us ds after)
     (le : length ds + spawned_in ds ≤ v.most + left_in ds) (told : PhaseRecord) (is_told : told ≡ told_in v.step ds) (none : None ≡ over_in v.arrays [] 0 puts)
     (next : List S) (is_next : next ≡ in_path_order (m v.program).path (living_with us ds)) where
-  step_landed : IsStepTo (m v.program).frame (m v.program).may v.most (state_of m v law run h.opening) (state_with (landed_with v puts told after (length next)) (map (m v.program).meant next)) Landed
+  step_landed : IsStepTo (m v.program).frame (m v.program).may v.most (state_of m v law run h.start) (state_with (landed_with v puts told after (length next)) (map (m v.program).meant next)) Landed
   step_landed =
-      subst (λ (st : State T). IsStepTo (m v.program).frame (m v.program).may v.most (state_of m v law run h.opening) st Landed)
+      subst (λ (st : State T). IsStepTo (m v.program).frame (m v.program).may v.most (state_of m v law run h.start) st Landed)
       (λ i. record {
         step = v.step + 1;
         arrays = landed puts v.arrays;
@@ -153,21 +153,21 @@ module _ {Q S T : Type 0} (m : Q → Reading S T) (v : StretchesValue Q S) (law 
         records = v.records ++ told ∷ [];
         fault = sym (unfaulted m v run) i;
       })
-      (goes m v law run h.opening h.begun puts us ds after h.did told le is_told none)
+      (goes m v law run h.start h.begun puts us ds after h.did told le is_told none)
 
   pub after_landed : IsAfter m (landed_with v puts told after (length next)) (map (m v.program).meant next)
   after_landed =
-      let f = fit m v law run h.opening h.begun puts us ds after h.did in
+      let f = fit m v law run h.start h.begun puts us ds after h.did in
       let living = f.living in
       let n = ap length is_next ∙ count_in_order (m v.program).path (living_with us ds) in
       let l = length-map next (m v.program).meant in
-      after_next m v (landed_with v puts told after (length next)) (map (m v.program).meant (live_of h.opening)) (map (m v.program).meant next) law h.begun run h.count step_landed.step refl refl refl refl refl (sym l)
+      after_next m v (landed_with v puts told after (length next)) (map (m v.program).meant (live_of h.start)) (map (m v.program).meant next) law h.begun run h.count step_landed.step refl refl refl refl refl (sym l)
       (omega (arith, l, n, living, le))
 
   pub closed_landed : (parts : List (Option (PartValue S))) → AreFresh 0 parts → tasks_in parts ≡ next → (w : StretchesValue Q S) → w ≡ opened_with (landed_with v puts told after (length next)) parts → IsClosed m v w Landed
   closed_landed parts fresh tasks w e =
       subst (λ (x : StretchesValue Q S). IsClosed m v x Landed) (sym e) (record {
-        opening = h.opening;
+        start = h.start;
         older = h.older;
         log = h.is;
         live = map (m v.program).meant next;
@@ -249,7 +249,7 @@ module _ {Q S T : Type 0} (m : Q → Reading S T) where
 
   pub closed_from : (v : StretchesValue Q S) (ps : List (Option (PartValue S))) (w : StretchesValue Q S) (out : Outcome) → IsClosed m (record v { parts = ps }) w out → IsClosed m v w out
   closed_from v ps w out h = record {
-    opening = h.opening;
+    start = h.start;
     older = h.older;
     log = h.log;
     live = h.live;
@@ -259,7 +259,7 @@ module _ {Q S T : Type 0} (m : Q → Reading S T) where
   }
 
   -- stretches that cover the live tasks are those of an opened superstep
-  pub open_whole : (done : Bool) (v : StretchesValue Q S) (h : IsCourse m v) → covers done v.count 0 v.parts ≡ true → status_in v ≡ None → IsOpen m v h.live
+  pub open_whole : (done : Bool) (v : StretchesValue Q S) (h : IsRunSoFar m v) → covers done v.count 0 v.parts ≡ true → status_in v ≡ None → IsOpen m v h.live
   open_whole done v h c run = ⊎_elim none (λ o. o) h.opened
     where
       by : (f : Option (ℕ × List ℕ)) (n : ℕ) → (0 == n) ≡ true → status_for v.limit v.step f n ≡ None → ⊥
@@ -270,36 +270,36 @@ module _ {Q S T : Type 0} (m : Q → Reading S T) where
       none : v.parts ≡ [] → IsOpen m v h.live
       none e = absurd (by v.fault v.count (sym (ap (λ (ss : List (Option (PartValue S))). covers done v.count 0 ss) e) ∙ c) run)
 
-  module _ (v : StretchesValue Q S) (h : IsCourse m v) (c : covers true v.count 0 v.parts ≡ true) (run : status_in v ≡ None) where
+  module _ (v : StretchesValue Q S) (h : IsRunSoFar m v) (c : covers true v.count 0 v.parts ≡ true) (run : status_in v ≡ None) where
     abbrev pub open_now : IsOpen m v h.live
     open_now = open_whole true v h c run
 
-    pub begun_now : IsAfter m v (map (m v.program).meant (live_of open_now.opening))
+    pub begun_now : IsAfter m v (map (m v.program).meant (live_of open_now.start))
     begun_now = subst (IsAfter m v) open_now.lives h.after
 
-    pub did_now : HaveDid (m v.program) v.arrays (live_of open_now.opening) v.step v.parts (live_of open_now.opening)
+    pub did_now : HaveDid (m v.program) v.arrays (live_of open_now.start) v.step v.parts (live_of open_now.start)
     did_now =
-        let l = length-map (live_of open_now.opening) (m v.program).meant in
+        let l = length-map (live_of open_now.start) (m v.program).meant in
         let n = h.after.count ∙ ap length open_now.lives ∙ l in
-        have_did (m v.program) v.arrays (live_of open_now.opening) v.step v.count 0 v.parts open_now.own c n
+        have_did (m v.program) v.arrays (live_of open_now.start) v.step v.count 0 v.parts open_now.own c n
 
     -- none faulted
     pub run_now : fault_in v.parts ≡ None → HaveRun m (record v { parts = [] }) (puts_in v.parts) (tasks_in v.parts) (deeds_in v.parts) (prints_in v.parts)
     run_now e = record {
-      opening = open_now.opening;
+      start = open_now.start;
       older = open_now.older;
       is = open_now.is;
       count = open_now.count;
-      begun = after_with v [] (map (m v.program).meant (live_of open_now.opening)) begun_now;
+      begun = after_with v [] (map (m v.program).meant (live_of open_now.start)) begun_now;
       did = did_now.quiet e;
     }
 
     -- one did
     pub fault_now : ((t : S) → (m v.program).frame.path ((m v.program).meant t) ≡ (m v.program).path t) → (x : ℕ × List ℕ) → fault_in v.parts ≡ Some x
-        → IsStepTo (m v.program).frame (m v.program).may v.most (state_with v (map (m v.program).meant (live_of open_now.opening))) (ended_by (state_with v (map (m v.program).meant (live_of open_now.opening))) x) Faulted
+        → IsStepTo (m v.program).frame (m v.program).may v.most (state_with v (map (m v.program).meant (live_of open_now.start))) (ended_by (state_with v (map (m v.program).meant (live_of open_now.start))) x) Faulted
     fault_now law x e =
         let l = did_now.loud x e in
-        ends_fault m v law run open_now.opening begun_now x l.0 l.1.0 l.1.1.0 l.1.1.1.0 l.1.1.1.1
+        ends_fault m v law run open_now.start begun_now x l.0 l.1.0 l.1.1.0 l.1.1.1.0 l.1.1.1.1
 
 -- ---- what a run leaves
 
@@ -340,7 +340,7 @@ same {A} a b e = ap value e
     value None = a
     value (Some x) = x
 
-module _ {Q S T : Type 0} (m : Q → Reading S T) (v : StretchesValue Q S) (h : IsCourse m v) where
+module _ {Q S T : Type 0} (m : Q → Reading S T) (v : StretchesValue Q S) (h : IsRunSoFar m v) where
   -- the tasks that still live are those of the stretches
   pub living_is : (s : Status) → status_in v ≡ Some s → (tasks : List S) → tasks ≡ (if is_at_limit s then tasks_in v.parts else []) → (is_at_limit s ≡ true → covers false v.count 0 v.parts ≡ true)
       → living_after s h.live ≡ map (m v.program).meant tasks
@@ -369,12 +369,12 @@ module _ {Q S T : Type 0} (m : Q → Reading S T) (v : StretchesValue Q S) (h : 
       by : (v.parts ≡ []) ⊎ IsOpen m v h.live → h.live ≡ map (m v.program).meant tasks
       by (inl n) = absurd (some v.fault v.count e (sym (ap (λ (ss : List (Option (PartValue S))). covers false v.count 0 ss) n) ∙ c refl))
       by (inr o) =
-          let l = length-map (live_of o.opening) (m v.program).meant in
+          let l = length-map (live_of o.start) (m v.program).meant in
           let k = h.after.count ∙ ap length o.lives ∙ l in
-          o.lives ∙ ap (map (m v.program).meant) (sym (live_still (m v.program) v.arrays (live_of o.opening) v.step v.count 0 v.parts o.own (c refl) k) ∙ sym t)
+          o.lives ∙ ap (map (m v.program).meant) (sym (live_still (m v.program) v.arrays (live_of o.start) v.step v.count 0 v.parts o.own (c refl) k) ∙ sym t)
 
   -- what it leaves, taken to this limit
-  record LeftBy (r : Reading S T) (most limit : ℕ) (first : OpeningValue Q S) (outcome : ReportValue) (tasks : List S) : Type 0 where
+  record LeftBy (r : Reading S T) (most limit : ℕ) (first : SuperstepStartValue Q S) (outcome : ReportValue) (tasks : List S) : Type 0 where
     run : HasRunOn r.frame r.may most first.arrays (map r.meant (live_of first)) limit v.given outcome (map r.meant tasks)
     all_open : AllOpen r.meant v.log (states_by r most run.run.history first limit)
     as_long : length run.run.history ≤ length v.log
@@ -433,9 +433,9 @@ module _ {Q S T : Type 0} (m : Q → Reading S T) (v : StretchesValue Q S) (h : 
     pub still_live : (tasks : List S) → tasks ≡ tasks_in v.parts → h.live ≡ map (m v.program).meant tasks
     still_live tasks t =
         let o = open_whole m false v h c run in
-        let l = length-map (live_of o.opening) (m v.program).meant in
+        let l = length-map (live_of o.start) (m v.program).meant in
         let k = h.after.count ∙ ap length o.lives ∙ l in
-        o.lives ∙ ap (map (m v.program).meant) (sym (live_still (m v.program) v.arrays (live_of o.opening) v.step v.count 0 v.parts o.own c k) ∙ sym t)
+        o.lives ∙ ap (map (m v.program).meant) (sym (live_still (m v.program) v.arrays (live_of o.start) v.step v.count 0 v.parts o.own c k) ∙ sym t)
 
     -- what it leaves then: that of a run with a lower limit
     pub has_stopped : (law : (t : S) → (m v.program).frame.path ((m v.program).meant t) ≡ (m v.program).path t) (tasks : List S) → tasks ≡ tasks_in v.parts

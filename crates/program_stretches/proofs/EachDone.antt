@@ -18,7 +18,7 @@ use Rattle.programs.proofs.Reached.{starts_read}
 use Rattle.stretch_parts.specs.PartValue.{PartValue}
 use Rattle.stretch_parts.specs.Parts.{Reading, HasRun, HasDone, IsPartOf, AreOwn, EachDid, fresh_part, covers, fault_in, tasks_in, deeds_in, living_in, without_puts, without_prints}
 use Rattle.stretch_parts.specs.Next.{CanSettle, CanAllSettle}
-use Rattle.program_stretches.specs.Opening.{live_of}
+use Rattle.program_stretches.specs.SuperstepStart.{live_of}
 use Rattle.program_stretches.specs.Did.{DidAll}
 use Rattle.program_stretches.specs.StretchesValue.{StretchesValue, state_with, IsAfter}
 use Rattle.stretch_parts.proofs.Along.{both}

@@ -1,7 +1,7 @@
 pub mod Whole
 pub mod Taken
 pub mod Owning
-pub mod Course
+pub mod RunsSoFar
 pub mod Closed
 pub mod Refusing
 pub mod EachDone

@@ -8,17 +8,17 @@ use Rattle.programs.specs.InPlace.{left_in, spawned_in}
 use Rattle.programs.specs.Superstep.{ended_by}
 use Rattle.program_stretches.specs.Reached.{HasRunOn}
 use Rattle.program_stretches.specs.LinesValue.{LinesValue}
-use Rattle.program_stretches.specs.declared.fault.Unwanted.{Unwanted}
-use Rattle.program_stretches.specs.declared.fault.Unwanted.TheVariants as unwanted
-use Rattle.program_stretches.specs.declared.fault.Unclosed.{Unclosed}
-use Rattle.program_stretches.specs.declared.fault.Unclosed.TheVariants as unclosed
+use Rattle.program_stretches.specs.declared.fault.AcceptStretchFault.{AcceptStretchFault}
+use Rattle.program_stretches.specs.declared.fault.AcceptStretchFault.TheVariants as unwanted
+use Rattle.program_stretches.specs.declared.fault.CloseStretchesFault.{CloseStretchesFault}
+use Rattle.program_stretches.specs.declared.fault.CloseStretchesFault.TheVariants as unclosed
 use Rattle.program_stretches.specs.declared.fault.Outcome.{Outcome}
 use Rattle.program_stretches.specs.declared.fault.Outcome.TheVariants.{Landed}
 use Rattle.stretch_parts.specs.PartValue.{PartValue}
 use Rattle.stretch_parts.specs.Parts.{Reading, AreFresh, EachDid, covers, of_slot, tasks_in, living_in, renewed}
-use Rattle.program_stretches.specs.Opening.{OpeningValue, live_of, states_by, AllOpen}
+use Rattle.program_stretches.specs.SuperstepStart.{SuperstepStartValue, live_of, states_by, AllOpen}
 use Rattle.program_stretches.specs.Did.{IsStep, IsStepTo}
-use Rattle.program_stretches.specs.StretchesValue.{StretchesValue, StretchValue, is_at_limit, state_with, with_slot, IsAfter, IsCourse}
+use Rattle.program_stretches.specs.StretchesValue.{StretchesValue, StretchValue, is_at_limit, state_with, with_slot, IsAfter, IsRunSoFar}
 
 -- whether there is such a stretch and it isn't out
 abbrev pub is_there : {S : Type 0} → Option (Option (PartValue S)) → Bool
@@ -29,14 +29,14 @@ is_there (Some (Some part)) = true
 module _ {Q S : Type 0} where
   -- a run of this program, with these arrays and these tasks, before its first superstep; no stretch is out or has run
   pub record IsBegun (name : TableId) (program : Q) (arrays : List (List ℕ × List ℤ)) (tasks : List S) (most limit : ℕ) (v : StretchesValue Q S) : Type 0 where
-    pub opening : OpeningValue Q S
-    pub log : v.log ≡ opening ∷ []
+    pub start : SuperstepStartValue Q S
+    pub log : v.log ≡ start ∷ []
     pub named : v.name ≡ name
-    pub of_program : opening.program ≡ program
-    pub of_most : opening.most ≡ most
-    pub of_limit : opening.limit ≡ limit
-    pub of_arrays : opening.arrays ≡ arrays
-    pub of_tasks : live_of opening ≡ tasks
+    pub of_program : start.program ≡ program
+    pub of_most : start.most ≡ most
+    pub of_limit : start.limit ≡ limit
+    pub of_arrays : start.arrays ≡ arrays
+    pub of_tasks : live_of start ≡ tasks
     pub at_most : v.most ≡ most
     pub to_limit : v.limit ≡ limit
     pub with_arrays : v.arrays ≡ arrays
@@ -58,7 +58,7 @@ module _ {Q S : Type 0} where
     pub step : s.step ≡ old.step
 
   -- why a stretch isn't taken back: the first of these reasons that applies
-  abbrev pub Refuses : Unwanted → StretchesValue Q S → StretchValue Q S → Type 0
+  abbrev pub Refuses : AcceptStretchFault → StretchesValue Q S → StretchValue Q S → Type 0
   Refuses unwanted.WrongStep v s = s.step ≡ v.step → ⊥
   Refuses unwanted.Unfinished v s = (s.step ≡ v.step) × (s.part.done ≡ false)
   Refuses unwanted.Stranger v s = (s.step ≡ v.step) × (s.part.done ≡ true) × (slice_get v.parts s.number ≡ None)
@@ -78,12 +78,12 @@ module _ {Q S : Type 0} where
     pub limit : new.limit ≡ old.limit
 
   -- why a superstep isn't closed, and what that changes
-  abbrev pub NotClosed : Unclosed → StretchesValue Q S → StretchesValue Q S → Type 0
+  abbrev pub NotClosed : CloseStretchesFault → StretchesValue Q S → StretchesValue Q S → Type 0
   NotClosed unclosed.Missing old new = (covers true old.count 0 old.parts ≡ false) × (new ≡ old)
   NotClosed (unclosed.Memory e) old new = (covers true old.count 0 old.parts ≡ true) × (new.parts ≡ [])
 
   -- what a run leaves that has ended so: its tasks only if they still live
-  pub record IsLeftAs (v : StretchesValue Q S) (s : Status) (name : TableId) (log : List (OpeningValue Q S)) (given : ℕ) (outcome : ReportValue) (living : List S) : Type 0 where
+  pub record IsLeftAs (v : StretchesValue Q S) (s : Status) (name : TableId) (log : List (SuperstepStartValue Q S)) (given : ℕ) (outcome : ReportValue) (living : List S) : Type 0 where
     pub named : name ≡ v.name
     pub logged : log ≡ v.log
     pub gave : given ≡ v.given
@@ -91,16 +91,16 @@ module _ {Q S : Type 0} where
     pub tasks : living ≡ (if is_at_limit s then tasks_in v.parts else [])
 
   -- the next superstep, with these stretches
-  abbrev pub opening_with : StretchesValue Q S → List (Option (PartValue S)) → OpeningValue Q S
-  opening_with v parts = record { program = v.program; most = v.most; limit = v.limit; arrays = v.arrays; parts = parts }
+  abbrev pub start_with : StretchesValue Q S → List (Option (PartValue S)) → SuperstepStartValue Q S
+  start_with v parts = record { program = v.program; most = v.most; limit = v.limit; arrays = v.arrays; parts = parts }
 
   -- the run after the next superstep was opened with these stretches
   abbrev pub opened_with : StretchesValue Q S → List (Option (PartValue S)) → StretchesValue Q S
-  opened_with v parts = record v { log = opening_with v parts ∷ v.log; parts = parts }
+  opened_with v parts = record v { log = start_with v parts ∷ v.log; parts = parts }
 
-  -- How closing a superstep changes the log: it gets the opening of the next one, if the run wasn't ended by a fault.
+  -- How closing a superstep changes the log: it gets the start of the next one, if the run wasn't ended by a fault.
   abbrev pub Logs : Outcome → StretchesValue Q S → StretchesValue Q S → Type 0
-  Logs Landed old new = (length old.log ≡ new.step) × (new.log ≡ opening_with new new.parts ∷ old.log)
+  Logs Landed old new = (length old.log ≡ new.step) × (new.log ≡ start_with new new.parts ∷ old.log)
   Logs o old new = new.log ≡ old.log
 
 -- no task of a stretch that isn't out has stopped or spawned another
@@ -139,19 +139,19 @@ module _ {Q S T : Type 0} where
 
   -- The tasks that lived when the superstep was opened have taken one step, and it ended with this outcome.
   pub record IsClosed (m : Q → Reading S T) (old new : StretchesValue Q S) (outcome : Outcome) : Type 0 where
-    pub opening : OpeningValue Q S
-    pub older : List (OpeningValue Q S)
-    pub log : old.log ≡ opening ∷ older
+    pub start : SuperstepStartValue Q S
+    pub older : List (SuperstepStartValue Q S)
+    pub log : old.log ≡ start ∷ older
     pub live : List T
-    pub step : IsStepTo (m old.program).frame (m old.program).may old.most (state_with old (map (m old.program).meant (live_of opening))) (state_with new live) outcome
+    pub step : IsStepTo (m old.program).frame (m old.program).may old.most (state_with old (map (m old.program).meant (live_of start))) (state_with new live) outcome
     pub leaves : EndsAs m outcome new live
     pub same : IsSameRun old new
 
-  -- This is the result of a run that began with the first opening of this log and was taken to a limit that may be lower than its
-  -- own, without what its first `given` supersteps printed and recorded. The openings are those of its supersteps.
-  pub record HasLeftTo (m : Q → Reading S T) (limit : OpeningValue Q S → ℕ) (log : List (OpeningValue Q S)) (given : ℕ) (outcome : ReportValue) (living : List S) : Type 0 where
-    pub first : OpeningValue Q S
-    pub since : List (OpeningValue Q S)
+  -- This is the result of a run that began with the first start of this log and was taken to a limit that may be lower than its
+  -- own, without what its first `given` supersteps printed and recorded. The starts are those of its supersteps.
+  pub record HasLeftTo (m : Q → Reading S T) (limit : SuperstepStartValue Q S → ℕ) (log : List (SuperstepStartValue Q S)) (given : ℕ) (outcome : ReportValue) (living : List S) : Type 0 where
+    pub first : SuperstepStartValue Q S
+    pub since : List (SuperstepStartValue Q S)
     pub begun : log ≡ since ++ first ∷ []
     pub within : limit first ≤ first.limit
     pub run : HasRunOn (m first.program).frame (m first.program).may first.most first.arrays (map (m first.program).meant (live_of first)) (limit first) given outcome (map (m first.program).meant living)
@@ -160,12 +160,12 @@ module _ {Q S T : Type 0} where
     pub counted : CountsAs outcome.status (length run.run.history)
 
   -- the same, taken to its own limit
-  abbrev pub HasLeft : (Q → Reading S T) → List (OpeningValue Q S) → ℕ → ReportValue → List S → Type 0
+  abbrev pub HasLeft : (Q → Reading S T) → List (SuperstepStartValue Q S) → ℕ → ReportValue → List S → Type 0
   HasLeft m log given outcome living = HasLeftTo m (λ o. o.limit) log given outcome living
 
   -- The lines that `give` returns: what supersteps have printed and recorded since the last call.
   pub record IsGiven (m : Q → Reading S T) (v : StretchesValue Q S) (lines : LinesValue) : Type 0 where
-    pub course : IsCourse m v
+    pub run : IsRunSoFar m v
     pub first : lines.first ≡ v.given
     pub next : lines.next ≡ v.step
     pub prints : lines.prints ≡ v.prints

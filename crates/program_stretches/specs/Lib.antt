@@ -1,5 +1,5 @@
 pub mod Reached
-pub mod Opening
+pub mod SuperstepStart
 pub mod Did
 pub mod StretchesValue
 pub mod StretchView

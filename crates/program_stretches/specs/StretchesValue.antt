@@ -13,27 +13,27 @@ use Rattle.programs.specs.Superstep.{State}
 use Rattle.programs.specs.InPlace.{living_with}
 use Rattle.stretch_parts.specs.PartValue.{PartValue}
 use Rattle.stretch_parts.specs.Parts.{Reading, IsPartOf, AreOwn, covers}
-use Rattle.program_stretches.specs.Opening.{OpeningValue, live_of, states_by, AllOpen}
+use Rattle.program_stretches.specs.SuperstepStart.{SuperstepStartValue, live_of, states_by, AllOpen}
 use Rattle.program_stretches.specs.Reached.{IsReached}
 use Rattle.program_stretches.specs.Did.{DidAll}
 
 -- A stretch that was taken: its place among those of its superstep, what its superstep began with, and its tasks. The log by this
--- name had these openings when it was taken, the last being that of the superstep of the stretch.
+-- name had these starts when it was taken, the last being that of the superstep of the stretch.
 pub record StretchValue (Q S : Type 0) : Type 0 where
   pub name : TableId
-  pub log : List (OpeningValue Q S)
+  pub log : List (SuperstepStartValue Q S)
   pub program : Q
   pub number : ℕ
   pub step : ℕ
   pub arrays : List (List ℕ × List ℤ)
   pub part : PartValue S
 
--- A run: the openings of its supersteps, the last first, by the name of their log; its limits; how many supersteps it
+-- A run: the starts of its supersteps, the last first, by the name of their log; its limits; how many supersteps it
 -- has taken; what they left; how many tasks live, and the stretches of the next superstep that aren't taken. What the
 -- first `given` supersteps printed and recorded was given away, and isn't among the prints and records.
 pub record StretchesValue (Q S : Type 0) : Type 0 where
   pub name : TableId
-  pub log : List (OpeningValue Q S)
+  pub log : List (SuperstepStartValue Q S)
   pub program : Q
   pub most : ℕ
   pub limit : ℕ
@@ -53,38 +53,38 @@ module _ {Q S T : Type 0} where
 
   -- a stretch of a superstep that began with this; the paths of the live tasks rise
   pub record IsStretch (m : Q → Reading S T) (ready : Q → Type 0) (v : StretchValue Q S) : Type 0 where
-    pub opening : OpeningValue Q S
-    pub older : List (OpeningValue Q S)
-    pub is : v.log ≡ opening ∷ older
+    pub start : SuperstepStartValue Q S
+    pub older : List (SuperstepStartValue Q S)
+    pub is : v.log ≡ start ∷ older
     pub count : length v.log ≡ v.step + 1
-    pub program : v.program ≡ opening.program
-    pub arrays : v.arrays ≡ opening.arrays
+    pub program : v.program ≡ start.program
+    pub arrays : v.arrays ≡ start.arrays
     pub is_ready : ready v.program
-    pub rising : is_rising (map (m v.program).path (live_of opening)) ≡ true
-    pub part : IsPartOf (m v.program) v.arrays (live_of opening) v.step v.part
+    pub rising : is_rising (map (m v.program).path (live_of start)) ≡ true
+    pub part : IsPartOf (m v.program) v.arrays (live_of start) v.step v.part
 
-  -- the last opening is that of the next superstep, and the stretches are of its live tasks
+  -- the last start is that of the next superstep, and the stretches are of its live tasks
   pub record IsOpen (m : Q → Reading S T) (v : StretchesValue Q S) (live : List T) : Type 0 where
-    pub opening : OpeningValue Q S
-    pub older : List (OpeningValue Q S)
-    pub is : v.log ≡ opening ∷ older
+    pub start : SuperstepStartValue Q S
+    pub older : List (SuperstepStartValue Q S)
+    pub is : v.log ≡ start ∷ older
     pub count : length v.log ≡ v.step + 1
-    pub program : v.program ≡ opening.program
-    pub arrays : v.arrays ≡ opening.arrays
-    pub lives : live ≡ map (m v.program).meant (live_of opening)
-    pub own : AreOwn (m v.program) v.arrays (live_of opening) v.step v.parts
+    pub program : v.program ≡ start.program
+    pub arrays : v.arrays ≡ start.arrays
+    pub lives : live ≡ map (m v.program).meant (live_of start)
+    pub own : AreOwn (m v.program) v.arrays (live_of start) v.step v.parts
 
-  -- the run began with the first opening of the log
+  -- the run began with the first start of the log
   pub record HasBegun (m : Q → Reading S T) (v : StretchesValue Q S) : Type 0 where
-    pub first : OpeningValue Q S
-    pub since : List (OpeningValue Q S)
+    pub first : SuperstepStartValue Q S
+    pub since : List (SuperstepStartValue Q S)
     pub is : v.log ≡ since ++ first ∷ []
     pub program : v.program ≡ first.program
     pub most : v.most ≡ first.most
     pub limit : v.limit ≡ first.limit
     pub paths : map (m v.program).path (live_of first) ≡ children [] 0 (length (live_of first))
 
-  -- It is the run after some of its supersteps, in which these tasks live. The openings are those of its supersteps.
+  -- It is the run after some of its supersteps, in which these tasks live. The starts are those of its supersteps.
   pub record IsAfter (m : Q → Reading S T) (v : StretchesValue Q S) (live : List T) : Type 0 where
     pub begun : HasBegun m v
     pub reached : IsReached (m v.program).frame (m v.program).may v.most begun.first.arrays (map (m v.program).meant (live_of begun.first)) v.limit v.given (state_with v live)
@@ -94,19 +94,19 @@ module _ {Q S T : Type 0} where
     pub few : length live ≤ v.most
 
   -- And its stretches are of the next. If memory ran out, there are none.
-  pub record IsCourse (m : Q → Reading S T) (v : StretchesValue Q S) : Type 0 where
+  pub record IsRunSoFar (m : Q → Reading S T) (v : StretchesValue Q S) : Type 0 where
     pub live : List T
     pub after : IsAfter m v live
     pub opened : (v.parts ≡ []) ⊎ IsOpen m v live
 
   -- these stretches are all of the superstep that the run is in, their tasks have run and put this, and none faulted
   pub record HaveRun (m : Q → Reading S T) (v : StretchesValue Q S) (puts : List Put) (us : List S) (ds : List (DeedValue S)) (after : List PrintValue) : Type 0 where
-    pub opening : OpeningValue Q S
-    pub older : List (OpeningValue Q S)
-    pub is : v.log ≡ opening ∷ older
+    pub start : SuperstepStartValue Q S
+    pub older : List (SuperstepStartValue Q S)
+    pub is : v.log ≡ start ∷ older
     pub count : length v.log ≡ v.step + 1
-    pub begun : IsAfter m v (map (m v.program).meant (live_of opening))
-    pub did : DidAll (m v.program) v.arrays v.step None puts (live_of opening) us ds after
+    pub begun : IsAfter m v (map (m v.program).meant (live_of start))
+    pub did : DidAll (m v.program) v.arrays v.step None puts (live_of start) us ds after
 
   -- and the put at this place of all their puts overflows
   pub record OverflowsAt (m : Q → Reading S T) (v : StretchesValue Q S) (us : List S) (ds : List (DeedValue S)) (after : List PrintValue) (place : ℕ) : Type 0 where

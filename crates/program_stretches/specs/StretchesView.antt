@@ -3,7 +3,7 @@ use Rattle.std.specs.Prelude.{◌≡◌, ◌≤◌, ◌<◌, ◌^◌}
 use Rattle.std.specs.Arc.{arc_value}
 use Rattle.program_stretches.specs.declared.stretches.Stretches.TheInside.{Inside}
 use Rattle.stretch_parts.specs.Parts.{Reading}
-use Rattle.program_stretches.specs.StretchesValue.{StretchesValue, IsCourse}
+use Rattle.program_stretches.specs.StretchesValue.{StretchesValue, IsRunSoFar}
 
 abbrev pub stretches_of : {Q S : Type 0} → Inside Q S → StretchesValue Q S
 stretches_of i = record {
@@ -23,7 +23,7 @@ stretches_of i = record {
 }
 
 pub record IsStretchesInside {Q S T : Type 0} (m : Q → Reading S T) (ready : Q → Type 0) (i : Inside Q S) : Type 0 where
-  pub course : IsCourse m (stretches_of i)
+  pub run : IsRunSoFar m (stretches_of i)
   pub same : i.log.now ≡ i.writer.name
   pub is_ready : ready i.program.now
   pub pieces : 1 ≤ i.pieces

@@ -4,7 +4,7 @@ use thiserror::Error;
 
 /// The error of `Stretches::accept` (own). Nothing has changed.
 #[derive(Clone, Copy, Debug, PartialEq, Eq, Error)]
-pub enum Unwanted {
+pub enum AcceptStretchFault {
     /// It is of another superstep.
     #[error("a stretch of another superstep")]
     WrongStep,
@@ -21,7 +21,7 @@ pub enum Unwanted {
 
 /// The error of `Stretches::close` (own).
 #[derive(Debug, Drop, Error)]
-pub enum Unclosed {
+pub enum CloseStretchesFault {
     /// A stretch isn't back, or its tasks haven't run. Nothing changes.
     #[error("a stretch that isn't back")]
     Missing,

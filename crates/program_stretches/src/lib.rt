@@ -3,7 +3,7 @@
 //!
 //! # Where things are
 //!
-//! * `stretch.rt`: a stretch that was taken; `opened.rt`: a superstep as it begins; `lines.rt`: what supersteps printed;
+//! * `stretch.rt`: a stretch that was taken; `start.rt`: a superstep as it begins; `lines.rt`: what supersteps printed;
 //!   `stretches.rt`: the whole; `fault.rt`: refusals; `laws.rt`: the laws. What its tasks did is a part of `stretch_parts`.
 //! * `specs/StretchesValue.antt`: the supersteps; `Closing.antt`: how they are taken, taken back and closed;
 //!   `Reached.antt`: the history so far.
@@ -12,13 +12,13 @@
 mod fault;
 pub mod laws;
 mod lines;
-mod opened;
+mod start;
 mod stretch;
 mod stretches;
 
-pub use fault::{Outcome, Unclosed, Unwanted};
+pub use fault::{AcceptStretchFault, CloseStretchesFault, Outcome};
 pub use lines::Lines;
-pub use opened::Opened;
 pub use programs::deeds::{Change, Changes};
+pub use start::SuperstepStart;
 pub use stretch::Stretch;
 pub use stretches::{Left, Stretches};

@@ -1,5 +1,5 @@
 //! A stretch that was taken.
-use crate::opened::Opened;
+use crate::start::SuperstepStart;
 use programs::deeds::Changes;
 use programs::program::{Program, TaskLoop};
 use snapshot_log::log::Snapshot;
@@ -19,7 +19,7 @@ pub struct Stretch<'p, P: Program> {
     pub(crate) step: u32,
     pub(crate) arrays: Arc<Arrays>,
     pub(crate) part: Part<P::Task>,
-    pub(crate) snapshot: Snapshot<Opened<'p, P, P::Task>>,
+    pub(crate) snapshot: Snapshot<SuperstepStart<'p, P, P::Task>>,
 }
 
 impl<'p, P: Program> Model for Stretch<'p, P> {

@@ -6,9 +6,9 @@ ghost use Rattle.program_stretches.specs.StretchesValue.{is_at_limit};
 ghost use Rattle.stretch_parts.specs.Parts.{tasks_in};
 ghost use Rattle.std.specs.Arc.{arc_value};
 
-use crate::fault::{Outcome, Unclosed, Unwanted};
+use crate::fault::{AcceptStretchFault, CloseStretchesFault, Outcome};
 use crate::lines::Lines;
-use crate::opened::Opened;
+use crate::start::SuperstepStart;
 use crate::stretch::Stretch;
 use phase_records::{JobStatus, PhaseRecord, Print, Report};
 use programs::alone::Ran;
@@ -34,8 +34,8 @@ use superstep_memory::puts::Puts;
 /// prints, records and status are those of a history of supersteps, whose tasks each left what they may leave.
 #[derive(Drop)]
 pub struct Stretches<'t, 'p, P: Program> {
-    log: &'t Log<Opened<'p, P, P::Task>>,
-    writer: Writer<Opened<'p, P, P::Task>>,
+    log: &'t Log<SuperstepStart<'p, P, P::Task>>,
+    writer: Writer<SuperstepStart<'p, P, P::Task>>,
     program: &'p P,
     // How many tasks may live at once.
     most: u32,
@@ -81,7 +81,7 @@ impl<'t, 'p, P: Program> Stretches<'t, 'p, P> {
     ghost use Rattle.superstep_memory.specs.Landing.{is_set};
     ghost use Rattle.stretch_parts.specs.Next.{CanAllSettle};
     ghost use Rattle.stretch_parts.specs.Parts.{reading_of, AreFresh, EachDid, covers, tasks_in, puts_in, deeds_in, prints_in};
-    ghost use Rattle.program_stretches.specs.StretchesValue.{status_in, left_after, can_leave, can_stop, ready_at, tasks_at, with_slot, IsAfter, IsCourse, HaveRun, OverflowsAt};
+    ghost use Rattle.program_stretches.specs.StretchesValue.{status_in, left_after, can_leave, can_stop, ready_at, tasks_at, with_slot, IsAfter, IsRunSoFar, HaveRun, OverflowsAt};
     ghost use Rattle.program_stretches.specs.Closing.{IsBegun, IsTaken, Refuses, Accepts, IsSameRun, NotClosed, IsClosed, EndsBy, IsLeftAs, HasLeft, HasLeftTo, IsGiven, IsReopened, AllStay, Logs, opened_with};
 
     /// Creates a run of `program` that begins with these arrays and tasks, with a new log. At most `most` tasks may live at once,
@@ -89,8 +89,8 @@ impl<'t, 'p, P: Program> Stretches<'t, 'p, P> {
     /// stretches.
     pub fn new(
         alloc: Global,
-        log: &'t Log<Opened<'p, P, P::Task>>,
-        start: Start<Opened<'p, P, P::Task>>,
+        log: &'t Log<SuperstepStart<'p, P, P::Task>>,
+        start: Start<SuperstepStart<'p, P, P::Task>>,
         program: &'p P,
         arrays: Arrays,
         tasks: Vec<P::Task>,
@@ -117,9 +117,9 @@ impl<'t, 'p, P: Program> Stretches<'t, 'p, P> {
             parts,
         } = ready;
         let mut writer = log.write(start);
-        let Opened { parts, .. } = writer.note(
+        let SuperstepStart { parts, .. } = writer.note(
             log,
-            Opened {
+            SuperstepStart {
                 program,
                 most,
                 limit,
@@ -147,7 +147,7 @@ impl<'t, 'p, P: Program> Stretches<'t, 'p, P> {
     }
 
     /// Returns a snapshot of the log of opened supersteps.
-    pub fn snapshot(&mut self) -> Snapshot<Opened<'p, P, P::Task>>
+    pub fn snapshot(&mut self) -> Snapshot<SuperstepStart<'p, P, P::Task>>
         ensures same { self.new ≡ self.old }
         ensures snapshot { result ≡ record { name = self.old.name; log = self.old.log } }
     {
@@ -155,7 +155,7 @@ impl<'t, 'p, P: Program> Stretches<'t, 'p, P> {
     }
 
     /// Proves that an earlier snapshot of the log of opened supersteps is a beginning of that log.
-    pub fn compare(&mut self, earlier: Snapshot<Opened<'p, P, P::Task>>)
+    pub fn compare(&mut self, earlier: Snapshot<SuperstepStart<'p, P, P::Task>>)
         requires { earlier.name ≡ self.old.name }
         ensures same { self.new ≡ self.old }
         ensures before { WasBefore earlier.entry.log self.old.log }
@@ -263,25 +263,25 @@ impl<'t, 'p, P: Program> Stretches<'t, 'p, P> {
     }
 
     // Returns why a stretch isn't taken back, if it isn't.
-    fn refuses(&self, stretch: &Stretch<'p, P>) -> Option<Unwanted>
+    fn refuses(&self, stretch: &Stretch<'p, P>) -> Option<AcceptStretchFault>
         ensures { MatchOption result (Accepts self.now stretch.now) (λ fault. Refuses fault self.now stretch.now) }
     {
         if stretch.step() != self.step {
-            return Some(Unwanted::WrongStep);
+            return Some(AcceptStretchFault::WrongStep);
         }
         if !stretch.is_done() {
-            return Some(Unwanted::Unfinished);
+            return Some(AcceptStretchFault::Unfinished);
         }
         match self.parts.get(stretch.number()) {
             Some(None) => None,
-            Some(Some(_)) => Some(Unwanted::Double),
-            None => Some(Unwanted::Stranger),
+            Some(Some(_)) => Some(AcceptStretchFault::Double),
+            None => Some(AcceptStretchFault::Stranger),
         }
     }
 
     /// Takes a stretch back. Fails, and changes nothing, for the first of these reasons: it is of another superstep; its tasks
     /// haven't run; no stretch has its number; that stretch isn't out. The caller ensures that it is of this run.
-    pub fn accept(&mut self, stretch: Stretch<'p, P>) -> Result<(), Unwanted>
+    pub fn accept(&mut self, stretch: Stretch<'p, P>) -> Result<(), AcceptStretchFault>
         requires { stretch.name ≡ self.old.name }
         ensures accepted { OnOk result (Accepts self.old stretch.entry) }
         ensures added { OnOk result (self.new ≡ with_slot self.old stretch.entry.number (Some stretch.entry.part)) }
@@ -354,14 +354,14 @@ impl<'t, 'p, P: Program> Stretches<'t, 'p, P> {
         ensures memory { OnErr result (self.new ≡ self.old) }
     {
         let arrays = Arc::try_clone(&self.arrays)?;
-        let opened = Opened {
+        let opened = SuperstepStart {
             program: self.program,
             most: self.most,
             limit: self.limit,
             arrays,
             parts,
         };
-        let Opened { parts, .. } = self.writer.note(self.log, opened);
+        let SuperstepStart { parts, .. } = self.writer.note(self.log, opened);
         self.parts = parts;
         Ok(())
     }
@@ -446,7 +446,7 @@ impl<'t, 'p, P: Program> Stretches<'t, 'p, P> {
     }
 
     // Takes one superstep of stretches that have all run, in which no task faulted.
-    fn go_on(
+    fn take_superstep(
         &mut self,
         alloc: Global,
         mut parts: Vec<Option<Part<P::Task>>>,
@@ -491,7 +491,7 @@ impl<'t, 'p, P: Program> Stretches<'t, 'p, P> {
     /// Closes the superstep. Fails with `Missing`, and changes nothing, if a stretch isn't back or hasn't run. A task's fault,
     /// too many tasks, or a sum that overflows is not an error: it ends the run, and nothing else of the superstep counts. If
     /// memory runs out, the live tasks are lost, and the run can't continue.
-    pub fn close(&mut self, alloc: Global) -> Result<Outcome, Unclosed>
+    pub fn close(&mut self, alloc: Global) -> Result<Outcome, CloseStretchesFault>
         requires running { status_in self.old ≡ None }
         ensures whole { OnOk result (covers true self.old.count 0 self.old.parts ≡ true) }
         ensures closed { IfOk result (λ outcome. IsClosed (reading_of P.frame P.may P.meant P.Task.path_of) self.old self.new outcome) }
@@ -503,7 +503,7 @@ impl<'t, 'p, P: Program> Stretches<'t, 'p, P> {
         ensures given { self.new.given ≡ self.old.given }
     {
         if !cover(&self.parts, true, self.count) {
-            return Err(Unclosed::Missing);
+            return Err(CloseStretchesFault::Missing);
         }
         let parts = mem::replace(&mut self.parts, Vec::new(alloc));
         if let Some(blame) = find_fault(&parts) {
@@ -512,9 +512,9 @@ impl<'t, 'p, P: Program> Stretches<'t, 'p, P> {
         }
         // Filled only if a put adds.
         let mut puts = Puts::new(alloc);
-        match self.go_on(alloc, parts, &mut puts) {
+        match self.take_superstep(alloc, parts, &mut puts) {
             Ok(outcome) => Ok(outcome),
-            Err(fault) => Err(Unclosed::Memory(fault)),
+            Err(fault) => Err(CloseStretchesFault::Memory(fault)),
         }
     }
 
@@ -558,7 +558,7 @@ impl<'t, 'p, P: Program> Stretches<'t, 'p, P> {
         requires short { IsShort (status_seen status) }
         ensures left { IfOk result (λ left. IfSome left (λ l. IsLeftAs self.entry (status_seen status) l.writer.name l.writer.log l.given l.ran.report l.ran.tasks.items)) }
         ensures some { IfOk result (λ left. is_some left ≡ left_after self.entry (Some (status_seen status))) }
-        ensures course { IsCourse (reading_of P.frame P.may P.meant P.Task.path_of) self.entry }
+        ensures run { IsRunSoFar (reading_of P.frame P.may P.meant P.Task.path_of) self.entry }
     {
         let lives = is_limit(&status);
         if !self.is_at_rest(lives) {
@@ -637,8 +637,8 @@ pub struct Left<'p, P: Program> {
     pub ran: Ran<P::Task>,
     /// How many supersteps' prints and records were given away.
     pub given: u32,
-    /// The writer of the log of its openings.
-    pub writer: Writer<Opened<'p, P, P::Task>>,
+    /// The writer of the log of its starts.
+    pub writer: Writer<SuperstepStart<'p, P, P::Task>>,
 }
 
 // Returns true if a run ended at its limit.

@@ -10,7 +10,7 @@ use Rattle.phase_records.specs.ReportValue.{ReportValue}
 use Rattle.task_code.specs.JobValue.{JobValue}
 use Rattle.task_actions.specs.TaskValue.{TaskValue}
 use Rattle.job_program.specs.declared.job.JobProgram.{JobProgram}
-use Rattle.program_stretches.specs.Opening.{OpeningValue}
+use Rattle.program_stretches.specs.SuperstepStart.{SuperstepStartValue}
 use Rattle.program_stretches.specs.StretchesValue.{StretchesValue}
 use Rattle.program_stretches.specs.Closing.{HasLeft}
 use Rattle.job_stream.specs.Running.{IsRunOf, job_reading}
@@ -18,7 +18,7 @@ use Rattle.stretch_queue.specs.Hooked.{bare}
 use Rattle.stretch_queue.specs.Watched.{HasLeftKept, LeavesAs}
 
 -- it wasn't stopped, so it has ended by itself
-pub left_streamed : (j : JobValue) (limit : ℕ) (mark : TableId) (w : LogValue (OpeningValue JobProgram TaskValue)) (given : ℕ) (outcome : ReportValue) (tasks : List TaskValue)
+pub left_streamed : (j : JobValue) (limit : ℕ) (mark : TableId) (w : LogValue (SuperstepStartValue JobProgram TaskValue)) (given : ℕ) (outcome : ReportValue) (tasks : List TaskValue)
     → HasLeftKept job_reading (λ v stopped. (stopped ≡ false) × IsRunOf j limit v.log) mark w given outcome tasks → (w.name ≡ mark) × HasLeft job_reading w.log given outcome tasks
 left_streamed j limit mark w given outcome tasks h = by h.last h.stopped h.of_mark h.keeps h.leaves
   where

@@ -11,8 +11,8 @@ use Rattle.job_stream.specs.declared.fault.StreamFault.{StreamFault}
 use Rattle.job_stream.specs.declared.fault.StreamFault.TheVariants.{Write, Memory, Internal}
 use Rattle.job_stream.proofs.Streams.{goes_on, streams_failed, streams_ended}
 use Rattle.stream_workers.specs.Written.{HasWritten, StreamsOn, CauseOn}
-use Rattle.stream_workers.specs.declared.fault.Unstreamed.{Unstreamed}
-use Rattle.stream_workers.specs.declared.fault.Unstreamed.TheVariants.{Fault}
+use Rattle.stream_workers.specs.declared.fault.WorkersStreamFault.{WorkersStreamFault}
+use Rattle.stream_workers.specs.declared.fault.WorkersStreamFault.TheVariants.{Fault}
 
 -- the lines of no superstep are nothing
 pub nothing_kept : (old new : Option (List ℕ)) → Appends old new [] → Keeps old new
@@ -49,7 +49,7 @@ pub fails_on : (workers : ℕ) (p : Program) (limit n : ℕ) (held old new : Opt
 fails_on workers p limit n held old new fault h a = streams_ended p limit n held old new (Err fault) a h
 
 -- with the failures of the whole run
-pub cause_on : (old mid new : ℕ) (r : Result JobStatus Unstreamed) → mid ≡ old → CauseOn mid new r → CauseOn old new r
+pub cause_on : (old mid new : ℕ) (r : Result JobStatus WorkersStreamFault) → mid ≡ old → CauseOn mid new r → CauseOn old new r
 cause_on old mid new r e h = subst (λ (k : ℕ). CauseOn k new r) e h
 
 -- the same as an outlet keeps it, whose job and limit are those of the run

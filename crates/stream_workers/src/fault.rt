@@ -13,7 +13,7 @@ use worker_pool::Refused;
 /// The error of a run on workers whose report is written superstep by superstep (own). All workers that were started have been
 /// joined.
 #[derive(Clone, Copy, Debug, PartialEq, Eq, Error)]
-pub enum Unstreamed {
+pub enum WorkersStreamFault {
     /// An error that one thread can also have.
     #[error(transparent)]
     Fault(StreamFault),
@@ -23,16 +23,16 @@ pub enum Unstreamed {
 }
 
 /// Returns why a run that workers refused doesn't end, after the lines of `written` supersteps were written.
-pub(crate) fn why_unstreamed(refused: Refused, written: u32) -> Unstreamed
+pub(crate) fn workers_stream_fault(refused: Refused, written: u32) -> WorkersStreamFault
     ensures streams { (workers limit : ℕ) (p : Program) (old new : Option (List ℕ)) → IsOfWorkers workers refused → Appends old new (lines_of p limit written)
         → StreamsOn workers p limit old new (Err result) }
     ensures cause { (failures : ℕ) → CauseOn failures failures (Err result) }
 {
     match refused {
-        Refused::NotStarted(k) if written == 0 => Unstreamed::NotStarted(k),
+        Refused::NotStarted(k) if written == 0 => WorkersStreamFault::NotStarted(k),
         Refused::NotStarted(_) | Refused::Internal | Refused::Full => {
-            Unstreamed::Fault(StreamFault::Internal)
+            WorkersStreamFault::Fault(StreamFault::Internal)
         }
-        Refused::Memory => Unstreamed::Fault(StreamFault::Memory),
+        Refused::Memory => WorkersStreamFault::Fault(StreamFault::Memory),
     }
 }

@@ -17,5 +17,5 @@ mod outlet;
 mod run;
 mod streaming;
 
-pub use fault::Unstreamed;
+pub use fault::WorkersStreamFault;
 pub use run::stream_within;

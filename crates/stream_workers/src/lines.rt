@@ -7,7 +7,7 @@ ghost use Rattle.program_stretches.specs.Closing.{IsSameRun, IsGiven};
 ghost use Rattle.job_stream.specs.Running.{IsGivenAfter, job_reading};
 ghost use Rattle.stretch_queue.specs.Hooked.{AreNext, Reopens};
 ghost use Rattle.stream_workers.specs.Lines.{IfLines};
-ghost use Rattle.stretch_queue.specs.declared.fault.Reason.TheVariants as reason;
+ghost use Rattle.stretch_queue.specs.declared.fault.WorkerFault.TheVariants as worker_fault;
 
 use crate::outlet::Outlet;
 use crate::streaming::Streaming;
@@ -17,7 +17,7 @@ use program_stretches::{Lines, Outcome, Stretches};
 use std::alloc::{AllocError, Global};
 use std::marker::Model;
 use std::sync::{Mutex, Wait};
-use stretch_queue::fault::{Reason, reason_of_closing};
+use stretch_queue::fault::{WorkerFault, fault_of_closing};
 use stretch_queue::hook;
 use stretch_queue::hook::{Closed, Hook};
 
@@ -74,13 +74,13 @@ fn give(alloc: Global, stretches: &mut Stretches<'_, '_, JobProgram<'_>>) -> Opt
 fn close(
     alloc: Global,
     stretches: &mut Stretches<'_, '_, JobProgram<'_>>,
-) -> Result<Closed<Lines>, Reason>
+) -> Result<Closed<Lines>, WorkerFault>
     requires running { status_in stretches.old ≡ None }
     ensures whole { OnOk result (covers true stretches.old.count 0 stretches.old.parts ≡ true) }
-    ensures missing { result ≡ Err reason.Internal → covers true stretches.old.count 0 stretches.old.parts ≡ false }
-    ensures memory { result ≡ Err reason.Memory → covers true stretches.old.count 0 stretches.old.parts ≡ true }
+    ensures missing { result ≡ Err worker_fault.Internal → covers true stretches.old.count 0 stretches.old.parts ≡ false }
+    ensures memory { result ≡ Err worker_fault.Memory → covers true stretches.old.count 0 stretches.old.parts ≡ true }
     ensures refused { OnErr result ((stretches.new ≡ stretches.old) ⊎ (covers true stretches.old.count 0 stretches.old.parts ≡ true)) }
-    ensures full { result ≢ Err reason.Full }
+    ensures full { result ≢ Err worker_fault.Full }
     ensures reopens { IfOk result (λ closed. Reopens closed stretches.new) }
     ensures goes { IfOk result (λ closed. closed ≢ Closed.Stopped) }
     ensures given { IfOk result (λ closed. IfLines (IsGivenAfter job_reading stretches.old.log) closed) }
@@ -93,7 +93,7 @@ fn close(
     match closed {
         Ok(Outcome::Landed) => Ok(Closed::Landed(give(alloc, stretches))),
         Ok(Outcome::Faulted | Outcome::TooMany | Outcome::Overflowed) => Ok(Closed::Faulted),
-        Err(fault) => Err(reason_of_closing(fault)),
+        Err(fault) => Err(fault_of_closing(fault)),
     }
 }
 
@@ -110,7 +110,7 @@ impl<'o, 'w, 'j, R: Wait, W: CountedWrite, J: Streaming> Hook<JobProgram<'j>>
         &mut self,
         alloc: Global,
         stretches: &mut Stretches<'_, '_, JobProgram<'j>>,
-    ) -> Result<Closed<Unwritten<'o, 'w, R, W, J>>, Reason> {
+    ) -> Result<Closed<Unwritten<'o, 'w, R, W, J>>, WorkerFault> {
         match close(alloc, stretches)? {
             Closed::Landed(Some(lines)) => Ok(Closed::Landed(Some(Unwritten {
                 rt: self.rt,

@@ -13,7 +13,7 @@ ghost use Rattle.worker_pool.specs.JobPlan.{IsJobPlan};
 ghost use Rattle.stretch_queue.specs.Refusals.{IsOfWorkers};
 ghost use Rattle.stream_workers.specs.Written.{StreamsOn, CauseOn};
 
-use crate::fault::{Unstreamed, why_unstreamed};
+use crate::fault::{WorkersStreamFault, workers_stream_fault};
 use crate::lines::Streamed;
 use crate::outlet::{Lent, Outlet};
 use crate::streaming::Streaming;
@@ -22,7 +22,7 @@ use devices::CountedWrite;
 use job_program::{Beginning, JobProgram, MOST_TASKS, begin};
 use job_stream::{StreamFault, write_left};
 use phase_records::JobStatus;
-use program_stretches::{Left, Opened, Stretches};
+use program_stretches::{Left, Stretches, SuperstepStart};
 use snapshot_log::log::{Log, Snapshot};
 use std::alloc::Global;
 use std::marker::Brand;
@@ -59,7 +59,7 @@ pub fn stream_within<R: Threads + Wait + Sync, W: CountedWrite + Send, G: Gate +
     gate: &G,
     starter: &S,
     writer: &mut W,
-) -> Result<JobStatus, Unstreamed>
+) -> Result<JobStatus, WorkersStreamFault>
     requires workers { (1 ≤ workers) × (workers ≤ 64) }
     requires limit { (1 ≤ limit) × (limit ≤ 2147483648) }
     ensures streams { StreamsOn workers (program_of job.now) limit (W.contents writer.old) (W.contents writer.new) result }
@@ -92,7 +92,7 @@ fn stream_job<
     limit: u32,
     setup: Setup<'_, F, G, S>,
     writer: &mut W,
-) -> Result<JobStatus, Unstreamed>
+) -> Result<JobStatus, WorkersStreamFault>
     requires workers { (1 ≤ setup.workers) × (setup.workers ≤ 64) }
     requires plan { IsJobPlan setup.advance.plan }
     requires rule { Answers (F.pre setup.advance.closure) (F.post setup.advance.closure) (end_ends_at setup.advance.plan) }
@@ -100,18 +100,18 @@ fn stream_job<
     ensures failures { CauseOn (W.failures writer.old) (W.failures writer.new) result }
 {
     let Ok(Beginning { arrays, tasks }) = begin(alloc, job) else {
-        return Err(Unstreamed::Fault(StreamFault::Memory));
+        return Err(WorkersStreamFault::Fault(StreamFault::Memory));
     };
     let program = JobProgram { job };
     let Ok((log, start)) = Log::new(alloc) else {
-        return Err(Unstreamed::Fault(StreamFault::Memory));
+        return Err(WorkersStreamFault::Fault(StreamFault::Memory));
     };
     let pieces = stretches_wanted(setup.gate, setup.workers);
     match Stretches::new(
         alloc, &log, start, &program, arrays, tasks, MOST_TASKS, limit, pieces,
     ) {
         Ok(stretches) => stream_begun(rt, alloc, &log, stretches, job, limit, setup, writer),
-        Err(_) => Err(Unstreamed::Fault(StreamFault::Memory)),
+        Err(_) => Err(WorkersStreamFault::Fault(StreamFault::Memory)),
     }
 }
 
@@ -128,13 +128,13 @@ fn stream_begun<
 >(
     rt: &R,
     alloc: Global,
-    log: &'t Log<Opened<'p, JobProgram<'j>, Task>>,
+    log: &'t Log<SuperstepStart<'p, JobProgram<'j>, Task>>,
     stretches: Stretches<'t, 'p, JobProgram<'j>>,
     job: &Job,
     limit: u32,
     setup: Setup<'_, F, G, S>,
     writer: &mut W,
-) -> Result<JobStatus, Unstreamed>
+) -> Result<JobStatus, WorkersStreamFault>
     requires log { stretches.name ≡ log.now }
     requires run { IsRunOf job.now limit stretches.log }
     requires next { AreNext stretches }
@@ -144,7 +144,7 @@ fn stream_begun<
     ensures streams { StreamsOn setup.entry.workers (program_of job.now) limit (W.contents writer.old) (W.contents writer.new) result }
     ensures failures { CauseOn (W.failures writer.old) (W.failures writer.new) result }
 {
-    let mut ended = Err(Unstreamed::Fault(StreamFault::Internal));
+    let mut ended = Err(WorkersStreamFault::Fault(StreamFault::Internal));
     let _lent = stream_lent::<R, W, F, G, S, Brand>(
         rt,
         alloc,
@@ -174,13 +174,13 @@ fn stream_lent<
 >(
     rt: &R,
     alloc: Global,
-    log: &'t Log<Opened<'p, JobProgram<'j>, Task>>,
+    log: &'t Log<SuperstepStart<'p, JobProgram<'j>, Task>>,
     mut stretches: Stretches<'t, 'p, JobProgram<'j>>,
     job: &'w Job,
     limit: u32,
     setup: Setup<'_, F, G, S>,
     lent: Lent<'w, W>,
-    ended: &mut Result<JobStatus, Unstreamed>,
+    ended: &mut Result<JobStatus, WorkersStreamFault>,
 ) -> Lent<'w, W>
     requires log { stretches.name ≡ log.now }
     requires run { IsRunOf job.now limit stretches.log }
@@ -219,12 +219,12 @@ fn stream_lent<
 // Writes what a run left that workers have ended, and hands the writer back. Sets how the run ended.
 fn conclude<'w, 't, 'p, 'j, W: CountedWrite, J: Streaming>(
     alloc: Global,
-    log: &'t Log<Opened<'p, JobProgram<'j>, Task>>,
+    log: &'t Log<SuperstepStart<'p, JobProgram<'j>, Task>>,
     outlet: Outlet<'w, W, J>,
     left: Result<Left<'p, JobProgram<'j>>, Refused>,
-    first: Snapshot<Opened<'p, JobProgram<'j>, Task>>,
+    first: Snapshot<SuperstepStart<'p, JobProgram<'j>, Task>>,
     workers: u32,
-    ended: &mut Result<JobStatus, Unstreamed>,
+    ended: &mut Result<JobStatus, WorkersStreamFault>,
 ) -> Lent<'w, W>
     requires name { first.name ≡ log.now }
     requires run { IsRunOf J.job J.limit first.log }
@@ -245,7 +245,7 @@ fn conclude<'w, 't, 'p, 'j, W: CountedWrite, J: Streaming>(
     } = outlet;
     if let Some(fault) = fault {
         first.give_up();
-        *ended = Err(Unstreamed::Fault(fault));
+        *ended = Err(WorkersStreamFault::Fault(fault));
         return Lent { writer };
     }
     *ended = end_run(
@@ -257,15 +257,15 @@ fn conclude<'w, 't, 'p, 'j, W: CountedWrite, J: Streaming>(
 // Writes what a run left after the lines of `written` supersteps, or says why it left nothing.
 fn end_run<'t, 'p, 'j, W: CountedWrite>(
     alloc: Global,
-    log: &'t Log<Opened<'p, JobProgram<'j>, Task>>,
+    log: &'t Log<SuperstepStart<'p, JobProgram<'j>, Task>>,
     left: Result<Left<'p, JobProgram<'j>>, Refused>,
-    first: Snapshot<Opened<'p, JobProgram<'j>, Task>>,
+    first: Snapshot<SuperstepStart<'p, JobProgram<'j>, Task>>,
     job: &Job,
     limit: u32,
     written: u32,
     workers: u32,
     writer: &mut W,
-) -> Result<JobStatus, Unstreamed>
+) -> Result<JobStatus, WorkersStreamFault>
     requires name { first.name ≡ log.now }
     requires run { IsRunOf job.now limit first.log }
     requires log { IfOk left (λ l. l.writer.name ≡ log.now) }
@@ -278,11 +278,11 @@ fn end_run<'t, 'p, 'j, W: CountedWrite>(
     match left {
         Ok(left) => match write_left(alloc, log, left, first, job, limit, written, writer) {
             Ok(status) => Ok(status),
-            Err(fault) => Err(Unstreamed::Fault(fault)),
+            Err(fault) => Err(WorkersStreamFault::Fault(fault)),
         },
         Err(refused) => {
             first.give_up();
-            Err(why_unstreamed(refused, written))
+            Err(workers_stream_fault(refused, written))
         }
     }
 }

@@ -6,8 +6,8 @@ use Rattle.pass_list.specs.declared.rule.Ticket.{Ticket}
 use Rattle.pass_list.specs.Passed.{IsOut, ticket, without}
 use Rattle.stretch_parts.specs.PartValue.{PartValue}
 use Rattle.stretch_parts.specs.Parts.{covers}
-use Rattle.program_stretches.specs.declared.fault.Unwanted.{Unwanted}
-use Rattle.program_stretches.specs.declared.fault.Unwanted.TheVariants as unwanted
+use Rattle.program_stretches.specs.declared.fault.AcceptStretchFault.{AcceptStretchFault}
+use Rattle.program_stretches.specs.declared.fault.AcceptStretchFault.TheVariants as unwanted
 use Rattle.program_stretches.specs.StretchesValue.{StretchesValue, StretchValue, with_slot, status_in}
 use Rattle.program_stretches.specs.Closing.{IsTaken, Accepts, Refuses, IsSameRun, is_there}
 use Rattle.stretch_queue.specs.declared.fault.Refused.{Refused}
@@ -35,7 +35,7 @@ out_not_there (Some None) a b = not_both false b refl
 out_not_there (Some (Some part)) a b = not_both false a refl
 
 -- a stretch whose pass came back isn't refused
-pub not_refused : {Q S : Type 0} (v : StretchesValue Q S) (s : StretchValue Q S) (fault : Unwanted) → s.step ≡ v.step → s.part.done ≡ true → out_at (slice_get v.parts s.number) ≡ true → Refuses fault v s → ⊥
+pub not_refused : {Q S : Type 0} (v : StretchesValue Q S) (s : StretchValue Q S) (fault : AcceptStretchFault) → s.step ≡ v.step → s.part.done ≡ true → out_at (slice_get v.parts s.number) ≡ true → Refuses fault v s → ⊥
 not_refused v s unwanted.WrongStep step done out h = h step
 not_refused v s unwanted.Unfinished step done out h = not_both s.part.done done h.1
 not_refused v s unwanted.Stranger step done out h = not_both (out_at (slice_get v.parts s.number)) out (ap out_at h.2)

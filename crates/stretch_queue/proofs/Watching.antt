@@ -8,7 +8,7 @@ use Rattle.phase_records.specs.Status.{Status, Ended, Fault, Limit}
 use Rattle.programs.specs.Superstep.{State}
 use Rattle.programs.specs.History.{OfState, HasRunTo}
 use Rattle.stretch_parts.specs.Parts.{Reading}
-use Rattle.program_stretches.specs.Opening.{OpeningValue, live_of, states_by, Opens, AllOpen}
+use Rattle.program_stretches.specs.SuperstepStart.{SuperstepStartValue, live_of, states_by, Opens, AllOpen}
 use Rattle.program_stretches.specs.Reached.{with_before}
 use Rattle.program_stretches.specs.StretchesValue.{StretchesValue, status_for, status_in}
 use Rattle.program_stretches.specs.Closing.{CountsAs, HasLeftTo, HasLeft}
@@ -31,7 +31,7 @@ left_so (Err e) F G f k = tt
 
 module _ {Q S : Type 0} (stops goes : ℕ → List (List ℕ × List ℤ) → ℕ → Type 0) where
   -- A superstep was opened, and the watcher was called unless the run has ended.
-  pub watched_opened : (v : StretchesValue Q S) (older : List (OpeningValue Q S)) (stopped : Bool) → IsOpened v older → AllWent goes older
+  pub watched_opened : (v : StretchesValue Q S) (older : List (SuperstepStartValue Q S)) (stopped : Bool) → IsOpened v older → AllWent goes older
       → (stopped ≡ true → (status_in v ≡ None) × stops v.step v.arrays v.count) → (stopped ≡ false → status_in v ≡ None → goes v.step v.arrays v.count) → IsWatched stops goes v stopped
   watched_opened v older stopped o went stop go = record {
     went = inr (
@@ -43,10 +43,10 @@ module _ {Q S : Type 0} (stops goes : ℕ → List (List ℕ × List ℤ) → �
     halted = stop;
   }
     where
-      subst3 : goes v.step v.arrays v.count → goes (length older) o.opening.arrays (length (live_of o.opening))
+      subst3 : goes v.step v.arrays v.count → goes (length older) o.start.arrays (length (live_of o.start))
       subst3 h =
-          subst (λ (n : ℕ). goes n o.opening.arrays (length (live_of o.opening))) (sym o.step)
-          (subst (λ xs. goes v.step xs (length (live_of o.opening))) (sym o.arrays)
+          subst (λ (n : ℕ). goes n o.start.arrays (length (live_of o.start))) (sym o.step)
+          (subst (λ xs. goes v.step xs (length (live_of o.start))) (sym o.arrays)
           (subst (λ (n : ℕ). goes v.step v.arrays n) (sym o.tasks) h))
 
   -- no superstep was opened
@@ -58,7 +58,7 @@ module _ {Q S : Type 0} (stops goes : ℕ → List (List ℕ × List ℤ) → �
 -- ---- what a run with a watcher leaves
 
 module _ {Q S T : Type 0} (stops goes : ℕ → List (List ℕ × List ℤ) → ℕ → Type 0) (meant : S → T) where
-  went_in : (o : OpeningValue Q S) (n : ℕ) (st : State T) → Opens meant o n st → goes n o.arrays (length (live_of o)) → OfState goes st
+  went_in : (o : SuperstepStartValue Q S) (n : ℕ) (st : State T) → Opens meant o n st → goes n o.arrays (length (live_of o)) → OfState goes st
   went_in o n st h go =
       let l = ap length h.live ∙ length-map (live_of o) meant in
       subst (λ (k : ℕ). goes k st.arrays (length st.live)) (sym h.step)
@@ -66,7 +66,7 @@ module _ {Q S T : Type 0} (stops goes : ℕ → List (List ℕ × List ℤ) → 
       (subst (λ (k : ℕ). goes n o.arrays k) (sym l) go))
 
   -- it let the supersteps of the history begin that are in the log
-  pub went_at : (log : List (OpeningValue Q S)) (states : ℕ → State T) → AllOpen meant log states → AllWent goes log → (n : ℕ) → n < length log → OfState goes (states n)
+  pub went_at : (log : List (SuperstepStartValue Q S)) (states : ℕ → State T) → AllOpen meant log states → AllWent goes log → (n : ℕ) → n < length log → OfState goes (states n)
   went_at [] states h k n lt = absurd (omega (arith, lt))
   went_at (o ∷ older) states h k n lt = by (nat_lt n (length older)) refl (went_at older states h.1 k.1 n)
     where
@@ -77,7 +77,7 @@ module _ {Q S T : Type 0} (stops goes : ℕ → List (List ℕ × List ℤ) → 
           let same : n ≡ length older = omega (arith, le, lt) in
           subst (λ (j : ℕ). OfState goes (states j)) (sym same) (went_in o (length older) (states (length older)) h.0 k.0)
 
-  pub went_at_before : (log : List (OpeningValue Q S)) (states : ℕ → State T) → AllOpen meant log states → AllWentBefore goes log → (n : ℕ) → n + 1 < length log → OfState goes (states n)
+  pub went_at_before : (log : List (SuperstepStartValue Q S)) (states : ℕ → State T) → AllOpen meant log states → AllWentBefore goes log → (n : ℕ) → n + 1 < length log → OfState goes (states n)
   went_at_before [] states h k n lt = absurd (omega (arith, lt))
   went_at_before (o ∷ older) states h k n lt = went_at older states h.1 k n (omega (arith, lt))
 
@@ -118,7 +118,7 @@ counted_as v s n is calm c = by v.fault v.count (λ i. is i) calm
     by None (suc k) e none = late (nat_le v.limit v.step) e
 
 module _ {Q S T : Type 0} (stops goes : ℕ → List (List ℕ × List ℤ) → ℕ → Type 0) (m : Q → Reading S T) (v : StretchesValue Q S) (stopped : Bool) (w : IsWatched stops goes v stopped)
-    (limit : OpeningValue Q S → ℕ) (log : List (OpeningValue Q S)) (same : log ≡ v.log) (outcome : ReportValue) (tasks : List S) (given : ℕ) (none_given : given ≡ 0) (h : HasLeftTo m limit log given outcome tasks) where
+    (limit : SuperstepStartValue Q S → ℕ) (log : List (SuperstepStartValue Q S)) (same : log ≡ v.log) (outcome : ReportValue) (tasks : List S) (given : ℕ) (none_given : given ≡ 0) (h : HasLeftTo m limit log given outcome tasks) where
   abbrev states : ℕ → State T
   states = states_by (m h.first.program) h.first.most h.run.run.history h.first (limit h.first)
 
@@ -163,7 +163,7 @@ module _ {Q S T : Type 0} (stops goes : ℕ → List (List ℕ × List ℤ) → 
 
 -- the same of a run that has ended by itself
 pub ended_watched : {Q S T : Type 0} (stops goes : ℕ → List (List ℕ × List ℤ) → ℕ → Type 0) (m : Q → Reading S T) (v : StretchesValue Q S) (stopped : Bool) → IsWatched stops goes v stopped → v.given ≡ 0
-    → (log : List (OpeningValue Q S)) → log ≡ v.log → (outcome : ReportValue) → Some outcome.status ≡ status_in v → (tasks : List S) (given : ℕ) → given ≡ v.given → HasLeft m log given outcome tasks
+    → (log : List (SuperstepStartValue Q S)) → log ≡ v.log → (outcome : ReportValue) → Some outcome.status ≡ status_in v → (tasks : List S) (given : ℕ) → given ≡ v.given → HasLeft m log given outcome tasks
     → HasLeftWatched stops goes m log outcome tasks
 ended_watched stops goes m v stopped w none log same outcome status tasks given gave h =
     left_watched stops goes m v stopped w (λ o. o.limit) log same outcome tasks given (gave ∙ none) h
@@ -171,7 +171,7 @@ ended_watched stops goes m v stopped w none log same outcome status tasks given 
 
 -- and of one that its watcher has stopped
 pub stopped_watched : {Q S T : Type 0} (stops goes : ℕ → List (List ℕ × List ℤ) → ℕ → Type 0) (m : Q → Reading S T) (v : StretchesValue Q S) → IsWatched stops goes v true → v.given ≡ 0
-    → (log : List (OpeningValue Q S)) → log ≡ v.log → (outcome : ReportValue) → outcome.status ≡ Limit v.step → outcome.arrays ≡ v.arrays → (tasks : List S) → length tasks ≡ v.count
+    → (log : List (SuperstepStartValue Q S)) → log ≡ v.log → (outcome : ReportValue) → outcome.status ≡ Limit v.step → outcome.arrays ≡ v.arrays → (tasks : List S) → length tasks ≡ v.count
     → (given : ℕ) → given ≡ v.given → HasLeftTo m (λ o. v.step) log given outcome tasks → HasLeftWatched stops goes m log outcome tasks
 stopped_watched stops goes m v w none log same outcome status arrays tasks count given gave h =
     left_watched stops goes m v true w (λ o. v.step) log same outcome tasks given (gave ∙ none) h
@@ -179,7 +179,7 @@ stopped_watched stops goes m v w none log same outcome status arrays tasks count
     (inr (subst (λ xs. stops v.step xs (length tasks)) (sym arrays) (subst (stops v.step v.arrays) (sym count) (w.halted refl).1)))
 
 -- what a run leaves whose watcher has let each superstep begin
-pub kept_watched : {Q S T : Type 0} (stops goes : ℕ → List (List ℕ × List ℤ) → ℕ → Type 0) (m : Q → Reading S T) (mark : TableId) (w : LogValue (OpeningValue Q S)) (given : ℕ) (outcome : ReportValue) (tasks : List S)
+pub kept_watched : {Q S T : Type 0} (stops goes : ℕ → List (List ℕ × List ℤ) → ℕ → Type 0) (m : Q → Reading S T) (mark : TableId) (w : LogValue (SuperstepStartValue Q S)) (given : ℕ) (outcome : ReportValue) (tasks : List S)
     → HasLeftKept m (λ v stopped. (v.given ≡ 0) × IsWatched stops goes v stopped) mark w given outcome tasks → HasLeftWatched stops goes m w.log outcome tasks
 kept_watched stops goes m mark w given outcome tasks h = by h.last h.stopped h.keeps h.leaves
   where

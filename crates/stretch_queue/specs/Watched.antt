@@ -5,7 +5,7 @@ use Rattle.snapshot_log.specs.Agreed.{LogValue}
 use Rattle.phase_records.specs.ReportValue.{ReportValue}
 use Rattle.programs.specs.History.{HasRunTo}
 use Rattle.stretch_parts.specs.Parts.{Reading}
-use Rattle.program_stretches.specs.Opening.{OpeningValue, live_of}
+use Rattle.program_stretches.specs.SuperstepStart.{SuperstepStartValue, live_of}
 use Rattle.program_stretches.specs.StretchesValue.{StretchesValue, status_in, can_leave, can_stop}
 use Rattle.program_stretches.specs.Closing.{HasLeft, HasLeftTo}
 use Rattle.phase_records.specs.Status.{Limit}
@@ -13,21 +13,21 @@ use Rattle.stretch_queue.specs.Hooked.{bare}
 
 module _ {Q S : Type 0} where
   -- the watcher let each superstep of this log begin
-  abbrev pub AllWent : (ℕ → List (List ℕ × List ℤ) → ℕ → Type 0) → List (OpeningValue Q S) → Type 0
+  abbrev pub AllWent : (ℕ → List (List ℕ × List ℤ) → ℕ → Type 0) → List (SuperstepStartValue Q S) → Type 0
   AllWent goes [] = Unit {0}
   AllWent goes (o ∷ older) = goes (length older) o.arrays (length (live_of o)) × AllWent goes older
 
   -- each but the last
-  abbrev pub AllWentBefore : (ℕ → List (List ℕ × List ℤ) → ℕ → Type 0) → List (OpeningValue Q S) → Type 0
+  abbrev pub AllWentBefore : (ℕ → List (List ℕ × List ℤ) → ℕ → Type 0) → List (SuperstepStartValue Q S) → Type 0
   AllWentBefore goes [] = Unit {0}
   AllWentBefore goes (o ∷ older) = AllWent goes older
 
-  -- The run is before a superstep whose opening is the last of the log, after these earlier ones. No fault has ended it.
-  pub record IsOpened (v : StretchesValue Q S) (older : List (OpeningValue Q S)) : Type 0 where
-    pub opening : OpeningValue Q S
-    pub log : v.log ≡ opening ∷ older
-    pub arrays : opening.arrays ≡ v.arrays
-    pub tasks : length (live_of opening) ≡ v.count
+  -- The run is before a superstep whose start is the last of the log, after these earlier ones. No fault has ended it.
+  pub record IsOpened (v : StretchesValue Q S) (older : List (SuperstepStartValue Q S)) : Type 0 where
+    pub start : SuperstepStartValue Q S
+    pub log : v.log ≡ start ∷ older
+    pub arrays : start.arrays ≡ v.arrays
+    pub tasks : length (live_of start) ≡ v.count
     pub step : length older ≡ v.step
     pub calm : v.fault ≡ None
 
@@ -47,7 +47,7 @@ module _ {Q S : Type 0} where
 
 module _ {Q S T : Type 0} where
   -- what a run leaves that has ended in this state, or was stopped in it by its hook
-  abbrev pub LeavesAs : (Q → Reading S T) → StretchesValue Q S → Bool → LogValue (OpeningValue Q S) → ℕ → ReportValue → List S → Type 0
+  abbrev pub LeavesAs : (Q → Reading S T) → StretchesValue Q S → Bool → LogValue (SuperstepStartValue Q S) → ℕ → ReportValue → List S → Type 0
   LeavesAs m v true w given outcome living =
       (w.name ≡ v.name) × (w.log ≡ v.log) × (given ≡ v.given) × HasLeftTo m (λ o. v.step) w.log given outcome living
       × (outcome.arrays ≡ v.arrays) × (outcome.status ≡ Limit v.step) × (length living ≡ v.count)
@@ -55,16 +55,16 @@ module _ {Q S T : Type 0} where
       (w.name ≡ v.name) × (w.log ≡ v.log) × (given ≡ v.given) × HasLeft m w.log given outcome living × (Some outcome.status ≡ status_in v)
 
   -- what a run leaves whose hook kept this of it until its end
-  pub record HasLeftKept (m : Q → Reading S T) (kept : StretchesValue Q S → Bool → Type 0) (mark : TableId) (w : LogValue (OpeningValue Q S)) (given : ℕ) (outcome : ReportValue) (living : List S) : Type 0 where
+  pub record HasLeftKept (m : Q → Reading S T) (kept : StretchesValue Q S → Bool → Type 0) (mark : TableId) (w : LogValue (SuperstepStartValue Q S)) (given : ℕ) (outcome : ReportValue) (living : List S) : Type 0 where
     pub last : StretchesValue Q S
     pub stopped : Bool
     pub of_mark : last.name ≡ mark
     pub keeps : kept (bare last) stopped
     pub leaves : LeavesAs m last stopped w given outcome living
 
-  -- This is the result of a run with a watcher that began with the first opening of this log.
-  pub record HasLeftWatched (stops goes : ℕ → List (List ℕ × List ℤ) → ℕ → Type 0) (m : Q → Reading S T) (log : List (OpeningValue Q S)) (outcome : ReportValue) (living : List S) : Type 0 where
-    pub first : OpeningValue Q S
-    pub since : List (OpeningValue Q S)
+  -- This is the result of a run with a watcher that began with the first start of this log.
+  pub record HasLeftWatched (stops goes : ℕ → List (List ℕ × List ℤ) → ℕ → Type 0) (m : Q → Reading S T) (log : List (SuperstepStartValue Q S)) (outcome : ReportValue) (living : List S) : Type 0 where
+    pub first : SuperstepStartValue Q S
+    pub since : List (SuperstepStartValue Q S)
     pub begun : log ≡ since ++ first ∷ []
     pub run : HasRunTo stops goes (m first.program).frame (m first.program).may first.most first.arrays (map (m first.program).meant (live_of first)) first.limit outcome (map (m first.program).meant living)

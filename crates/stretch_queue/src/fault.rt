@@ -1,8 +1,8 @@
 //! Why a run gives no report.
 ghost use Rattle.std.specs.Prelude.{◌≡◌, ℕ};
-ghost use Rattle.stretch_queue.specs.Refusals.{IsOfWorkers, refusal_number, refusal_of, closing_reason};
+ghost use Rattle.stretch_queue.specs.Refusals.{IsOfWorkers, refusal_number, refusal_of, closing_fault};
 
-use program_stretches::Unclosed;
+use program_stretches::CloseStretchesFault;
 use std::alloc::AllocError;
 use thiserror::Error;
 
@@ -48,7 +48,7 @@ impl From<AllocError> for Refused {
 
 /// Why a worker stops before the end of a run (own).
 #[derive(Clone, Copy, Debug, PartialEq, Eq, Error)]
-pub enum Reason {
+pub enum WorkerFault {
     /// It ran out of memory.
     #[error("out of memory")]
     Memory,
@@ -60,33 +60,33 @@ pub enum Reason {
     Full,
 }
 
-impl Reason {
+impl WorkerFault {
     /// Returns the refusal that the run returns for this reason.
     pub fn refusal(self) -> Refused
         ensures told { result ≡ refusal_of self }
         ensures workers { (workers : ℕ) → IsOfWorkers workers result }
     {
         match self {
-            Reason::Memory => Refused::Memory,
-            Reason::Internal => Refused::Internal,
-            Reason::Full => Refused::Full,
+            WorkerFault::Memory => Refused::Memory,
+            WorkerFault::Internal => Refused::Internal,
+            WorkerFault::Full => Refused::Full,
         }
     }
 }
 
-impl From<AllocError> for Reason {
+impl From<AllocError> for WorkerFault {
     fn from(_fault: AllocError) -> Self {
-        Reason::Memory
+        WorkerFault::Memory
     }
 }
 
 /// Returns the reason to note if a superstep can't be closed. Only memory can be the cause: once all tasks have arrived, each
 /// stretch was delivered.
-pub fn reason_of_closing(fault: Unclosed) -> Reason
-    ensures { result ≡ closing_reason fault }
+pub fn fault_of_closing(fault: CloseStretchesFault) -> WorkerFault
+    ensures { result ≡ closing_fault fault }
 {
     match fault {
-        Unclosed::Missing => Reason::Internal,
-        Unclosed::Memory(_) => Reason::Memory,
+        CloseStretchesFault::Missing => WorkerFault::Internal,
+        CloseStretchesFault::Memory(_) => WorkerFault::Memory,
     }
 }

@@ -3,9 +3,9 @@ ghost use Rattle.std.specs.Prelude.{◌≡◌, ◌≤◌, true, false, length, I
 ghost use Rattle.program_stretches.specs.StretchesValue.{StretchValue};
 ghost use Rattle.stretch_queue.specs.HandedOut.{IsFor};
 ghost use Rattle.stretch_queue.specs.Segments.{IsSegment, HasRunSegment};
-ghost use Rattle.stretch_queue.specs.declared.fault.Reason.TheVariants as reason;
+ghost use Rattle.stretch_queue.specs.declared.fault.WorkerFault.TheVariants as worker_fault;
 
-use crate::fault::Reason;
+use crate::fault::WorkerFault;
 use crate::hook::Lines;
 use crate::hooks::Gate;
 use crate::moves::{Moves, moves_of};
@@ -175,7 +175,7 @@ fn run_all<P: TaskLoop, L: Lines, R: Wait, G: Gate>(
 impl<'p, P: TaskLoop, L: Lines, J: Running> HeldStretch<'p, P, L, J> {
     ghost use Rattle.std.specs.Prelude.{◌≡◌, ◌≤◌, true, IfOk, IfErr};
     ghost use Rattle.stretch_queue.specs.HandedOut.{IsFor};
-    ghost use Rattle.stretch_queue.specs.declared.fault.Reason.TheVariants as reason;
+    ghost use Rattle.stretch_queue.specs.declared.fault.WorkerFault.TheVariants as worker_fault;
 
     /// Holds a stretch of the run, with its pass, the members of its tasks, and what is to be written before they run.
     pub fn new(stretch: Stretch<'p, P>, pass: Pass<()>, tokens: Tokens<J>, lines: Option<L>) -> Self
@@ -199,10 +199,10 @@ impl<'p, P: TaskLoop, L: Lines, J: Running> HeldStretch<'p, P, L, J> {
         alloc: Global,
         gate: &G,
         leaves: u16,
-    ) -> Result<RanStretch<'p, P, J>, Reason>
+    ) -> Result<RanStretch<'p, P, J>, WorkerFault>
         requires { 1 ≤ leaves }
         ensures same { IfOk result (λ ran. ran ≡ record self.entry { part = ran.part }) }
-        ensures memory { IfErr result (λ fault. fault ≡ reason.Memory) }
+        ensures memory { IfErr result (λ fault. fault ≡ worker_fault.Memory) }
     {
         let HeldStretch {
             mut stretch,
@@ -219,7 +219,7 @@ impl<'p, P: TaskLoop, L: Lines, J: Running> HeldStretch<'p, P, L, J> {
             }),
             Err(_) => {
                 stretch.give_up();
-                Err(Reason::Memory)
+                Err(WorkerFault::Memory)
             }
         }
     }

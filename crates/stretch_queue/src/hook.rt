@@ -1,5 +1,5 @@
 //! What a run does beside its supersteps: a hook that closes them, and lines that the next worker writes.
-use crate::fault::Reason;
+use crate::fault::WorkerFault;
 use program_stretches::Stretches;
 use programs::program::Program;
 use std::alloc::{AllocError, Global};
@@ -39,7 +39,7 @@ pub trait Hook<P: Program>: Drop {
     ghost use Rattle.program_stretches.specs.StretchesValue.{StretchesValue, status_in};
     ghost use Rattle.program_stretches.specs.Closing.{IsSameRun};
     ghost use Rattle.stretch_queue.specs.Hooked.{bare, is_stopped, Reopens};
-    ghost use Rattle.stretch_queue.specs.declared.fault.Reason.TheVariants as reason;
+    ghost use Rattle.stretch_queue.specs.declared.fault.WorkerFault.TheVariants as worker_fault;
 
     /// What it hands out.
     type Lines: Lines;
@@ -53,14 +53,14 @@ pub trait Hook<P: Program>: Drop {
         &mut self,
         alloc: Global,
         stretches: &mut Stretches<'_, '_, P>,
-    ) -> Result<Closed<Self::Lines>, Reason>
+    ) -> Result<Closed<Self::Lines>, WorkerFault>
         requires running { status_in stretches.old ≡ None }
         requires kept { kept (bare stretches.old) false }
         ensures whole { OnOk result (covers true stretches.old.count 0 stretches.old.parts ≡ true) }
-        ensures missing { result ≡ Err reason.Internal → covers true stretches.old.count 0 stretches.old.parts ≡ false }
-        ensures memory { result ≡ Err reason.Memory → covers true stretches.old.count 0 stretches.old.parts ≡ true }
+        ensures missing { result ≡ Err worker_fault.Internal → covers true stretches.old.count 0 stretches.old.parts ≡ false }
+        ensures memory { result ≡ Err worker_fault.Memory → covers true stretches.old.count 0 stretches.old.parts ≡ true }
         ensures refused { OnErr result ((stretches.new ≡ stretches.old) ⊎ (covers true stretches.old.count 0 stretches.old.parts ≡ true)) }
-        ensures full { result ≢ Err reason.Full }
+        ensures full { result ≢ Err worker_fault.Full }
         ensures kept { IfOk result (λ closed. kept (bare stretches.new) (is_stopped closed)) }
         ensures reopens { IfOk result (λ closed. Reopens closed stretches.new) }
         ensures same { IsSameRun stretches.old stretches.new };

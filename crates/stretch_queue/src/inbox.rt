@@ -1,5 +1,5 @@
 //! The stretches that a worker is to run.
-use crate::fault::Reason;
+use crate::fault::WorkerFault;
 use crate::hand::HeldStretch;
 use crate::hook::Lines;
 use crate::running::Running;
@@ -28,7 +28,7 @@ impl<'p, P: Program, L: Lines, J: Running> Model for Inbox<'p, P, L, J> {
 impl<'p, P: Program, L: Lines, J: Running> Inbox<'p, P, L, J> {
     ghost use Rattle.std.specs.Prelude.{◌≡◌, ◌++◌, ◌∷◌, [], length, IfErr, OnOk, OnErr, MatchOption};
     ghost use Rattle.std.specs.List.Sorted.{IsPermutation};
-    ghost use Rattle.stretch_queue.specs.declared.fault.Reason.TheVariants as reason;
+    ghost use Rattle.stretch_queue.specs.declared.fault.WorkerFault.TheVariants as worker_fault;
 
     /// Creates an inbox without stretches.
     pub fn new(alloc: Global) -> Self
@@ -48,10 +48,10 @@ impl<'p, P: Program, L: Lines, J: Running> Inbox<'p, P, L, J> {
     }
 
     /// Appends a stretch. If memory runs out, the stretch is lost.
-    pub fn push(&mut self, held: HeldStretch<'p, P, L, J>) -> Result<(), Reason>
+    pub fn push(&mut self, held: HeldStretch<'p, P, L, J>) -> Result<(), WorkerFault>
         ensures added { OnOk result (self.new ≡ self.old ++ held.entry ∷ []) }
         ensures unchanged { OnErr result (self.new ≡ self.old) }
-        ensures memory { IfErr result (λ fault. fault ≡ reason.Memory) }
+        ensures memory { IfErr result (λ fault. fault ≡ worker_fault.Memory) }
     {
         match self.ready.reserve(1) {
             Ok(()) => {
@@ -60,7 +60,7 @@ impl<'p, P: Program, L: Lines, J: Running> Inbox<'p, P, L, J> {
             }
             Err(_) => {
                 held.give_up();
-                Err(Reason::Memory)
+                Err(WorkerFault::Memory)
             }
         }
     }

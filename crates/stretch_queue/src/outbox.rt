@@ -3,7 +3,7 @@ ghost use Rattle.std.specs.Prelude.{◌≡◌, true};
 ghost use Rattle.program_stretches.specs.StretchesValue.{StretchValue};
 ghost use Rattle.stretch_queue.specs.HandedOut.{IsFor};
 
-use crate::fault::Reason;
+use crate::fault::WorkerFault;
 use crate::hand::RanStretch;
 use crate::moves::Moves;
 use crate::running::Running;
@@ -123,7 +123,7 @@ fn split<'p, P: Program, J: Running>(
 
 impl<'p, P: Program, J: Running> Outbox<'p, P, J> {
     ghost use Rattle.std.specs.Prelude.{◌≡◌, ◌≢◌, ◌+◌, ◌++◌, ◌∷◌, [], length, IfOk, IfErr, OnOk, OnErr, MatchOption};
-    ghost use Rattle.stretch_queue.specs.declared.fault.Reason.TheVariants as reason;
+    ghost use Rattle.stretch_queue.specs.declared.fault.WorkerFault.TheVariants as worker_fault;
 
     /// Creates an outbox for the first superstep.
     pub fn new(alloc: Global) -> Self
@@ -152,11 +152,11 @@ impl<'p, P: Program, J: Running> Outbox<'p, P, J> {
     }
 
     /// Delivers a stretch whose segments have run. Returns the members of its tasks. If memory runs out, all of it is lost.
-    pub fn deliver(&mut self, ran: RanStretch<'p, P, J>) -> Result<Delivered<J>, Reason>
+    pub fn deliver(&mut self, ran: RanStretch<'p, P, J>) -> Result<Delivered<J>, WorkerFault>
         ensures added { OnOk result (self.new ≡ record self.old { done = self.old.done ++ ran.entry ∷ [] }) }
         ensures number { IfOk result (λ d. (d.number ≡ ran.entry.number) × (d.step ≡ ran.entry.step)) }
         ensures unchanged { OnErr result (self.new ≡ self.old) }
-        ensures memory { IfErr result (λ fault. fault ≡ reason.Memory) }
+        ensures memory { IfErr result (λ fault. fault ≡ worker_fault.Memory) }
     {
         match self.done.reserve(1) {
             Ok(()) => {
@@ -166,19 +166,19 @@ impl<'p, P: Program, J: Running> Outbox<'p, P, J> {
             }
             Err(_) => {
                 ran.give_up();
-                Err(Reason::Memory)
+                Err(WorkerFault::Memory)
             }
         }
     }
 
     /// Takes back members that have arrived or left in its superstep. Returns them if that superstep has been closed in the meantime.
     /// If memory runs out, they are lost.
-    pub fn take_back(&mut self, arrived: Arrived<J>) -> Result<Option<Arrived<J>>, Reason>
+    pub fn take_back(&mut self, arrived: Arrived<J>) -> Result<Option<Arrived<J>>, WorkerFault>
         ensures back { IfOk result (λ late. MatchOption late
             ((arrived.step ≡ self.old.step) × (self.new ≡ record self.old { back = self.old.back + 1 }))
             (λ a. (arrived.step ≢ self.old.step) × (self.new ≡ self.old) × (a ≡ arrived))) }
         ensures unchanged { OnErr result (self.new ≡ self.old) }
-        ensures memory { IfErr result (λ fault. fault ≡ reason.Memory) }
+        ensures memory { IfErr result (λ fault. fault ≡ worker_fault.Memory) }
     {
         if arrived.step != self.step {
             return Ok(Some(arrived));
@@ -188,7 +188,7 @@ impl<'p, P: Program, J: Running> Outbox<'p, P, J> {
                 self.back.push_reserved(arrived);
                 Ok(None)
             }
-            Err(_) => Err(Reason::Memory),
+            Err(_) => Err(WorkerFault::Memory),
         }
     }
 

@@ -3,10 +3,10 @@ ghost use Rattle.std.specs.Prelude.{◌≡◌, ℕ, [], true, false, None, Err, 
 ghost use Rattle.stretch_queue.specs.Refusals.{IsOfWorkers};
 ghost use Rattle.stretch_parts.specs.Parts.{reading_of};
 ghost use Rattle.stretch_queue.specs.Watched.{LeavesAs, can_leave_in};
-ghost use Rattle.stretch_queue.specs.declared.fault.Reason.TheVariants as reason;
+ghost use Rattle.stretch_queue.specs.declared.fault.WorkerFault.TheVariants as worker_fault;
 ghost use Rattle.stretch_queue.specs.declared.fault.Refused.TheVariants as refused;
 
-use crate::fault::{Reason, Refused};
+use crate::fault::{Refused, WorkerFault};
 use crate::hand::HeldStretch;
 use crate::hook::{Closed, Hook};
 use crate::led::Led;
@@ -157,7 +157,7 @@ impl<'t, 'p, P: TaskLoop, H: Hook<P>, J: Running> Queue<'t, 'p, P, H, J> {
     ghost use Rattle.stretch_queue.specs.Hooked.{bare, AreNext};
     ghost use Rattle.stretch_queue.specs.Watched.{HasLeftKept};
     ghost use Rattle.stretch_queue.specs.Refusals.{IsOfWorkers, refusal_of};
-    ghost use Rattle.stretch_queue.specs.declared.fault.Reason.TheVariants as reason;
+    ghost use Rattle.stretch_queue.specs.declared.fault.WorkerFault.TheVariants as worker_fault;
     ghost use Rattle.stretch_queue.specs.declared.fault.Refused.TheVariants as refused;
 
     /// Creates a queue for these stretches, of which none is out or has run. `tokens` has the members of their tasks, by number. If
@@ -240,19 +240,19 @@ impl<'t, 'p, P: TaskLoop, H: Hook<P>, J: Running> Queue<'t, 'p, P, H, J> {
 
     // Hands out the stretch of this number, with the members of its tasks. Fails with `Internal` if they aren't there, or aren't as
     // many.
-    fn hand_out(&mut self, number: usize) -> Result<HeldStretch<'p, P, H::Lines, J>, Reason>
+    fn hand_out(&mut self, number: usize) -> Result<HeldStretch<'p, P, H::Lines, J>, WorkerFault>
         requires running { is_over self.old ≡ false }
         ensures same { (self.new.first ≡ self.old.first) × (self.new.ready ≡ self.old.ready) }
         ensures of { IfOk result (λ held. (held.number ≡ number) × (held.step ≡ self.old.stretches.step) × (held.part.done ≡ false)) }
     {
         let Some(tokens) = self.take_tokens(number) else {
-            return Err(Reason::Internal);
+            return Err(WorkerFault::Internal);
         };
         if tokens.size() != self.stretches.length(number) {
-            return Err(Reason::Internal);
+            return Err(WorkerFault::Internal);
         }
         let Some(stretch) = self.stretches.take(number)? else {
-            return Err(Reason::Internal);
+            return Err(WorkerFault::Internal);
         };
         let pass = self
             .lists
@@ -290,11 +290,11 @@ impl<'t, 'p, P: TaskLoop, H: Hook<P>, J: Running> Queue<'t, 'p, P, H, J> {
     pub fn next_below(
         &mut self,
         end: usize,
-    ) -> Result<Option<HeldStretch<'p, P, H::Lines, J>>, Reason>
+    ) -> Result<Option<HeldStretch<'p, P, H::Lines, J>>, WorkerFault>
         ensures of { IfOk result (λ held. IfSome held (λ h. (h.number < end) × (h.step ≡ self.old.stretches.step) × (h.part.done ≡ false) × (self.old.ready ≡ h.number ∷ self.new.ready))) }
         ensures some { IfOk result (λ held. is_some held ≡ (not (is_over self.old) && begins_below self.old.ready end)) }
         ensures none { result ≡ Ok None → self.new ≡ self.old }
-        ensures noted { IfErr result (λ reason. self.new.first ≡ Some (refusal_of reason)) }
+        ensures noted { IfErr result (λ fault. self.new.first ≡ Some (refusal_of fault)) }
         ensures unrefused { OnOk result (self.new.first ≡ self.old.first) }
     {
         if self.is_over() {
@@ -305,9 +305,9 @@ impl<'t, 'p, P: TaskLoop, H: Hook<P>, J: Running> Queue<'t, 'p, P, H, J> {
         };
         match self.hand_out(number) {
             Ok(held) => Ok(Some(held)),
-            Err(reason) => {
-                self.first = Some(reason.refusal());
-                Err(reason)
+            Err(fault) => {
+                self.first = Some(fault.refusal());
+                Err(fault)
             }
         }
     }
@@ -346,29 +346,29 @@ impl<'t, 'p, P: TaskLoop, H: Hook<P>, J: Running> Queue<'t, 'p, P, H, J> {
     }
 
     /// Puts members that are back into the place of their stretch. Fails with `Internal` if there is no stretch of this number.
-    pub fn put_tokens(&mut self, number: usize, tokens: Tokens<J>) -> Result<(), Reason>
+    pub fn put_tokens(&mut self, number: usize, tokens: Tokens<J>) -> Result<(), WorkerFault>
         ensures same { self.new ≡ self.old }
-        ensures internal { IfErr result (λ fault. fault ≡ reason.Internal) }
+        ensures internal { IfErr result (λ fault. fault ≡ worker_fault.Internal) }
     {
         if self.members.put(number, tokens) {
             Ok(())
         } else {
-            Err(Reason::Internal)
+            Err(WorkerFault::Internal)
         }
     }
 
     // Makes the stretch of this number ready.
-    fn make_ready(&mut self, number: usize) -> Result<(), Reason>
+    fn make_ready(&mut self, number: usize) -> Result<(), WorkerFault>
         ensures same { (self.new.stretches ≡ self.old.stretches) × (self.new.stopped ≡ self.old.stopped) × (self.new.first ≡ self.old.first) }
     {
         match self.ready.push_back(number) {
             Ok(()) => Ok(()),
-            Err(_) => Err(Reason::Memory),
+            Err(_) => Err(WorkerFault::Memory),
         }
     }
 
     // Makes the stretches ready whose members are back.
-    fn make_all_ready(&mut self) -> Result<(), Reason>
+    fn make_all_ready(&mut self) -> Result<(), WorkerFault>
         ensures same { (self.new.stretches ≡ self.old.stretches) × (self.new.stopped ≡ self.old.stopped) × (self.new.first ≡ self.old.first) }
     {
         self.members.list_back(&mut self.ready)?;
@@ -376,7 +376,7 @@ impl<'t, 'p, P: TaskLoop, H: Hook<P>, J: Running> Queue<'t, 'p, P, H, J> {
     }
 
     // Takes the members that have to be cut anew for the next stretches, if none of them is missing.
-    fn recut(&mut self, alloc: Global) -> Result<HandedBack<J>, Reason>
+    fn recut(&mut self, alloc: Global) -> Result<HandedBack<J>, WorkerFault>
         ensures same { self.new ≡ self.old }
     {
         match self.members.take_moving(alloc, &self.stretches)? {
@@ -387,7 +387,7 @@ impl<'t, 'p, P: TaskLoop, H: Hook<P>, J: Running> Queue<'t, 'p, P, H, J> {
 
     // Prepares the next superstep: makes its stretches ready as far as the members of their tasks are back. If tasks have moved
     // between stretches, takes the members of these stretches once they are back.
-    fn prepare(&mut self, alloc: Global) -> Result<HandedBack<J>, Reason>
+    fn prepare(&mut self, alloc: Global) -> Result<HandedBack<J>, WorkerFault>
         ensures same { (self.new.stretches ≡ self.old.stretches) × (self.new.stopped ≡ self.old.stopped) × (self.new.first ≡ self.old.first) }
     {
         self.members.find_moving(&self.stretches)?;
@@ -399,7 +399,7 @@ impl<'t, 'p, P: TaskLoop, H: Hook<P>, J: Running> Queue<'t, 'p, P, H, J> {
     }
 
     // Closes the superstep.
-    fn close(&mut self, alloc: Global) -> Result<HandedBack<J>, Reason>
+    fn close(&mut self, alloc: Global) -> Result<HandedBack<J>, WorkerFault>
         requires running { is_over self.old ≡ false }
         ensures whole { OnOk result (covers true self.old.stretches.count 0 self.old.stretches.parts ≡ true) }
         ensures unrefused { OnOk result (self.new.first ≡ self.old.first) }
@@ -411,9 +411,9 @@ impl<'t, 'p, P: TaskLoop, H: Hook<P>, J: Running> Queue<'t, 'p, P, H, J> {
                 return Ok(HandedBack::Ended);
             }
             Ok(Closed::Faulted) => return Ok(HandedBack::Ended),
-            Err(reason) => {
-                self.first = Some(reason.refusal());
-                return Err(reason);
+            Err(fault) => {
+                self.first = Some(fault.refusal());
+                return Err(fault);
             }
         }
         if self.stretches.has_ended() {
@@ -428,7 +428,7 @@ impl<'t, 'p, P: TaskLoop, H: Hook<P>, J: Running> Queue<'t, 'p, P, H, J> {
         alloc: Global,
         arrived: Arrived<J>,
         led: Option<Led<J>>,
-    ) -> Result<HandedBack<J>, Reason>
+    ) -> Result<HandedBack<J>, WorkerFault>
         requires running { is_over self.old ≡ false }
         ensures unled { led ≡ None → self.new ≡ self.old }
         ensures unrefused { OnOk result (self.new.first ≡ self.old.first) }
@@ -447,7 +447,7 @@ impl<'t, 'p, P: TaskLoop, H: Hook<P>, J: Running> Queue<'t, 'p, P, H, J> {
         &mut self,
         alloc: Global,
         arrived: Arrived<J>,
-    ) -> Result<HandedBack<J>, Reason>
+    ) -> Result<HandedBack<J>, WorkerFault>
         ensures same { (self.new.stretches ≡ self.old.stretches) × (self.new.stopped ≡ self.old.stopped) × (self.new.first ≡ self.old.first) }
     {
         let Arrived { number, tokens, .. } = arrived;
@@ -466,10 +466,10 @@ impl<'t, 'p, P: TaskLoop, H: Hook<P>, J: Running> Queue<'t, 'p, P, H, J> {
         alloc: Global,
         arrived: Arrived<J>,
         led: Option<Led<J>>,
-    ) -> Result<HandedBack<J>, Reason>
+    ) -> Result<HandedBack<J>, WorkerFault>
         ensures unled { led ≡ None → self.new.stretches ≡ self.old.stretches }
         ensures over { is_over self.old ≡ true → self.new ≡ self.old }
-        ensures noted { IfErr result (λ reason. self.new.first ≡ Some (refusal_of reason)) }
+        ensures noted { IfErr result (λ fault. self.new.first ≡ Some (refusal_of fault)) }
         ensures unrefused { OnOk result (self.new.first ≡ self.old.first) }
     {
         if self.is_over() {
@@ -482,26 +482,26 @@ impl<'t, 'p, P: TaskLoop, H: Hook<P>, J: Running> Queue<'t, 'p, P, H, J> {
         };
         match handed_back {
             Ok(effect) => Ok(effect),
-            Err(reason) => {
-                self.first = Some(reason.refusal());
-                Err(reason)
+            Err(fault) => {
+                self.first = Some(fault.refusal());
+                Err(fault)
             }
         }
     }
 
     /// Takes back members that were cut anew, those of each stretch that they are for, in order. Makes all stretches ready whose
     /// members are back. Fails only if memory runs out; then workers must stop.
-    pub fn put_back(&mut self, tokens: Vec<Option<Tokens<J>>>) -> Result<(), Reason>
+    pub fn put_back(&mut self, tokens: Vec<Option<Tokens<J>>>) -> Result<(), WorkerFault>
         ensures same { self.new.stretches ≡ self.old.stretches }
-        ensures noted { IfErr result (λ reason. self.new.first ≡ Some (refusal_of reason)) }
+        ensures noted { IfErr result (λ fault. self.new.first ≡ Some (refusal_of fault)) }
         ensures unrefused { OnOk result (self.new.first ≡ self.old.first) }
     {
         self.members.put_moving(tokens);
         match self.make_all_ready() {
             Ok(()) => Ok(()),
-            Err(reason) => {
-                self.first = Some(reason.refusal());
-                Err(reason)
+            Err(fault) => {
+                self.first = Some(fault.refusal());
+                Err(fault)
             }
         }
     }

@@ -2,7 +2,7 @@
 ghost use Rattle.std.specs.Prelude.{◌≡◌, None, true, false};
 ghost use Rattle.program_stretches.specs.StretchesValue.{status_in};
 
-use crate::fault::{Reason, reason_of_closing};
+use crate::fault::{WorkerFault, fault_of_closing};
 use crate::hook::{Closed, Hook, NoLines};
 use program_stretches::{Outcome, Stretches};
 use programs::program::Program;
@@ -40,7 +40,7 @@ impl<'w, P: Program, W: Watch> Hook<P> for Watched<'w, W> {
         &mut self,
         alloc: Global,
         stretches: &mut Stretches<'_, '_, P>,
-    ) -> Result<Closed<NoLines>, Reason> {
+    ) -> Result<Closed<NoLines>, WorkerFault> {
         match stretches.close(alloc) {
             Ok(Outcome::Landed) => {
                 if halts(stretches, self.watch) {
@@ -49,7 +49,7 @@ impl<'w, P: Program, W: Watch> Hook<P> for Watched<'w, W> {
                 Ok(Closed::Landed(None))
             }
             Ok(Outcome::Faulted | Outcome::TooMany | Outcome::Overflowed) => Ok(Closed::Faulted),
-            Err(fault) => Err(reason_of_closing(fault)),
+            Err(fault) => Err(fault_of_closing(fault)),
         }
     }
 }

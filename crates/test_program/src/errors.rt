@@ -3,7 +3,7 @@ use bsp_cli::RunFault;
 use job_stream::StreamFault;
 use std::alloc::Global;
 use std::fmt::Display;
-use stream_workers::Unstreamed;
+use stream_workers::WorkersStreamFault;
 use text_lines::{Code, Refusal};
 use trace_text::TraceFault;
 
@@ -53,9 +53,9 @@ fn a_stream_that_did_not_end_prints_why(rt: HostRuntime) {
     let rows = [(StreamFault::Write, "write failed")];
     assert!(rt; print_so(rt.alloc(), &rows));
     let rows = [
-        (Unstreamed::Fault(StreamFault::Memory), "out of memory"),
-        (Unstreamed::Fault(StreamFault::Internal), "internal"),
-        (Unstreamed::NotStarted(3), "worker 3 not started"),
+        (WorkersStreamFault::Fault(StreamFault::Memory), "out of memory"),
+        (WorkersStreamFault::Fault(StreamFault::Internal), "internal"),
+        (WorkersStreamFault::NotStarted(3), "worker 3 not started"),
     ];
     assert!(rt; print_so(rt.alloc(), &rows));
 }

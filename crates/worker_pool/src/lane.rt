@@ -5,7 +5,7 @@ use programs::program::TaskLoop;
 use std::alloc::{AllocError, Global};
 use std::sync::atomic::{AtomicU64, Ordering};
 use std::sync::{Mutex, Wait};
-use stretch_queue::fault::Reason;
+use stretch_queue::fault::WorkerFault;
 use stretch_queue::hand::{HeldStretch, RanStretch};
 use stretch_queue::hook::Hook;
 use stretch_queue::inbox::Inbox;
@@ -54,7 +54,7 @@ impl<'p, P: TaskLoop, H: Hook<P>, J: Running> Lane<'p, P, H, J> {
         &self,
         rt: &R,
         ran: RanStretch<'p, P, J>,
-    ) -> Result<Delivered<J>, Reason> {
+    ) -> Result<Delivered<J>, WorkerFault> {
         self.outbox.lock(rt).deliver(ran)
     }
 
@@ -63,7 +63,7 @@ impl<'p, P: TaskLoop, H: Hook<P>, J: Running> Lane<'p, P, H, J> {
         &self,
         rt: &R,
         arrived: Arrived<J>,
-    ) -> Result<Option<Arrived<J>>, Reason> {
+    ) -> Result<Option<Arrived<J>>, WorkerFault> {
         self.outbox.lock(rt).take_back(arrived)
     }
 
@@ -73,7 +73,7 @@ impl<'p, P: TaskLoop, H: Hook<P>, J: Running> Lane<'p, P, H, J> {
         rt: &R,
         queue: &mut Queue<'_, 'p, P, H, J>,
         end: usize,
-    ) -> Result<(), Reason> {
+    ) -> Result<(), WorkerFault> {
         let mut inbox = self.inbox.lock(rt);
         for _ in 0..queue.ready_len() {
             match queue.next_below(end)? {
@@ -92,7 +92,7 @@ impl<'p, P: TaskLoop, H: Hook<P>, J: Running> Lane<'p, P, H, J> {
         rt: &R,
         queue: &mut Queue<'_, 'p, P, H, J>,
         next: u32,
-    ) -> Result<(), Reason> {
+    ) -> Result<(), WorkerFault> {
         let mut outbox = self.outbox.lock(rt);
         for _ in 0..outbox.done_len() {
             if let Some(done) = outbox.pop_done() {

@@ -24,7 +24,7 @@ mod work;
 pub use job::run_job;
 pub use program::{run_program, run_program_watched};
 pub use run::{limit_in, run_stretches, stretches_wanted};
-pub use stretch_queue::fault::{Reason, Refused};
+pub use stretch_queue::fault::{Refused, WorkerFault};
 pub use stretch_queue::hook::{Closed, Hook, Lines, NoLines};
 pub use stretch_queue::hooks::{AllStart, Gate, OpenGate, Starter};
 pub use within::run_within;

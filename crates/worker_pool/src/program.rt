@@ -2,7 +2,7 @@
 ghost use Rattle.std.specs.Prelude.{◌≡◌, ◌≤◌, ◌<◌, ◌^◌, ◌∷◌, [], IfOk, IfErr, length, map};
 ghost use Rattle.advance_rule.specs.Stored.{Answers};
 ghost use Rattle.advance_rule.specs.Plan.{end_ends_at};
-ghost use Rattle.program_stretches.specs.Opening.{OpeningValue, live_of};
+ghost use Rattle.program_stretches.specs.SuperstepStart.{SuperstepStartValue, live_of};
 ghost use Rattle.stretch_parts.specs.Parts.{AreFresh, tasks_in};
 ghost use Rattle.programs.specs.Meaning.{children};
 ghost use Rattle.programs.specs.History.{HasRun, HasRunTo};
@@ -12,7 +12,7 @@ ghost use Rattle.stretch_queue.specs.Watched.{IsOpened};
 
 use crate::run::{limit_in, run_stretches, stretches_wanted};
 use advance_rule::StoredAdvance;
-use program_stretches::{Left, Opened, Stretches};
+use program_stretches::{Left, Stretches, SuperstepStart};
 use programs::alone::Ran;
 use programs::program::TaskLoop;
 use programs::watch::{NoWatch, Watch};
@@ -136,7 +136,7 @@ where
     }
 }
 
-// Runs these stretches, whose log has the one opening of the first superstep, with a watcher.
+// Runs these stretches, whose log has the one start of the first superstep, with a watcher.
 fn run_watched<
     't,
     'p,
@@ -149,7 +149,7 @@ fn run_watched<
 >(
     rt: &R,
     alloc: Global,
-    log: &'t Log<Opened<'p, P, P::Task>>,
+    log: &'t Log<SuperstepStart<'p, P, P::Task>>,
     mut stretches: Stretches<'t, 'p, P>,
     shape: Shape,
     workers: u32,
@@ -167,7 +167,7 @@ where
     requires workers { (1 ≤ workers) × (workers ≤ 64) }
     requires plan { IsJobPlan advance.plan }
     requires rule { Answers (F.pre advance.closure) (F.post advance.closure) (end_ends_at advance.plan) }
-    ensures ran { IfOk result (λ ran. (o : OpeningValue P P.Task) → stretches.entry.log ≡ o ∷ []
+    ensures ran { IfOk result (λ ran. (o : SuperstepStartValue P P.Task) → stretches.entry.log ≡ o ∷ []
         → HasRunTo W.stops W.goes (P.frame o.program) (P.may o.program) o.most o.arrays (map (P.meant o.program) (live_of o)) o.limit ran.report (map (P.meant o.program) ran.tasks.items)) }
     ensures started { IfErr result (IsOfWorkers workers) }
 {

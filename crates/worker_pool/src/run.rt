@@ -30,7 +30,7 @@ use std::marker::Brand;
 use std::sync::{Condvar, Mutex, Wait};
 use std::thread;
 use std::thread::Threads;
-use stretch_queue::fault::{Reason, Refused};
+use stretch_queue::fault::{Refused, WorkerFault};
 use stretch_queue::hook::Hook;
 use stretch_queue::hooks::{Gate, Starter};
 use stretch_queue::queue::{Lists, Queue, lengths_of};
@@ -57,7 +57,7 @@ const FEW_SPINS: u32 = 100;
 // The tree at which workers meet, its first token, its leaves, and the members of the start tasks; and the lists of the passes for
 // stretches, and for workers that have stopped.
 #[derive(Drop)]
-struct Opening<F: Fn(u32, u32) -> bool> {
+struct Meeting<F: Fn(u32, u32) -> bool> {
     tree: Tree<F>,
     door: Door,
     groups: Vec<Group>,
@@ -138,7 +138,7 @@ fn opening_of<R: Wait, F: Fn(u32, u32) -> bool + Drop>(
     shape: Shape,
     count: usize,
     advance: StoredAdvance<F>,
-) -> Result<Opening<F>, Refused>
+) -> Result<Meeting<F>, Refused>
     requires plan { IsJobPlan advance.plan }
     requires count { count ≤ 65536 }
     ensures ruled { IfOk result (λ o. IsRuled advance o.tree o.door) }
@@ -151,7 +151,7 @@ fn opening_of<R: Wait, F: Fn(u32, u32) -> bool + Drop>(
         return Err(Refused::Memory);
     };
     match Tree::with_groups(alloc, rt, shape, 0, advance, &counts) {
-        Ok((tree, door, groups)) => Ok(Opening {
+        Ok((tree, door, groups)) => Ok(Meeting {
             tree,
             door,
             groups,
@@ -182,7 +182,7 @@ fn tokens_of<P: TaskLoop, J: Running, F: Fn(u32, u32) -> bool>(
     stretches: &Stretches<'_, '_, P>,
     tree: &WorkerTree<J, F>,
     groups: Vec<Group>,
-) -> Result<Vec<Option<Tokens<J>>>, Reason>
+) -> Result<Vec<Option<Tokens<J>>>, WorkerFault>
     requires { AreOf J.tree groups.items }
 {
     let sizes = lengths_of(alloc, stretches)?;
@@ -234,7 +234,7 @@ where
     };
     let stopped = match shared.begin(rt) {
         Ok(()) => start_all(rt, alloc, &shared, &mut own, barrier, setup),
-        Err(reason) => shared.refuse(rt, reason.refusal()),
+        Err(fault) => shared.refuse(rt, fault.refusal()),
     };
     shared.conclude(alloc, stopped)
 }
@@ -256,7 +256,7 @@ fn run_opened<
     stretches: Stretches<'t, 'p, P>,
     hook: H,
     halted: bool,
-    opening: Opening<F>,
+    meeting: Meeting<F>,
     setup: Setup<'_, G, S>,
 ) -> Result<Left<'p, P>, Refused>
 where
@@ -267,27 +267,27 @@ where
     requires kept { H.kept (bare stretches) halted }
     requires halted { halted ≡ true → status_in stretches ≡ None }
     requires workers { (setup.workers ≡ J.workers) × (1 ≤ setup.workers) × (setup.workers ≤ 64) }
-    requires lists { AreNew opening.lists × AreNamed J.passes J.stops opening.lists }
-    requires tree { (opening.tree.tree ≡ J.tree) × (opening.door.tree ≡ J.tree) }
-    requires members { AreOf J.tree opening.groups.items }
-    requires leaves { AreLeaves J.tree.key.shape opening.leaves.items }
-    requires rule { Answers (F.pre opening.tree.rule.closure) (F.post opening.tree.rule.closure) (end_ends_at opening.tree.rule.plan) }
+    requires lists { AreNew meeting.lists × AreNamed J.passes J.stops meeting.lists }
+    requires tree { (meeting.tree.tree ≡ J.tree) × (meeting.door.tree ≡ J.tree) }
+    requires members { AreOf J.tree meeting.groups.items }
+    requires leaves { AreLeaves J.tree.key.shape meeting.leaves.items }
+    requires rule { Answers (F.pre meeting.tree.rule.closure) (F.post meeting.tree.rule.closure) (end_ends_at meeting.tree.rule.plan) }
     ensures left { IfOk result (λ l. HasLeftKept (reading_of P.frame P.may P.meant P.Task.path_of) H.kept J.mark l.writer l.given l.ran.report l.ran.tasks.items) }
     ensures started { IfErr result (IsOfWorkers setup.entry.workers) }
 {
-    let Opening {
+    let Meeting {
         tree,
         door,
         groups,
         leaves,
         lists,
-    } = opening;
+    } = meeting;
     let tree = WorkerTree::<J, F>::new(tree, Leaves::new(leaves));
     let tokens = match tokens_of(alloc, &stretches, &tree, groups) {
         Ok(tokens) => tokens,
-        Err(reason) => {
+        Err(fault) => {
             stretches.give_up();
-            return Err(reason.refusal());
+            return Err(fault.refusal());
         }
     };
     let Ok(lanes) = lanes_for(alloc, setup.workers) else {
@@ -356,8 +356,8 @@ where
         return Err(Refused::Full);
     }
     match opening_of(rt, alloc, shape, count, advance) {
-        Ok(opening) => run_opened::<P, H, Brand, R, F, G, S>(
-            rt, alloc, stretches, hook, halted, opening, setup,
+        Ok(meeting) => run_opened::<P, H, Brand, R, F, G, S>(
+            rt, alloc, stretches, hook, halted, meeting, setup,
         ),
         Err(refused) => {
             stretches.give_up();

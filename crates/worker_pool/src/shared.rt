@@ -9,7 +9,7 @@ use programs::program::TaskLoop;
 use std::alloc::Global;
 use std::hint::spin_loop;
 use std::sync::{Condvar, Mutex, Wait};
-use stretch_queue::fault::{Reason, Refused};
+use stretch_queue::fault::{Refused, WorkerFault};
 use stretch_queue::hand::{HeldStretch, RanStretch};
 use stretch_queue::hook::{Hook, Lines};
 use stretch_queue::led::Led;
@@ -67,7 +67,11 @@ impl<'t, 'p, P: TaskLoop, H: Hook<P>, J: Running, F: Fn(u32, u32) -> bool> Share
     }
 
     // Hands out the ready stretches, to each worker those of its range, and publishes their superstep.
-    fn hand_out<R: Wait>(&self, rt: &R, queue: &mut Queue<'t, 'p, P, H, J>) -> Result<(), Reason> {
+    fn hand_out<R: Wait>(
+        &self,
+        rt: &R,
+        queue: &mut Queue<'t, 'p, P, H, J>,
+    ) -> Result<(), WorkerFault> {
         let count = queue.len();
         for k in 0..self.lanes.len() {
             let end = end_of(count, k, self.lanes.len());
@@ -78,7 +82,7 @@ impl<'t, 'p, P: TaskLoop, H: Hook<P>, J: Running, F: Fn(u32, u32) -> bool> Share
     }
 
     /// Hands out the stretches of the first superstep.
-    pub(crate) fn begin<R: Wait>(&self, rt: &R) -> Result<(), Reason> {
+    pub(crate) fn begin<R: Wait>(&self, rt: &R) -> Result<(), WorkerFault> {
         let mut queue = self.queue.lock(rt);
         self.hand_out(rt, &mut queue)
     }
@@ -133,14 +137,14 @@ impl<'t, 'p, P: TaskLoop, H: Hook<P>, J: Running, F: Fn(u32, u32) -> bool> Share
         rt: &R,
         worker: usize,
         ran: RanStretch<'p, P, J>,
-    ) -> Result<Delivered<J>, Reason>
+    ) -> Result<Delivered<J>, WorkerFault>
         requires { worker < J.workers }
     {
         self.lanes[worker].deliver(rt, ran)
     }
 
     // Cuts members anew for the next stretches, and hands these out.
-    fn cut_anew<R: Wait>(&self, rt: &R, alloc: Global, recut: Recut<J>) -> Result<(), Reason> {
+    fn cut_anew<R: Wait>(&self, rt: &R, alloc: Global, recut: Recut<J>) -> Result<(), WorkerFault> {
         let tokens = self.tree.cut_anew(alloc, recut)?;
         let mut queue = self.queue.lock(rt);
         queue.put_back(tokens)?;
@@ -148,7 +152,11 @@ impl<'t, 'p, P: TaskLoop, H: Hook<P>, J: Running, F: Fn(u32, u32) -> bool> Share
     }
 
     // Takes what all workers have delivered, and the members that are back. Members that come back after that are late.
-    fn collect<R: Wait>(&self, rt: &R, queue: &mut Queue<'t, 'p, P, H, J>) -> Result<(), Reason> {
+    fn collect<R: Wait>(
+        &self,
+        rt: &R,
+        queue: &mut Queue<'t, 'p, P, H, J>,
+    ) -> Result<(), WorkerFault> {
         let next = queue.step().saturating_add(1);
         for lane in &self.lanes {
             lane.empty(rt, queue, next)?;
@@ -164,7 +172,7 @@ impl<'t, 'p, P: TaskLoop, H: Hook<P>, J: Running, F: Fn(u32, u32) -> bool> Share
         own: &mut OwnToken<J>,
         arrived: Arrived<J>,
         led: Led<J>,
-    ) -> Result<(), Reason> {
+    ) -> Result<(), WorkerFault> {
         let mut queue = self.queue.lock(rt);
         self.collect(rt, &mut queue)?;
         match queue.hand_back(alloc, arrived, Some(led))? {
@@ -189,7 +197,7 @@ impl<'t, 'p, P: TaskLoop, H: Hook<P>, J: Running, F: Fn(u32, u32) -> bool> Share
         rt: &R,
         alloc: Global,
         late: Arrived<J>,
-    ) -> Result<Option<HeldStretch<'p, P, H::Lines, J>>, Reason> {
+    ) -> Result<Option<HeldStretch<'p, P, H::Lines, J>>, WorkerFault> {
         let mut queue = self.queue.lock(rt);
         match queue.hand_back(alloc, late, None)? {
             HandedBack::Ready => queue.next_below(usize::MAX),
@@ -212,7 +220,7 @@ impl<'t, 'p, P: TaskLoop, H: Hook<P>, J: Running, F: Fn(u32, u32) -> bool> Share
         own: &mut OwnToken<J>,
         worker: usize,
         delivered: Delivered<J>,
-    ) -> Result<Option<HeldStretch<'p, P, H::Lines, J>>, Reason>
+    ) -> Result<Option<HeldStretch<'p, P, H::Lines, J>>, WorkerFault>
         requires worker { worker < J.workers }
         requires rule { Answers (F.pre self.now.tree.phaser.rule.closure) (F.post self.now.tree.phaser.rule.closure) (end_ends_at self.now.tree.phaser.rule.plan) }
     {
@@ -253,9 +261,9 @@ impl<'t, 'p, P: TaskLoop, H: Hook<P>, J: Running, F: Fn(u32, u32) -> bool> Share
         &self,
         rt: &R,
         own: &mut OwnToken<J>,
-        reason: Reason,
+        fault: WorkerFault,
     ) -> Stopped<J> {
-        let stopped = self.refuse(rt, reason.refusal());
+        let stopped = self.refuse(rt, fault.refusal());
         self.tree.force(rt, own);
         stopped
     }

@@ -5,10 +5,10 @@ use crate::leaves::Leaves;
 use std::alloc::{AllocError, Global};
 use std::sync::Wait;
 use std::thread;
-use stretch_queue::fault::Reason;
+use stretch_queue::fault::WorkerFault;
 use stretch_queue::led::Led;
-use stretch_queue::moves::{LeafMoves, Moves};
 use stretch_queue::members::Recut;
+use stretch_queue::moves::{LeafMoves, Moves};
 use stretch_queue::running::Running;
 use stretch_queue::tokens::{Bundle, OwnToken, Tokens};
 use tier_calls::registering_all::Halt;
@@ -164,7 +164,7 @@ impl<J: Running, F: Fn(u32, u32) -> bool> WorkerTree<J, F> {
     }
 
     // Lets all members of a group leave. Returns the sign if that advanced the tree.
-    fn leave<R: Wait>(&self, rt: &R, bundle: Bundle<J>) -> Result<Option<Led<J>>, Reason>
+    fn leave<R: Wait>(&self, rt: &R, bundle: Bundle<J>) -> Result<Option<Led<J>>, WorkerFault>
         requires rule { Answers (F.pre self.now.phaser.rule.closure) (F.post self.now.phaser.rule.closure) (end_ends_at self.now.phaser.rule.plan) }
     {
         let Bundle { group, .. } = bundle;
@@ -172,8 +172,8 @@ impl<J: Running, F: Fn(u32, u32) -> bool> WorkerTree<J, F> {
         let led = Led::of_departure(&answer);
         match answer {
             GroupLeft::Left(_door, _phase, _led) => Ok(led),
-            GroupLeft::AlreadyArrived(_group, _phase) => Err(Reason::Internal),
-            GroupLeft::Ended(_group, _shown) => Err(Reason::Internal),
+            GroupLeft::AlreadyArrived(_group, _phase) => Err(WorkerFault::Internal),
+            GroupLeft::Ended(_group, _shown) => Err(WorkerFault::Internal),
         }
     }
 
@@ -185,13 +185,13 @@ impl<J: Running, F: Fn(u32, u32) -> bool> WorkerTree<J, F> {
         own: &mut OwnToken<J>,
         bundle: Bundle<J>,
         moves: LeafMoves,
-    ) -> Result<(Option<Bundle<J>>, Option<Led<J>>), Reason>
+    ) -> Result<(Option<Bundle<J>>, Option<Led<J>>), WorkerFault>
         requires rule { Answers (F.pre self.now.phaser.rule.closure) (F.post self.now.phaser.rule.closure) (end_ends_at self.now.phaser.rule.plan) }
     {
         let LeafMoves { joining, leaving } = moves;
         let size = bundle.group.size();
         if leaving > size {
-            return Err(Reason::Internal);
+            return Err(WorkerFault::Internal);
         }
         if joining == 0 && leaving == size {
             let led = self.leave(rt, bundle)?;
@@ -207,9 +207,9 @@ impl<J: Running, F: Fn(u32, u32) -> bool> WorkerTree<J, F> {
         let led = Led::of_arrival(&answer);
         match answer {
             GroupArrived::Done(group, _phase, _led) => Ok((Some(Bundle::new(group)), led)),
-            GroupArrived::Full(_group, _count) => Err(Reason::Full),
-            GroupArrived::AlreadyArrived(_group, _phase) => Err(Reason::Internal),
-            GroupArrived::Ended(_group, _shown) => Err(Reason::Internal),
+            GroupArrived::Full(_group, _count) => Err(WorkerFault::Full),
+            GroupArrived::AlreadyArrived(_group, _phase) => Err(WorkerFault::Internal),
+            GroupArrived::Ended(_group, _shown) => Err(WorkerFault::Internal),
         }
     }
 
@@ -221,14 +221,14 @@ impl<J: Running, F: Fn(u32, u32) -> bool> WorkerTree<J, F> {
         own: &mut OwnToken<J>,
         tokens: &mut Tokens<J>,
         moves: LeafMoves,
-    ) -> Result<Option<Led<J>>, Reason>
+    ) -> Result<Option<Led<J>>, WorkerFault>
         requires rule { Answers (F.pre self.now.phaser.rule.closure) (F.post self.now.phaser.rule.closure) (end_ends_at self.now.phaser.rule.plan) }
     {
         let mut led = None;
         let mut rest = moves;
         for _ in 0..tokens.len() {
             let Some(bundle) = tokens.pop_first() else {
-                return Err(Reason::Internal);
+                return Err(WorkerFault::Internal);
             };
             let leaving = rest.leaving.min(bundle.group.size());
             let joining = rest.joining;
@@ -246,7 +246,7 @@ impl<J: Running, F: Fn(u32, u32) -> bool> WorkerTree<J, F> {
             led = one_led.or(led);
         }
         if rest.leaving > 0 || rest.joining > 0 {
-            return Err(Reason::Internal);
+            return Err(WorkerFault::Internal);
         }
         Ok(led)
     }
@@ -260,7 +260,7 @@ impl<J: Running, F: Fn(u32, u32) -> bool> WorkerTree<J, F> {
         planned: &mut Vec<Planned<J>>,
         number: usize,
         joining: u32,
-    ) -> Result<u32, Reason> {
+    ) -> Result<u32, WorkerFault> {
         if joining == 0 {
             return Ok(0);
         }
@@ -275,7 +275,7 @@ impl<J: Running, F: Fn(u32, u32) -> bool> WorkerTree<J, F> {
                 Ok(rest)
             }
             Entry::Off => Ok(joining),
-            Entry::Over => Err(Reason::Internal),
+            Entry::Over => Err(WorkerFault::Internal),
         }
     }
 
@@ -298,7 +298,7 @@ impl<J: Running, F: Fn(u32, u32) -> bool> WorkerTree<J, F> {
         own: &mut OwnToken<J>,
         planned: &mut Vec<Planned<J>>,
         moves: &[LeafMoves],
-    ) -> Result<(), Reason> {
+    ) -> Result<(), WorkerFault> {
         let mut leaving = 0;
         let mut joining: u32 = 0;
         for number in 0..moves.len() {
@@ -316,10 +316,10 @@ impl<J: Running, F: Fn(u32, u32) -> bool> WorkerTree<J, F> {
         }
         match planned.first_mut() {
             Some(first) => first.let_join(joining),
-            None => return Err(Reason::Internal),
+            None => return Err(WorkerFault::Internal),
         }
         if leaving > 0 {
-            return Err(Reason::Internal);
+            return Err(WorkerFault::Internal);
         }
         Ok(())
     }
@@ -332,14 +332,14 @@ impl<J: Running, F: Fn(u32, u32) -> bool> WorkerTree<J, F> {
         own: &mut OwnToken<J>,
         tokens: &mut Tokens<J>,
         moves: &[LeafMoves],
-    ) -> Result<Option<Led<J>>, Reason>
+    ) -> Result<Option<Led<J>>, WorkerFault>
         requires rule { Answers (F.pre self.now.phaser.rule.closure) (F.post self.now.phaser.rule.closure) (end_ends_at self.now.phaser.rule.plan) }
     {
         let mut planned = Vec::with_capacity(alloc, tokens.len())?;
         for _ in 0..tokens.len() {
             match tokens.pop_first() {
                 Some(bundle) => append(&mut planned, Planned::new(bundle))?,
-                None => return Err(Reason::Internal),
+                None => return Err(WorkerFault::Internal),
             }
         }
         self.plan(rt, own, &mut planned, moves)?;
@@ -365,7 +365,7 @@ impl<J: Running, F: Fn(u32, u32) -> bool> WorkerTree<J, F> {
         own: &mut OwnToken<J>,
         tokens: &mut Tokens<J>,
         moves: &Moves,
-    ) -> Result<Option<Led<J>>, Reason>
+    ) -> Result<Option<Led<J>>, WorkerFault>
         requires rule { Answers (F.pre self.now.phaser.rule.closure) (F.post self.now.phaser.rule.closure) (end_ends_at self.now.phaser.rule.plan) }
     {
         if moves.at_leaves.is_empty() {
@@ -386,7 +386,7 @@ impl<J: Running, F: Fn(u32, u32) -> bool> WorkerTree<J, F> {
     }
 
     // Puts two groups of one tier together. Fails if they aren't unarrived in one phase.
-    fn join_two(&self, one: &mut Bundle<J>, other: Bundle<J>) -> Result<(), Reason>
+    fn join_two(&self, one: &mut Bundle<J>, other: Bundle<J>) -> Result<(), WorkerFault>
         requires tier { other.group.view.tier ≡ one.old.group.view.tier }
     {
         let mut other = other;
@@ -396,12 +396,12 @@ impl<J: Running, F: Fn(u32, u32) -> bool> WorkerTree<J, F> {
                 self.phaser.join_groups(&mut one.group, group);
                 Ok(())
             }
-            (_, _) => Err(Reason::Internal),
+            (_, _) => Err(WorkerFault::Internal),
         }
     }
 
     // Puts members to the first of these that are at their tier, or appends them.
-    fn merge(&self, bundles: &mut Vec<Bundle<J>>, bundle: Bundle<J>) -> Result<(), Reason> {
+    fn merge(&self, bundles: &mut Vec<Bundle<J>>, bundle: Bundle<J>) -> Result<(), WorkerFault> {
         for place in 0..bundles.len() {
             if bundles[place].group.tier() == bundle.group.tier() {
                 return self.join_two(&mut bundles[place], bundle);
@@ -416,11 +416,11 @@ impl<J: Running, F: Fn(u32, u32) -> bool> WorkerTree<J, F> {
         &self,
         bundles: &mut Vec<Bundle<J>>,
         tokens: &mut Tokens<J>,
-    ) -> Result<(), Reason> {
+    ) -> Result<(), WorkerFault> {
         for _ in 0..tokens.len() {
             match tokens.pop_first() {
                 Some(bundle) => self.merge(bundles, bundle)?,
-                None => return Err(Reason::Internal),
+                None => return Err(WorkerFault::Internal),
             }
         }
         Ok(())
@@ -439,12 +439,12 @@ impl<J: Running, F: Fn(u32, u32) -> bool> WorkerTree<J, F> {
         alloc: Global,
         bundles: &mut Vec<Bundle<J>>,
         count: usize,
-    ) -> Result<Tokens<J>, Reason> {
+    ) -> Result<Tokens<J>, WorkerFault> {
         let mut tokens = Tokens::new(alloc);
         let mut need = count;
         while need > 0 {
             let Some(mut bundle) = bundles.pop() else {
-                return Err(Reason::Internal);
+                return Err(WorkerFault::Internal);
             };
             let has = bundle.group.size() as usize;
             if need < has {
@@ -465,7 +465,7 @@ impl<J: Running, F: Fn(u32, u32) -> bool> WorkerTree<J, F> {
         alloc: Global,
         mut bundles: Vec<Bundle<J>>,
         sizes: &[usize],
-    ) -> Result<Vec<Option<Tokens<J>>>, Reason> {
+    ) -> Result<Vec<Option<Tokens<J>>>, WorkerFault> {
         let mut all = Vec::with_capacity(alloc, sizes.len())?;
         for place in 0..sizes.len() {
             let tokens = self.take_members(alloc, &mut bundles, sizes[place])?;
@@ -479,7 +479,7 @@ impl<J: Running, F: Fn(u32, u32) -> bool> WorkerTree<J, F> {
         &self,
         alloc: Global,
         recut: Recut<J>,
-    ) -> Result<Vec<Option<Tokens<J>>>, Reason> {
+    ) -> Result<Vec<Option<Tokens<J>>>, WorkerFault> {
         let Recut { mut tokens, sizes } = recut;
         let mut bundles = Vec::new(alloc);
         while let Some(mut one) = tokens.pop() {

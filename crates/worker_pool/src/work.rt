@@ -7,7 +7,7 @@ use crate::shared::{Next, Shared};
 use programs::program::TaskLoop;
 use std::alloc::Global;
 use std::sync::Wait;
-use stretch_queue::fault::Reason;
+use stretch_queue::fault::WorkerFault;
 use stretch_queue::hand::HeldStretch;
 use stretch_queue::hook::Hook;
 use stretch_queue::hooks::Gate;
@@ -31,7 +31,7 @@ pub(crate) fn work<P: TaskLoop, H: Hook<P>, J: Running, R: Wait, F: Fn(u32, u32)
         match do_next(rt, alloc, shared, gate, own, worker) {
             Ok(None) => {}
             Ok(Some(stopped)) => return stopped,
-            Err(reason) => return shared.give_up(rt, own, reason),
+            Err(fault) => return shared.give_up(rt, own, fault),
         }
     }
     unreachable!()
@@ -45,7 +45,7 @@ fn do_next<P: TaskLoop, H: Hook<P>, J: Running, R: Wait, F: Fn(u32, u32) -> bool
     gate: &G,
     own: &mut OwnToken<J>,
     worker: usize,
-) -> Result<Option<Stopped<J>>, Reason>
+) -> Result<Option<Stopped<J>>, WorkerFault>
     requires worker { worker < J.workers }
     requires rule { Answers (F.pre shared.now.tree.phaser.rule.closure) (F.post shared.now.tree.phaser.rule.closure) (end_ends_at shared.now.tree.phaser.rule.plan) }
 {
@@ -67,7 +67,7 @@ fn do_stretches<'p, P: TaskLoop, H: Hook<P>, J: Running, R: Wait, F: Fn(u32, u32
     own: &mut OwnToken<J>,
     worker: usize,
     first: HeldStretch<'p, P, H::Lines, J>,
-) -> Result<(), Reason>
+) -> Result<(), WorkerFault>
     requires worker { worker < J.workers }
     requires rule { Answers (F.pre shared.now.tree.phaser.rule.closure) (F.post shared.now.tree.phaser.rule.closure) (end_ends_at shared.now.tree.phaser.rule.plan) }
 {
@@ -91,7 +91,7 @@ fn do_stretch<'p, P: TaskLoop, H: Hook<P>, J: Running, R: Wait, F: Fn(u32, u32) 
     own: &mut OwnToken<J>,
     worker: usize,
     held: HeldStretch<'p, P, H::Lines, J>,
-) -> Result<Option<HeldStretch<'p, P, H::Lines, J>>, Reason>
+) -> Result<Option<HeldStretch<'p, P, H::Lines, J>>, WorkerFault>
     requires worker { worker < J.workers }
     requires rule { Answers (F.pre shared.now.tree.phaser.rule.closure) (F.post shared.now.tree.phaser.rule.closure) (end_ends_at shared.now.tree.phaser.rule.plan) }
 {

@@ -16,7 +16,7 @@ returns-in-Err-write_left-clause-streams g c = λ held a.
 pub returns-in-Err-clause-streams : goal.returns-in-Err-clause-streams
 returns-in-Err-clause-streams g c = λ held a.
     let refused : IsOfWorkers c.args.workers c.in-Err.refused = rw c.in-Err.is at c.requires.refused in
-    c.why_unstreamed.ensures.streams c.args.workers c.args.limit (program_of c.args.job.now) held (g.W.CountedWrite.contents c.args.writer.now) refused a
+    c.workers_stream_fault.ensures.streams c.args.workers c.args.limit (program_of c.args.job.now) held (g.W.CountedWrite.contents c.args.writer.now) refused a
 
 pub returns-in-Err-clause-failures : goal.returns-in-Err-clause-failures
-returns-in-Err-clause-failures g c = c.why_unstreamed.ensures.cause (g.W.CountedWrite.failures c.args.writer.now)
+returns-in-Err-clause-failures g c = c.workers_stream_fault.ensures.cause (g.W.CountedWrite.failures c.args.writer.now)

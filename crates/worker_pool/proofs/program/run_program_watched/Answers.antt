@@ -1,7 +1,7 @@
 use Rattle.std.proofs.Common.{◌≡◌, ◌∙◌, ℕ, List, Result, Ok, Err, map, length, ap, sym, subst}
 use Rattle.std.specs.Prelude.{ℤ, IfOk}
 use Rattle.programs.specs.History.{HasRunTo}
-use Rattle.program_stretches.specs.Opening.{live_of}
+use Rattle.program_stretches.specs.SuperstepStart.{live_of}
 use Rattle.worker_pool.specs.JobPlan.{limit_of}
 use Rattle.worker_pool.proofs.program.run_program_watched.Goals as goal
 
@@ -12,21 +12,21 @@ if_ok (Err e) F G h f = h
 pub returns-in-Ok-new-clause-ran : goal.returns-in-Ok-new-clause-ran
 returns-in-Ok-new-clause-ran g c =
     let b = c.in-Ok-new.ensures in
-    let limit : b.opening.limit ≡ limit_of c.args.advance.plan = b.of_limit ∙ c.limit_in-limit.ensures.limit ∙ ap limit_of c.plan.ensures in
+    let limit : b.start.limit ≡ limit_of c.args.advance.plan = b.of_limit ∙ c.limit_in-limit.ensures.limit ∙ ap limit_of c.plan.ensures in
     if_ok c.run_watched.result _ _ c.run_watched.ensures.ran
     (λ ran h.
     subst (λ (q : g.row.P.Denot). HasRunTo g.W.Watch.stops g.W.Watch.goes (g.P.Program.frame q) (g.P.Program.may q) c.args.most c.args.arrays (map (g.P.Program.meant q) c.args.tasks.items) (limit_of c.args.advance.plan) ran.report (map (g.P.Program.meant q) ran.tasks.items)) b.of_program
-    (subst (λ (n : ℕ). HasRunTo g.W.Watch.stops g.W.Watch.goes (g.P.Program.frame b.opening.program) (g.P.Program.may b.opening.program) n c.args.arrays (map (g.P.Program.meant b.opening.program) c.args.tasks.items) (limit_of c.args.advance.plan) ran.report (map (g.P.Program.meant b.opening.program) ran.tasks.items)) b.of_most
-    (subst (λ (xs : List (List ℕ × List ℤ)). HasRunTo g.W.Watch.stops g.W.Watch.goes (g.P.Program.frame b.opening.program) (g.P.Program.may b.opening.program) b.opening.most xs (map (g.P.Program.meant b.opening.program) c.args.tasks.items) (limit_of c.args.advance.plan) ran.report (map (g.P.Program.meant b.opening.program) ran.tasks.items)) b.of_arrays
-    (subst (λ (ts : List g.row.P-Task.Denot). HasRunTo g.W.Watch.stops g.W.Watch.goes (g.P.Program.frame b.opening.program) (g.P.Program.may b.opening.program) b.opening.most b.opening.arrays (map (g.P.Program.meant b.opening.program) ts) (limit_of c.args.advance.plan) ran.report (map (g.P.Program.meant b.opening.program) ran.tasks.items)) b.of_tasks
-    (subst (λ (n : ℕ). HasRunTo g.W.Watch.stops g.W.Watch.goes (g.P.Program.frame b.opening.program) (g.P.Program.may b.opening.program) b.opening.most b.opening.arrays (map (g.P.Program.meant b.opening.program) (live_of b.opening)) n ran.report (map (g.P.Program.meant b.opening.program) ran.tasks.items)) limit
-    (h b.opening b.log))))))
+    (subst (λ (n : ℕ). HasRunTo g.W.Watch.stops g.W.Watch.goes (g.P.Program.frame b.start.program) (g.P.Program.may b.start.program) n c.args.arrays (map (g.P.Program.meant b.start.program) c.args.tasks.items) (limit_of c.args.advance.plan) ran.report (map (g.P.Program.meant b.start.program) ran.tasks.items)) b.of_most
+    (subst (λ (xs : List (List ℕ × List ℤ)). HasRunTo g.W.Watch.stops g.W.Watch.goes (g.P.Program.frame b.start.program) (g.P.Program.may b.start.program) b.start.most xs (map (g.P.Program.meant b.start.program) c.args.tasks.items) (limit_of c.args.advance.plan) ran.report (map (g.P.Program.meant b.start.program) ran.tasks.items)) b.of_arrays
+    (subst (λ (ts : List g.row.P-Task.Denot). HasRunTo g.W.Watch.stops g.W.Watch.goes (g.P.Program.frame b.start.program) (g.P.Program.may b.start.program) b.start.most b.start.arrays (map (g.P.Program.meant b.start.program) ts) (limit_of c.args.advance.plan) ran.report (map (g.P.Program.meant b.start.program) ran.tasks.items)) b.of_tasks
+    (subst (λ (n : ℕ). HasRunTo g.W.Watch.stops g.W.Watch.goes (g.P.Program.frame b.start.program) (g.P.Program.may b.start.program) b.start.most b.start.arrays (map (g.P.Program.meant b.start.program) (live_of b.start)) n ran.report (map (g.P.Program.meant b.start.program) ran.tasks.items)) limit
+    (h b.start b.log))))))
 
 pub run_watched-requires-clause-opened : goal.run_watched-requires-clause-opened
 run_watched-requires-clause-opened g c = λ lifetimes bounds.
     let b = c.in-Ok-new.ensures in
     record {
-      opening = b.opening;
+      start = b.start;
       log = b.log;
       arrays = b.of_arrays ∙ sym b.with_arrays;
       tasks = ap length b.of_tasks ∙ sym (b.counted ∙ ap length b.whole);

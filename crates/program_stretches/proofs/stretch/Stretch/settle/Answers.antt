@@ -1,7 +1,7 @@
 use Rattle.std.proofs.Common.{◌≡◌, ◌∙◌, ap, sym, None}
 use Rattle.stretch_parts.specs.Parts.{reading_of}
 use Rattle.program_stretches.specs.StretchView.{stretch_of}
-use Rattle.program_stretches.specs.Opening.{live_of}
+use Rattle.program_stretches.specs.SuperstepStart.{live_of}
 use Rattle.program_stretches.specs.StretchesValue.{StretchValue}
 use Rattle.program_stretches.proofs.Closed.{nothing_if}
 use Rattle.program_stretches.proofs.EachDone.{part_settles}
@@ -14,7 +14,7 @@ settle-requires-clause-done g c =
     let v = stretch_of c.self.inside in
     let done = ap (λ (s : StretchValue g.row.P.Denot g.row.P-Task.Denot). s.part.done) c.self.view_is ∙ c.requires in
     let none : v.part.fault ≡ None = nothing_if v.part.fault (sym c.has_faulted.ensures ∙ c.if-has_faulted.false) in
-    (part_settles (m v.program) (g.met.P.Program.keeps_paths v.program) v.arrays v.step (live_of h.opening) h.rising v.part h.part done none).done
+    (part_settles (m v.program) (g.met.P.Program.keeps_paths v.program) v.arrays v.step (live_of h.start) h.rising v.part h.part done none).done
 
 pub settle-requires-clause-same : goal.settle-requires-clause-same
 settle-requires-clause-same g c =
@@ -23,7 +23,7 @@ settle-requires-clause-same g c =
     let v = stretch_of c.self.inside in
     let done = ap (λ (s : StretchValue g.row.P.Denot g.row.P-Task.Denot). s.part.done) c.self.view_is ∙ c.requires in
     let none : v.part.fault ≡ None = nothing_if v.part.fault (sym c.has_faulted.ensures ∙ c.if-has_faulted.false) in
-    (part_settles (m v.program) (g.met.P.Program.keeps_paths v.program) v.arrays v.step (live_of h.opening) h.rising v.part h.part done none).same
+    (part_settles (m v.program) (g.met.P.Program.keeps_paths v.program) v.arrays v.step (live_of h.start) h.rising v.part h.part done none).same
 
 pub settle-requires-clause-rising : goal.settle-requires-clause-rising
 settle-requires-clause-rising g c =
@@ -32,7 +32,7 @@ settle-requires-clause-rising g c =
     let v = stretch_of c.self.inside in
     let done = ap (λ (s : StretchValue g.row.P.Denot g.row.P-Task.Denot). s.part.done) c.self.view_is ∙ c.requires in
     let none : v.part.fault ≡ None = nothing_if v.part.fault (sym c.has_faulted.ensures ∙ c.if-has_faulted.false) in
-    (part_settles (m v.program) (g.met.P.Program.keeps_paths v.program) v.arrays v.step (live_of h.opening) h.rising v.part h.part done none).rising
+    (part_settles (m v.program) (g.met.P.Program.keeps_paths v.program) v.arrays v.step (live_of h.start) h.rising v.part h.part done none).rising
 
 pub settle-requires-clause-numbered : goal.settle-requires-clause-numbered
 settle-requires-clause-numbered g c =
@@ -41,4 +41,4 @@ settle-requires-clause-numbered g c =
     let v = stretch_of c.self.inside in
     let done = ap (λ (s : StretchValue g.row.P.Denot g.row.P-Task.Denot). s.part.done) c.self.view_is ∙ c.requires in
     let none : v.part.fault ≡ None = nothing_if v.part.fault (sym c.has_faulted.ensures ∙ c.if-has_faulted.false) in
-    (part_settles (m v.program) (g.met.P.Program.keeps_paths v.program) v.arrays v.step (live_of h.opening) h.rising v.part h.part done none).numbered
+    (part_settles (m v.program) (g.met.P.Program.keeps_paths v.program) v.arrays v.step (live_of h.start) h.rising v.part h.part done none).numbered

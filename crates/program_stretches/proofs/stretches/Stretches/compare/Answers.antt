@@ -1,8 +1,8 @@
 use Rattle.std.proofs.Common.{◌≡◌, ◌∙◌, List, ap, sym, subst}
 use Rattle.snapshot_log.specs.Agreed.{LogValue, WasBefore}
 use Rattle.stretch_parts.specs.Parts.{reading_of}
-use Rattle.program_stretches.specs.Opening.{OpeningValue}
-use Rattle.program_stretches.specs.StretchesValue.{StretchesValue, IsCourse}
+use Rattle.program_stretches.specs.SuperstepStart.{SuperstepStartValue}
+use Rattle.program_stretches.specs.StretchesValue.{StretchesValue, IsRunSoFar}
 use Rattle.program_stretches.specs.StretchesView.{stretches_of}
 use Rattle.program_stretches.proofs.stretches.Stretches.compare.Goals as goal
 
@@ -14,8 +14,8 @@ invariant_of-self g c =
     let same : stretches_of (record c.self.inside { writer = c.compare.new.self }) ≡ v =
     (λ i. record v { name = (c.compare.ensures.same i).name; log = (c.compare.ensures.same i).log }) in
     record {
-      course = subst (IsCourse m) (sym same) h.course;
-      same = h.same ∙ sym (ap (λ (w : LogValue (OpeningValue g.row.P.Denot g.row.P-Task.Denot)). w.name) c.compare.ensures.same);
+      run = subst (IsRunSoFar m) (sym same) h.run;
+      same = h.same ∙ sym (ap (λ (w : LogValue (SuperstepStartValue g.row.P.Denot g.row.P-Task.Denot)). w.name) c.compare.ensures.same);
       is_ready = h.is_ready;
       pieces = h.pieces;
       most = h.most;
@@ -29,4 +29,4 @@ returns-clause-same g c =
 
 pub returns-clause-before : goal.returns-clause-before
 returns-clause-before g c =
-    subst (λ (l : List (OpeningValue g.row.P.Denot g.row.P-Task.Denot)). WasBefore c.args.earlier.log l) (ap (λ (x : StretchesValue g.row.P.Denot g.row.P-Task.Denot). x.log) c.self.view_is) c.compare.ensures.before
+    subst (λ (l : List (SuperstepStartValue g.row.P.Denot g.row.P-Task.Denot)). WasBefore c.args.earlier.log l) (ap (λ (x : StretchesValue g.row.P.Denot g.row.P-Task.Denot). x.log) c.self.view_is) c.compare.ensures.before

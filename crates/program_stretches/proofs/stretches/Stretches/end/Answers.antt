@@ -3,7 +3,7 @@ use Rattle.stretch_parts.specs.Parts.{reading_of}
 use Rattle.program_stretches.specs.StretchesValue.{StretchesValue, status_in}
 use Rattle.program_stretches.specs.Closing.{EndsBy}
 use Rattle.program_stretches.specs.StretchesView.{stretches_of}
-use Rattle.program_stretches.proofs.Course.{after_next}
+use Rattle.program_stretches.proofs.RunsSoFar.{after_next}
 use Rattle.program_stretches.proofs.stretches.Stretches.end.Goals as goal
 
 pub invariant_of-self : goal.invariant_of-self
@@ -14,7 +14,7 @@ invariant_of-self g c =
     let e = subst (λ (x : StretchesValue g.row.P.Denot g.row.P-Task.Denot). EndsBy m x c.args.blame) (sym c.self.view_is) c.requires.ends in
     let run = ap (λ (x : StretchesValue g.row.P.Denot g.row.P-Task.Denot). status_in x) c.self.view_is ∙ c.requires.running in
     record {
-      course = record {
+      run = record {
         live = e.live;
         after = after_next m v _ e.live e.live (g.met.P.Program.keeps_paths v.program) e.begun run e.count e.step refl refl refl refl refl e.begun.count e.begun.few;
         opened = inl (ap (λ (x : StretchesValue g.row.P.Denot g.row.P-Task.Denot). x.parts) c.self.view_is ∙ c.requires.none);

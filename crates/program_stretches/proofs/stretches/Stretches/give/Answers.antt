@@ -2,7 +2,7 @@ use Rattle.std.proofs.Common.{ap, ◌∙◌}
 use Rattle.stretch_parts.specs.Parts.{reading_of}
 use Rattle.program_stretches.specs.StretchesValue.{StretchesValue}
 use Rattle.program_stretches.specs.StretchesView.{stretches_of}
-use Rattle.program_stretches.proofs.Course.{course_given}
+use Rattle.program_stretches.proofs.RunsSoFar.{run_given}
 use Rattle.program_stretches.proofs.stretches.Stretches.give.Goals as goal
 
 pub invariant_of-self : goal.invariant_of-self
@@ -14,7 +14,7 @@ invariant_of-self g c =
     let prints = ap (λ x. x.items) c.replace-prints.ensures.after ∙ c.new.ensures.items in
     let records = ap (λ x. x.items) c.replace-records.ensures.after ∙ c.new-2.ensures.items in
     record {
-      course = course_given m v _ h.course none (λ i. record v { prints = prints i; records = records i; given = v.step });
+      run = run_given m v _ h.run none (λ i. record v { prints = prints i; records = records i; given = v.step });
       same = h.same;
       is_ready = h.is_ready;
       pieces = h.pieces;

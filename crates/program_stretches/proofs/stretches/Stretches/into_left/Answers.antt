@@ -23,7 +23,7 @@ returns-clause-left g c =
       f.named,
       subst (λ log. HasLeft m log l.given l.ran.report l.ran.tasks.items) (sym f.logged)
           (subst (λ n. HasLeft m v.log n l.ran.report l.ran.tasks.items) (sym f.gave)
-          (has_left m v c.leave.ensures.course (g.met.P.Program.keeps_paths v.program) s ended l.ran.tasks.items f.tasks (rests _ _ there) l.ran.report f.report)),
+          (has_left m v c.leave.ensures.run (g.met.P.Program.keeps_paths v.program) s ended l.ran.tasks.items f.tasks (rests _ _ there) l.ran.report f.report)),
     ))
 
 pub returns-clause-status : goal.returns-clause-status

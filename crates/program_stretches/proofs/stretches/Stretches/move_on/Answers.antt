@@ -7,7 +7,7 @@ use Rattle.phase_records.specs.PrintValue.{PrintValue}
 use Rattle.programs.specs.InPlace.{living_with}
 use Rattle.programs.proofs.InPlace.{few_left}
 use Rattle.stretch_parts.specs.Parts.{reading_of, AreFresh, tasks_in, puts_in, deeds_in, prints_in}
-use Rattle.program_stretches.specs.StretchesValue.{StretchesValue, IsAfter, IsCourse, status_in}
+use Rattle.program_stretches.specs.StretchesValue.{StretchesValue, IsAfter, IsRunSoFar, status_in}
 use Rattle.program_stretches.specs.StretchesView.{stretches_of}
 use Rattle.program_stretches.specs.Closing.{opened_with}
 use Rattle.program_stretches.proofs.Closed.{fit, after_landed, closed_landed, landed_with, below_limit, moved_count}
@@ -60,7 +60,7 @@ invariant_of-self-in-None g c =
     (λ i. record v { step = v.step + 1; arrays = arrays i; count = count i; prints = prints i; records = records i })
     ∙ (λ i. landed_with (c.self.view_is i) (c.args.puts.now ++ puts_in c.args.parts.items) c.args.told after (length next)) in
     record {
-      course = subst (IsCourse m) (sym same) (record { live = map (m a.program).meant next; after = begun; opened = inl c.requires.none });
+      run = subst (IsRunSoFar m) (sym same) (record { live = map (m a.program).meant next; after = begun; opened = inl c.requires.none });
       same = c.self.invariant.same;
       is_ready = c.self.invariant.is_ready;
       pieces = c.self.invariant.pieces;
@@ -89,7 +89,7 @@ invariant_of-self-in_err-next-in-None g c =
     (λ i. record v { step = v.step + 1; arrays = arrays i; count = count i; prints = prints i; records = records i })
     ∙ (λ i. landed_with (c.self.view_is i) (c.args.puts.now ++ puts_in c.args.parts.items) c.args.told after (length next)) in
     record {
-      course = subst (IsCourse m) (sym same) (record { live = map (m a.program).meant next; after = begun; opened = inl c.requires.none });
+      run = subst (IsRunSoFar m) (sym same) (record { live = map (m a.program).meant next; after = begun; opened = inl c.requires.none });
       same = c.self.invariant.same;
       is_ready = c.self.invariant.is_ready;
       pieces = c.self.invariant.pieces;

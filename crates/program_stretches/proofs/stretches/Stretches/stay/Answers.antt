@@ -7,7 +7,7 @@ use Rattle.phase_records.specs.declared.record.PhaseRecord.{PhaseRecord}
 use Rattle.programs.specs.InPlace.{living_with}
 use Rattle.programs.proofs.InPlace.{all_stay}
 use Rattle.stretch_parts.specs.Parts.{reading_of, AreFresh, tasks_in, puts_in, deeds_in, prints_in}
-use Rattle.program_stretches.specs.StretchesValue.{StretchesValue, IsAfter, IsCourse}
+use Rattle.program_stretches.specs.StretchesValue.{StretchesValue, IsAfter, IsRunSoFar}
 use Rattle.program_stretches.specs.StretchesView.{stretches_of}
 use Rattle.program_stretches.specs.Closing.{opened_with}
 use Rattle.program_stretches.proofs.Closed.{fit, after_landed, closed_landed, landed_with, tasks_renewed, fresh_renewed}
@@ -24,7 +24,7 @@ invariant_of-self-in-None g c =
     let us = tasks_in c.args.parts.items in
     let ds = deeds_in c.args.parts.items in
     let after = prints_in c.args.parts.items in
-    let f = fit m a law c.requires.running h.opening h.begun (c.args.puts.now ++ puts_in c.args.parts.items) us ds after h.did in
+    let f = fit m a law c.requires.running h.start h.begun (c.args.puts.now ++ puts_in c.args.parts.items) us ds after h.did in
     let stays = all_stay us ds f.same (sym (ap (λ (r : PhaseRecord). r.left) c.requires.told) ∙ c.requires.stays.0) (sym (ap (λ (r : PhaseRecord). r.spawned) c.requires.told) ∙ c.requires.stays.1) in
     let is_next : us ≡ in_path_order g.P.Task.OnPath.path_of (living_with us ds) = sym (ap (in_path_order g.P.Task.OnPath.path_of) stays ∙ rising_stays g.P.Task.OnPath.path_of us f.rising) in
     let none = sym c.in-None.is ∙ c.in_ok-place.ensures.place ∙ (λ i. over_in ((c.self.view_is i).arrays) [] 0 (c.args.puts.now ++ puts_in (c.deref-2.ensures.value i))) in
@@ -38,7 +38,7 @@ invariant_of-self-in-None g c =
     (λ i. record v { step = v.step + 1; arrays = arrays i; count = count i; prints = prints i; records = records i })
     ∙ (λ i. landed_with (c.self.view_is i) (c.args.puts.now ++ puts_in c.args.parts.items) c.args.told after (length us)) in
     record {
-      course = subst (IsCourse m) (sym same) (record { live = map (m a.program).meant us; after = begun; opened = inl c.requires.none });
+      run = subst (IsRunSoFar m) (sym same) (record { live = map (m a.program).meant us; after = begun; opened = inl c.requires.none });
       same = c.self.invariant.same;
       is_ready = c.self.invariant.is_ready;
       pieces = c.self.invariant.pieces;
@@ -60,7 +60,7 @@ reopen-requires-clause-after g c =
     let us = tasks_in c.args.parts.items in
     let ds = deeds_in c.args.parts.items in
     let after = prints_in c.args.parts.items in
-    let f = fit m a law c.requires.running h.opening h.begun (c.args.puts.now ++ puts_in c.args.parts.items) us ds after h.did in
+    let f = fit m a law c.requires.running h.start h.begun (c.args.puts.now ++ puts_in c.args.parts.items) us ds after h.did in
     let stays = all_stay us ds f.same (sym (ap (λ (r : PhaseRecord). r.left) c.requires.told) ∙ c.requires.stays.0) (sym (ap (λ (r : PhaseRecord). r.spawned) c.requires.told) ∙ c.requires.stays.1) in
     let is_next : us ≡ in_path_order g.P.Task.OnPath.path_of (living_with us ds) = sym (ap (in_path_order g.P.Task.OnPath.path_of) stays ∙ rising_stays g.P.Task.OnPath.path_of us f.rising) in
     let none = sym c.in-None.is ∙ c.in_ok-place.ensures.place ∙ (λ i. over_in ((c.self.view_is i).arrays) [] 0 (c.args.puts.now ++ puts_in (c.deref-2.ensures.value i))) in
@@ -86,7 +86,7 @@ returns-in_ok-reopen-in-None-clause-closed g c =
     let us = tasks_in c.args.parts.items in
     let ds = deeds_in c.args.parts.items in
     let after = prints_in c.args.parts.items in
-    let f = fit m a law c.requires.running h.opening h.begun (c.args.puts.now ++ puts_in c.args.parts.items) us ds after h.did in
+    let f = fit m a law c.requires.running h.start h.begun (c.args.puts.now ++ puts_in c.args.parts.items) us ds after h.did in
     let stays = all_stay us ds f.same (sym (ap (λ (r : PhaseRecord). r.left) c.requires.told) ∙ c.requires.stays.0) (sym (ap (λ (r : PhaseRecord). r.spawned) c.requires.told) ∙ c.requires.stays.1) in
     let is_next : us ≡ in_path_order g.P.Task.OnPath.path_of (living_with us ds) = sym (ap (in_path_order g.P.Task.OnPath.path_of) stays ∙ rising_stays g.P.Task.OnPath.path_of us f.rising) in
     let none = sym c.in-None.is ∙ c.in_ok-place.ensures.place ∙ (λ i. over_in ((c.self.view_is i).arrays) [] 0 (c.args.puts.now ++ puts_in (c.deref-2.ensures.value i))) in
@@ -113,7 +113,7 @@ returns-in_ok-reopen-in-None-clause-reopened g c =
     let us = tasks_in c.args.parts.items in
     let ds = deeds_in c.args.parts.items in
     let after = prints_in c.args.parts.items in
-    let f = fit m a law c.requires.running h.opening h.begun (c.args.puts.now ++ puts_in c.args.parts.items) us ds after h.did in
+    let f = fit m a law c.requires.running h.start h.begun (c.args.puts.now ++ puts_in c.args.parts.items) us ds after h.did in
     let count : v.count ≡ length us = ap (λ (x : StretchesValue g.row.P.Denot g.row.P-Task.Denot). x.count) c.self.view_is ∙ sym f.all ∙ sym f.same in
     let parts = c.print_and_renew.ensures.renewed in
     let is = c.in_ok-reopen-in-None.ensures.opened in

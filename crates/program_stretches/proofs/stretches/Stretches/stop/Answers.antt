@@ -2,7 +2,7 @@ use Rattle.std.proofs.Common.{◌≡◌, ◌∙◌, None, length, ap, sym, subst
 use Rattle.std.proofs.lemmas.List.{length-map}
 use Rattle.phase_records.specs.Status.{Limit}
 use Rattle.stretch_parts.specs.Parts.{reading_of}
-use Rattle.program_stretches.specs.StretchesValue.{status_in, IsCourse}
+use Rattle.program_stretches.specs.StretchesValue.{status_in, IsRunSoFar}
 use Rattle.program_stretches.specs.Closing.{HasLeftTo}
 use Rattle.program_stretches.proofs.Closed.{has_stopped, still_live, left_when, nothing_if}
 use Rattle.program_stretches.proofs.stretches.Stretches.stop.Goals as goal
@@ -11,7 +11,7 @@ pub returns-clause-left : goal.returns-clause-left
 returns-clause-left g c =
     let m = reading_of g.P.Program.frame g.P.Program.may g.P.Program.meant g.P.Task.OnPath.path_of in
     let v = c.args.self in
-    let h = subst (IsCourse m) c.self.view_is c.self.invariant.course in
+    let h = subst (IsRunSoFar m) c.self.view_is c.self.invariant.run in
     let run : status_in v ≡ None = nothing_if (status_in v) (sym c.has_ended.ensures ∙ c.if-has_ended.false) in
     left_when c.leave.result _ _ _ c.leave.ensures.left c.leave.ensures.some
     (λ l f there. (
@@ -26,7 +26,7 @@ pub returns-clause-count : goal.returns-clause-count
 returns-clause-count g c =
     let m = reading_of g.P.Program.frame g.P.Program.may g.P.Program.meant g.P.Task.OnPath.path_of in
     let v = c.args.self in
-    let h = subst (IsCourse m) c.self.view_is c.self.invariant.course in
+    let h = subst (IsRunSoFar m) c.self.view_is c.self.invariant.run in
     let run : status_in v ≡ None = nothing_if (status_in v) (sym c.has_ended.ensures ∙ c.if-has_ended.false) in
     left_when c.leave.result _ _ _ c.leave.ensures.left c.leave.ensures.some
     (λ l f there.

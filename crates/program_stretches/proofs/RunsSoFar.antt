@@ -8,15 +8,15 @@ use Rattle.programs.specs.Superstep.{State}
 use Rattle.programs.proofs.Histories.{so_far_more}
 use Rattle.stretch_parts.specs.PartValue.{PartValue}
 use Rattle.stretch_parts.specs.Parts.{Reading, IsPartOf, IsOwn, AreOwn, AreFresh}
-use Rattle.program_stretches.specs.Opening.{OpeningValue, live_of, states_by, Opens, AllOpen}
+use Rattle.program_stretches.specs.SuperstepStart.{SuperstepStartValue, live_of, states_by, Opens, AllOpen}
 use Rattle.program_stretches.specs.Reached.{with_earlier}
 use Rattle.program_stretches.specs.Did.{IsStep}
-use Rattle.program_stretches.specs.StretchesValue.{StretchesValue, StretchValue, state_with, status_for, status_in, with_slot, IsAfter, IsOpen, IsStretch, IsCourse}
+use Rattle.program_stretches.specs.StretchesValue.{StretchesValue, StretchValue, state_with, status_for, status_in, with_slot, IsAfter, IsOpen, IsStretch, IsRunSoFar}
 use Rattle.program_stretches.proofs.Owning.{fresh_own, own_set, some_there}
 use Rattle.program_stretches.proofs.Taken.{reached_next}
 
--- the openings are those of any run with the same states
-pub same_states : {Q S T : Type 0} (meant : S → T) (log : List (OpeningValue Q S)) (states next : ℕ → State T) → ((n : ℕ) → n < length log → next n ≡ states n) → AllOpen meant log states → AllOpen meant log next
+-- the starts are those of any run with the same states
+pub same_states : {Q S T : Type 0} (meant : S → T) (log : List (SuperstepStartValue Q S)) (states next : ℕ → State T) → ((n : ℕ) → n < length log → next n ≡ states n) → AllOpen meant log states → AllOpen meant log next
 same_states meant [] states next same h = tt
 same_states meant (o ∷ older) states next same h = (
   subst (Opens meant o (length older)) (sym (same (length older) (omega arith))) h.0,
@@ -25,10 +25,10 @@ same_states meant (o ∷ older) states next same h = (
 
 module _ {Q S T : Type 0} (m : Q → Reading S T) where
   -- before the first superstep
-  pub course_begun : (v : StretchesValue Q S) (o : OpeningValue Q S) → v.log ≡ o ∷ [] → v.program ≡ o.program → v.most ≡ o.most → v.limit ≡ o.limit → v.arrays ≡ o.arrays → v.parts ≡ o.parts → AreFresh 0 o.parts
+  pub run_begun : (v : StretchesValue Q S) (o : SuperstepStartValue Q S) → v.log ≡ o ∷ [] → v.program ≡ o.program → v.most ≡ o.most → v.limit ≡ o.limit → v.arrays ≡ o.arrays → v.parts ≡ o.parts → AreFresh 0 o.parts
       → map (m v.program).path (live_of o) ≡ children [] 0 (length (live_of o)) → v.count ≡ length (live_of o) → length (live_of o) ≤ v.most
-      → v.step ≡ 0 → v.prints ≡ [] → v.records ≡ [] → v.fault ≡ None → v.given ≡ 0 → IsCourse m v
-  course_begun v o log program most limit arrays parts fresh paths count few es ep er ef eg =
+      → v.step ≡ 0 → v.prints ≡ [] → v.records ≡ [] → v.fault ≡ None → v.given ≡ 0 → IsRunSoFar m v
+  run_begun v o log program most limit arrays parts fresh paths count few es ep er ef eg =
       let q = v.program in
       let live = map (m q).meant (live_of o) in
       let l = length-map (live_of o) (m q).meant in
@@ -43,13 +43,13 @@ module _ {Q S T : Type 0} (m : Q → Reading S T) where
             count = λ none. sym es;
             state = λ i. with_earlier (so_far (says_by (m q).frame v.most []) o.arrays live v.limit (eg i)) (record { step = es i; arrays = arrays i; live = live; prints = ep i; records = er i; fault = ef i });
           };
-          all_open = subst (λ (os : List (OpeningValue Q S)). AllOpen (m q).meant os (states_by (m q) v.most [] o v.limit)) (sym log) (record { step = refl; arrays = refl; live = refl }, tt);
+          all_open = subst (λ (os : List (SuperstepStartValue Q S)). AllOpen (m q).meant os (states_by (m q) v.most [] o v.limit)) (sym log) (record { step = refl; arrays = refl; live = refl }, tt);
           as_long = omega arith;
           count = count ∙ sym l;
           few = omega (arith, l, few);
         };
         opened = inr (record {
-          opening = o;
+          start = o;
           older = [];
           is = log;
           count = ap length log ∙ ap (λ (n : ℕ). n + 1) (sym es);
@@ -103,22 +103,22 @@ module _ {Q S T : Type 0} (m : Q → Reading S T) where
       })
 
   -- the next superstep is opened
-  pub course_opened : (v w : StretchesValue Q S) (o : OpeningValue Q S) → (h : IsAfter m v (map (m v.program).meant (live_of o))) → v.fault ≡ None → length v.log ≡ v.step → AreFresh 0 o.parts → o.program ≡ v.program → o.arrays ≡ v.arrays
-      → w ≡ record v { log = o ∷ v.log; parts = o.parts } → IsCourse m w
-  course_opened v w o h calm count fresh program arrays is =
+  pub run_opened : (v w : StretchesValue Q S) (o : SuperstepStartValue Q S) → (h : IsAfter m v (map (m v.program).meant (live_of o))) → v.fault ≡ None → length v.log ≡ v.step → AreFresh 0 o.parts → o.program ≡ v.program → o.arrays ≡ v.arrays
+      → w ≡ record v { log = o ∷ v.log; parts = o.parts } → IsRunSoFar m w
+  run_opened v w o h calm count fresh program arrays is =
       let q = v.program in
       let r = h.reached in
       let k = r.count calm in
       let states = states_by (m q) v.most r.history h.begun.first v.limit in
       let now : states (length v.log) ≡ with_earlier (states v.given) (state_with v (map (m q).meant (live_of o))) = ap states (count ∙ sym k) ∙ sym r.state in
       let opened : StretchesValue Q S = record v { log = o ∷ v.log; parts = o.parts } in
-      subst (IsCourse m) (sym is) (record {
+      subst (IsRunSoFar m) (sym is) (record {
         live = map (m q).meant (live_of o);
         after = record {
           begun = record {
             first = h.begun.first;
             since = o ∷ h.begun.since;
-            is = ap (λ (l : List (OpeningValue Q S)). o ∷ l) h.begun.is;
+            is = ap (λ (l : List (SuperstepStartValue Q S)). o ∷ l) h.begun.is;
             program = h.begun.program;
             most = h.begun.most;
             limit = h.begun.limit;
@@ -131,7 +131,7 @@ module _ {Q S T : Type 0} (m : Q → Reading S T) where
           few = h.few;
         };
         opened = inr (record {
-          opening = o;
+          start = o;
           older = v.log;
           is = refl;
           count = ap suc count ∙ (let e : suc v.step ≡ v.step + 1 = omega arith in e);
@@ -143,8 +143,8 @@ module _ {Q S T : Type 0} (m : Q → Reading S T) where
       })
 
   -- what was printed and recorded is given away
-  pub course_given : (v w : StretchesValue Q S) → IsCourse m v → v.fault ≡ None → w ≡ record v { prints = []; records = []; given = v.step } → IsCourse m w
-  course_given v w h none is =
+  pub run_given : (v w : StretchesValue Q S) → IsRunSoFar m v → v.fault ≡ None → w ≡ record v { prints = []; records = []; given = v.step } → IsRunSoFar m w
+  run_given v w h none is =
       let q = v.program in
       let r = h.after.reached in
       let b = h.after.begun in
@@ -154,7 +154,7 @@ module _ {Q S T : Type 0} (m : Q → Reading S T) where
       let k : length r.history ≡ v.step = r.count none in
       let e = r.state in
       let bare : State T = record { step = v.step; arrays = v.arrays; live = h.live; prints = []; records = []; fault = v.fault } in
-      subst (IsCourse m) (sym is) (record {
+      subst (IsRunSoFar m) (sym is) (record {
         live = h.live;
         after = record {
           begun = record { first = b.first; since = b.since; is = b.is; program = b.program; most = b.most; limit = b.limit; paths = b.paths };
@@ -173,34 +173,34 @@ module _ {Q S T : Type 0} (m : Q → Reading S T) where
           few = h.after.few;
         };
         opened = ⊎_elim inl
-            (λ o. inr (record { opening = o.opening; older = o.older; is = o.is; count = o.count; program = o.program; arrays = o.arrays; lives = o.lives; own = o.own }))
+            (λ o. inr (record { start = o.start; older = o.older; is = o.is; count = o.count; program = o.program; arrays = o.arrays; lives = o.lives; own = o.own }))
             h.opened;
       })
 
   -- two logs of one name, as long as each other, are the same
-  pub same_log : (earlier log since : List (OpeningValue Q S)) → log ≡ since ++ earlier → length earlier ≡ length log → log ≡ earlier
+  pub same_log : (earlier log since : List (SuperstepStartValue Q S)) → log ≡ since ++ earlier → length earlier ≡ length log → log ≡ earlier
   same_log earlier log [] e l = e
   same_log earlier log (x ∷ since) e l = let n = ap length e in let k = length-append since earlier in absurd (omega (arith, n, k, l))
 
   -- the last of a log
-  pub last_same : (since more : List (OpeningValue Q S)) (a b : OpeningValue Q S) → since ++ a ∷ [] ≡ more ++ b ∷ [] → a ≡ b
+  pub last_same : (since more : List (SuperstepStartValue Q S)) (a b : SuperstepStartValue Q S) → since ++ a ∷ [] ≡ more ++ b ∷ [] → a ≡ b
   last_same since more a b e = sym (last_of a since a) ∙ ap (last a) e ∙ last_of a more b
     where
-      last : OpeningValue Q S → List (OpeningValue Q S) → OpeningValue Q S
+      last : SuperstepStartValue Q S → List (SuperstepStartValue Q S) → SuperstepStartValue Q S
       last d [] = d
       last d (x ∷ xs) = last x xs
 
-      last_of : (d : OpeningValue Q S) → (xs : List (OpeningValue Q S)) (y : OpeningValue Q S) → last d (xs ++ y ∷ []) ≡ y
+      last_of : (d : SuperstepStartValue Q S) → (xs : List (SuperstepStartValue Q S)) (y : SuperstepStartValue Q S) → last d (xs ++ y ∷ []) ≡ y
       last_of d [] y = refl
       last_of d (x ∷ xs) y = last_of x xs y
 
   -- where there is a stretch, or was one, the superstep is opened
-  pub is_open : (v : StretchesValue Q S) (h : IsCourse m v) (k : ℕ) (s : Option (PartValue S)) → slice_get v.parts k ≡ Some s → IsOpen m v h.live
+  pub is_open : (v : StretchesValue Q S) (h : IsRunSoFar m v) (k : ℕ) (s : Option (PartValue S)) → slice_get v.parts k ≡ Some s → IsOpen m v h.live
   is_open v h k s e = ⊎_elim (λ n. absurd (some_there v.parts k s e n)) (λ o. o) h.opened
 
   -- one stretch is changed
-  pub course_slot : (v : StretchesValue Q S) (k : ℕ) (s : Option (PartValue S)) (h : IsCourse m v) (o : IsOpen m v h.live) → IsOwn (m v.program) v.arrays (live_of o.opening) v.step s → IsCourse m (with_slot v k s)
-  course_slot v k s h o own = record {
+  pub run_slot : (v : StretchesValue Q S) (k : ℕ) (s : Option (PartValue S)) (h : IsRunSoFar m v) (o : IsOpen m v h.live) → IsOwn (m v.program) v.arrays (live_of o.start) v.step s → IsRunSoFar m (with_slot v k s)
+  run_slot v k s h o own = record {
     live = h.live;
     after = record {
       begun = record { first = h.after.begun.first; since = h.after.begun.since; is = h.after.begun.is; program = h.after.begun.program; most = h.after.begun.most; limit = h.after.begun.limit; paths = h.after.begun.paths };
@@ -211,35 +211,35 @@ module _ {Q S T : Type 0} (m : Q → Reading S T) where
       few = h.after.few;
     };
     opened = inr (record {
-      opening = o.opening;
+      start = o.start;
       older = o.older;
       is = o.is;
       count = o.count;
       program = o.program;
       arrays = o.arrays;
       lives = o.lives;
-      own = own_set (m v.program) v.arrays (live_of o.opening) v.step v.parts k s o.own own;
+      own = own_set (m v.program) v.arrays (live_of o.start) v.step v.parts k s o.own own;
     });
   }
 
-  head_same : (a b : OpeningValue Q S) (xs ys : List (OpeningValue Q S)) → a ∷ xs ≡ b ∷ ys → a ≡ b
+  head_same : (a b : SuperstepStartValue Q S) (xs ys : List (SuperstepStartValue Q S)) → a ∷ xs ≡ b ∷ ys → a ≡ b
   head_same a b xs ys e = ap (first a) e
     where
-      first : OpeningValue Q S → List (OpeningValue Q S) → OpeningValue Q S
+      first : SuperstepStartValue Q S → List (SuperstepStartValue Q S) → SuperstepStartValue Q S
       first d [] = d
       first d (x ∷ xs) = x
 
   -- a stretch that comes back is of the live tasks
-  pub own_back : (ready : Q → Type 0) (v : StretchesValue Q S) (h : IsCourse m v) (o : IsOpen m v h.live) (s : StretchValue Q S) (k : IsStretch m ready s) (since : List (OpeningValue Q S))
-      → v.log ≡ since ++ s.log → s.step ≡ v.step → IsPartOf (m v.program) v.arrays (live_of o.opening) v.step s.part
+  pub own_back : (ready : Q → Type 0) (v : StretchesValue Q S) (h : IsRunSoFar m v) (o : IsOpen m v h.live) (s : StretchValue Q S) (k : IsStretch m ready s) (since : List (SuperstepStartValue Q S))
+      → v.log ≡ since ++ s.log → s.step ≡ v.step → IsPartOf (m v.program) v.arrays (live_of o.start) v.step s.part
   own_back ready v h o s k since e step =
       let a = k.count in
       let b = o.count in
       let logs = same_log s.log v.log since e (omega (arith, a, b, step)) in
-      let opening = head_same k.opening o.opening k.older o.older (sym k.is ∙ sym logs ∙ o.is) in
-      let program = k.program ∙ ap (λ (x : OpeningValue Q S). x.program) opening ∙ sym o.program in
-      let arrays = k.arrays ∙ ap (λ (x : OpeningValue Q S). x.arrays) opening ∙ sym o.arrays in
-      subst (λ (q : Q). IsPartOf (m q) v.arrays (live_of o.opening) v.step s.part) program
-      (subst (λ xs. IsPartOf (m s.program) xs (live_of o.opening) v.step s.part) arrays
-      (subst (λ (x : OpeningValue Q S). IsPartOf (m s.program) s.arrays (live_of x) v.step s.part) opening
-      (subst (λ (n : ℕ). IsPartOf (m s.program) s.arrays (live_of k.opening) n s.part) step k.part)))
+      let start = head_same k.start o.start k.older o.older (sym k.is ∙ sym logs ∙ o.is) in
+      let program = k.program ∙ ap (λ (x : SuperstepStartValue Q S). x.program) start ∙ sym o.program in
+      let arrays = k.arrays ∙ ap (λ (x : SuperstepStartValue Q S). x.arrays) start ∙ sym o.arrays in
+      subst (λ (q : Q). IsPartOf (m q) v.arrays (live_of o.start) v.step s.part) program
+      (subst (λ xs. IsPartOf (m s.program) xs (live_of o.start) v.step s.part) arrays
+      (subst (λ (x : SuperstepStartValue Q S). IsPartOf (m s.program) s.arrays (live_of x) v.step s.part) start
+      (subst (λ (n : ℕ). IsPartOf (m s.program) s.arrays (live_of k.start) n s.part) step k.part)))

@@ -4,14 +4,14 @@ use Rattle.programs.specs.InPlace.{left_in, spawned_in, told_in}
 use Rattle.programs.proofs.InPlace.{few_left}
 use Rattle.program_stretches.specs.declared.fault.Outcome.TheVariants.{TooMany}
 use Rattle.stretch_parts.specs.Parts.{reading_of, covers, tasks_in, deeds_in, prints_in}
-use Rattle.program_stretches.specs.Opening.{live_of}
+use Rattle.program_stretches.specs.SuperstepStart.{live_of}
 use Rattle.program_stretches.specs.StretchesValue.{StretchesValue}
 use Rattle.program_stretches.specs.Closing.{EndsBy}
 use Rattle.program_stretches.proofs.Closed.{fit, ends_many, closed_end, have_same, tasks_on, deeds_on, prints_on, covers_on}
 use Rattle.program_stretches.proofs.Reopening.{if_ok, none_moved, reopened_from}
-use Rattle.program_stretches.proofs.stretches.Stretches.go_on.Goals.{else-left-eq0-via-then-left-eq0+else-spawned-eq0, else-left-eq0-via-else-left-eq0}
+use Rattle.program_stretches.proofs.stretches.Stretches.take_superstep.Goals.{else-left-eq0-via-then-left-eq0+else-spawned-eq0, else-left-eq0-via-else-left-eq0}
 use Rattle.program_stretches.proofs.EachDone.{each_also, can_also}
-use Rattle.program_stretches.proofs.stretches.Stretches.go_on.Goals as goal
+use Rattle.program_stretches.proofs.stretches.Stretches.take_superstep.Goals as goal
 
 counted_there : (o : Option ℕ) (A : Type 0) (F : ℕ → Type 0) → MatchOption o A F → {x : ℕ} → o ≡ Some x → F x
 counted_there None A F h e = cc
@@ -34,7 +34,7 @@ count_left-left-requires g c =
     let a = c.args.self.now in
     let law = g.met.P.Program.keeps_paths a.program in
     let h = c.requires.run in
-    let f = fit m a law c.requires.running h.opening h.begun _ _ _ _ h.did in
+    let f = fit m a law c.requires.running h.start h.begun _ _ _ _ h.did in
     let ds = deeds_in c.args.parts.items in
     let left = few_left ds in
     let all = f.all in
@@ -52,7 +52,7 @@ overflow_sub-stay g c =
     let a = c.args.self.now in
     let law = g.met.P.Program.keeps_paths a.program in
     let h = c.requires.run in
-    let f = fit m a law c.requires.running h.opening h.begun _ _ _ _ h.did in
+    let f = fit m a law c.requires.running h.start h.begun _ _ _ _ h.did in
     let ds = deeds_in c.args.parts.items in
     let left = few_left ds in
     let all = f.all in
@@ -71,7 +71,7 @@ end-requires-clause-ends g c =
     let a = c.args.self.now in
     let law = g.met.P.Program.keeps_paths a.program in
     let h = c.requires.run in
-    let f = fit m a law c.requires.running h.opening h.begun _ _ _ _ h.did in
+    let f = fit m a law c.requires.running h.start h.begun _ _ _ _ h.did in
     let ds = deeds_in c.args.parts.items in
     let left = few_left ds in
     let all = f.all in
@@ -84,8 +84,8 @@ end-requires-clause-ends g c =
     let n = c.count_left-left.ensures in
     let over = not_counted c.count_spawned.result _ _ c.count_spawned.ensures c.in_default.is in
     let s = ap spawned_in (ap deeds_in c.deref-2.ensures.value) in
-    let step = ends_many m a law c.requires.running h.opening h.begun _ _ _ _ h.did (omega (arith, e, n, over, s, left, all, count, few, most)) in
-    subst (EndsBy m a) (sym c.too_many.ensures) (record { live = map (m a.program).meant (live_of h.opening); begun = h.begun; count = h.count; step = step.step })
+    let step = ends_many m a law c.requires.running h.start h.begun _ _ _ _ h.did (omega (arith, e, n, over, s, left, all, count, few, most)) in
+    subst (EndsBy m a) (sym c.too_many.ensures) (record { live = map (m a.program).meant (live_of h.start); begun = h.begun; count = h.count; step = step.step })
 
 pub returns-in_default-clause-closed : goal.returns-in_default-clause-closed
 returns-in_default-clause-closed g c =
@@ -93,7 +93,7 @@ returns-in_default-clause-closed g c =
     let a = c.args.self.now in
     let law = g.met.P.Program.keeps_paths a.program in
     let h = c.requires.run in
-    let f = fit m a law c.requires.running h.opening h.begun _ _ _ _ h.did in
+    let f = fit m a law c.requires.running h.start h.begun _ _ _ _ h.did in
     let ds = deeds_in c.args.parts.items in
     let left = few_left ds in
     let all = f.all in
@@ -106,8 +106,8 @@ returns-in_default-clause-closed g c =
     let n = c.count_left-left.ensures in
     let over = not_counted c.count_spawned.result _ _ c.count_spawned.ensures c.in_default.is in
     let s = ap spawned_in (ap deeds_in c.deref-2.ensures.value) in
-    let step = ends_many m a law c.requires.running h.opening h.begun _ _ _ _ h.did (omega (arith, e, n, over, s, left, all, count, few, most)) in
-    closed_end m a law c.requires.running h.opening h.older h.is _ c.end.new.self (c.end.ensures ∙ (λ i. record a { fault = Some (c.too_many.ensures i) }))
+    let step = ends_many m a law c.requires.running h.start h.begun _ _ _ _ h.did (omega (arith, e, n, over, s, left, all, count, few, most)) in
+    closed_end m a law c.requires.running h.start h.older h.is _ c.end.new.self (c.end.ensures ∙ (λ i. record a { fault = Some (c.too_many.ensures i) }))
     TooMany step (λ x live k. (_, k))
 
 pub overflow_cast-told-2 : goal.overflow_cast-told-2
@@ -116,7 +116,7 @@ overflow_cast-told-2 g c =
     let a = c.args.self.now in
     let law = g.met.P.Program.keeps_paths a.program in
     let h = c.requires.run in
-    let f = fit m a law c.requires.running h.opening h.begun _ _ _ _ h.did in
+    let f = fit m a law c.requires.running h.start h.begun _ _ _ _ h.did in
     let ds = deeds_in c.args.parts.items in
     let left = few_left ds in
     let all = f.all in
@@ -147,7 +147,7 @@ stay-requires-clause-few g c =
     let a = c.args.self.now in
     let law = g.met.P.Program.keeps_paths a.program in
     let h = c.requires.run in
-    let f = fit m a law c.requires.running h.opening h.begun _ _ _ _ h.did in
+    let f = fit m a law c.requires.running h.start h.begun _ _ _ _ h.did in
     let ds = deeds_in c.args.parts.items in
     let left = few_left ds in
     let all = f.all in
@@ -176,7 +176,7 @@ stay-requires-clause-told g c =
     let a = c.args.self.now in
     let law = g.met.P.Program.keeps_paths a.program in
     let h = c.requires.run in
-    let f = fit m a law c.requires.running h.opening h.begun _ _ _ _ h.did in
+    let f = fit m a law c.requires.running h.start h.begun _ _ _ _ h.did in
     let ds = deeds_in c.args.parts.items in
     let left = few_left ds in
     let all = f.all in
@@ -220,7 +220,7 @@ move_on-requires-clause-few g c =
     let a = c.args.self.now in
     let law = g.met.P.Program.keeps_paths a.program in
     let h = c.requires.run in
-    let f = fit m a law c.requires.running h.opening h.begun _ _ _ _ h.did in
+    let f = fit m a law c.requires.running h.start h.begun _ _ _ _ h.did in
     let ds = deeds_in c.args.parts.items in
     let left = few_left ds in
     let all = f.all in
@@ -249,7 +249,7 @@ move_on-requires-clause-told g c =
     let a = c.args.self.now in
     let law = g.met.P.Program.keeps_paths a.program in
     let h = c.requires.run in
-    let f = fit m a law c.requires.running h.opening h.begun _ _ _ _ h.did in
+    let f = fit m a law c.requires.running h.start h.begun _ _ _ _ h.did in
     let ds = deeds_in c.args.parts.items in
     let left = few_left ds in
     let all = f.all in

@@ -7,7 +7,7 @@ use Rattle.stretch_parts.specs.PartValue.{PartValue}
 use Rattle.stretch_parts.specs.Parts.{Reading, tasks_in}
 
 -- the program, how many tasks may live and supersteps be taken, the arrays, and the stretches of the live tasks
-pub record OpeningValue (Q S : Type 0) : Type 0 where
+pub record SuperstepStartValue (Q S : Type 0) : Type 0 where
   pub program : Q
   pub most : ℕ
   pub limit : ℕ
@@ -15,21 +15,21 @@ pub record OpeningValue (Q S : Type 0) : Type 0 where
   pub parts : List (Option (PartValue S))
 
 -- the tasks that live
-abbrev pub live_of : {Q S : Type 0} → OpeningValue Q S → List S
+abbrev pub live_of : {Q S : Type 0} → SuperstepStartValue Q S → List S
 live_of o = tasks_in o.parts
 
 module _ {Q S T : Type 0} where
-  -- a run that began with this opening and has this history, superstep by superstep
-  abbrev pub states_by : Reading S T → ℕ → List (List (Entry T)) → OpeningValue Q S → ℕ → ℕ → State T
+  -- a run that began with this start and has this history, superstep by superstep
+  abbrev pub states_by : Reading S T → ℕ → List (List (Entry T)) → SuperstepStartValue Q S → ℕ → ℕ → State T
   states_by r most history first limit = so_far (says_by r.frame most history) first.arrays (map r.meant (live_of first)) limit
 
-  -- the superstep of this number began with this state, and this is its opening
-  pub record Opens (meant : S → T) (o : OpeningValue Q S) (n : ℕ) (st : State T) : Type 0 where
+  -- the superstep of this number began with this state, and this is its start
+  pub record Opens (meant : S → T) (o : SuperstepStartValue Q S) (n : ℕ) (st : State T) : Type 0 where
     pub step : st.step ≡ n
     pub arrays : st.arrays ≡ o.arrays
     pub live : st.live ≡ map meant (live_of o)
 
-  -- the openings of a log, the last first, are those of the supersteps of a run with these states
-  abbrev pub AllOpen : (S → T) → List (OpeningValue Q S) → (ℕ → State T) → Type 0
+  -- the starts of a log, the last first, are those of the supersteps of a run with these states
+  abbrev pub AllOpen : (S → T) → List (SuperstepStartValue Q S) → (ℕ → State T) → Type 0
   AllOpen meant [] states = Unit {0}
   AllOpen meant (o ∷ older) states = Opens meant o (length older) (states (length older)) × AllOpen meant older states
