@@ -41,6 +41,29 @@ fn lengths_at<P: Program>(
     Ok(lengths)
 }
 
+// Takes the members in this place, if they are there.
+fn take_from<J: Running>(places: &mut [Option<Tokens<J>>], number: usize) -> Option<Tokens<J>> {
+    match places.get_mut(number) {
+        Some(place) => mem::replace(place, None),
+        None => None,
+    }
+}
+
+// Takes the members in these places.
+fn gather<J: Running>(
+    alloc: Global,
+    places: &mut [Option<Tokens<J>>],
+    numbers: &[usize],
+) -> Result<Vec<Tokens<J>>, AllocError> {
+    let mut tokens = Vec::with_capacity(alloc, numbers.len())?;
+    for number in numbers {
+        if let Some(one) = take_from(places, *number) {
+            tokens.push(one)?;
+        }
+    }
+    Ok(tokens)
+}
+
 impl<J: Running> Members<J> {
     /// Keeps the members of each stretch.
     pub(crate) fn new(alloc: Global, places: Vec<Option<Tokens<J>>>) -> Result<Self, AllocError> {
@@ -77,10 +100,7 @@ impl<J: Running> Members<J> {
 
     /// Takes the members of the stretch of this number, if they are there.
     pub(crate) fn take(&mut self, number: usize) -> Option<Tokens<J>> {
-        match self.places.get_mut(number) {
-            Some(place) => mem::replace(place, None),
-            None => None,
-        }
+        take_from(&mut self.places, number)
     }
 
     /// Puts members into the place of their stretch. Returns false, and drops them, if there is no stretch of this number.
@@ -137,17 +157,6 @@ impl<J: Running> Members<J> {
         true
     }
 
-    // Takes the members that have to be cut anew.
-    fn gather(&mut self, alloc: Global) -> Result<Vec<Tokens<J>>, AllocError> {
-        let mut tokens = Vec::with_capacity(alloc, self.moving.len())?;
-        for at in 0..self.moving.len() {
-            if let Some(one) = self.take(self.moving[at]) {
-                tokens.push(one)?;
-            }
-        }
-        Ok(tokens)
-    }
-
     // Makes room for the members of so many stretches, all of which are to be cut anew.
     fn renumber(&mut self, count: usize) -> Result<(), AllocError> {
         self.places.clear();
@@ -168,7 +177,7 @@ impl<J: Running> Members<J> {
         if !self.are_back() {
             return Ok(None);
         }
-        let tokens = self.gather(alloc)?;
+        let tokens = gather(alloc, &mut self.places, &self.moving)?;
         if stretches.len() != self.len() {
             self.renumber(stretches.len())?;
         }
