@@ -202,7 +202,7 @@ pub(crate) fn run_status<T: Wait, P: Progress>(
 
 // Runs a job on `workers` workers at a tree of this shape, with this gate before and after each segment. Returns what the job
 // leaves within `limit` supersteps.
-fn share<T: Threads + Wait + Sync, G: Gate + Sync>(
+fn run_on_workers<T: Threads + Wait + Sync, G: Gate + Sync>(
     rt: &T,
     alloc: Global,
     job: &Job,
@@ -220,7 +220,7 @@ fn share<T: Threads + Wait + Sync, G: Gate + Sync>(
 }
 
 // Runs a job within this limit on one thread, and reports progress if it is asked for.
-fn leave_alone<P: Progress>(
+fn run_on_one_thread<P: Progress>(
     alloc: Global,
     job: &Job,
     limit: u32,
@@ -254,12 +254,12 @@ pub(crate) fn leave<T: Threads + Wait + Sync, P: Progress + Sync>(
     ensures started { IfErr result (IsOfWorkers workers) }
 {
     if workers == 1 {
-        return leave_alone(alloc, job, limit, progress).map_err(|_| Refused::Memory);
+        return run_on_one_thread(alloc, job, limit, progress).map_err(|_| Refused::Memory);
     }
     let Some(progress) = progress else {
-        return share(rt, alloc, job, shape, workers, limit, &OpenGate);
+        return run_on_workers(rt, alloc, job, shape, workers, limit, &OpenGate);
     };
-    let left = share(rt, alloc, job, shape, workers, limit, progress);
+    let left = run_on_workers(rt, alloc, job, shape, workers, limit, progress);
     progress.end(rt);
     left
 }

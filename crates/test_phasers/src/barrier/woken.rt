@@ -24,7 +24,7 @@ const WRONG: Turn = Err(GateFault::Memory);
 
 // How the last thread ends the wait of the others.
 #[derive(Clone, Copy)]
-enum Ending {
+enum Interruption {
     // It comes too.
     Comes,
     // It comes as caller 0, and as another one if the answer is that caller 0 waits.
@@ -50,7 +50,7 @@ struct Marks<'a> {
 
 // How many threads wait, how their wait ends, and what the last thread gets. Of threads that only come, each may be the last,
 // however long one gives the others, so there it is `None`. Then what the others get, or all of them, in any order.
-type Scene<'a> = (u32, Ending, Option<Turn>, &'a [Turn]);
+type Scene<'a> = (u32, Interruption, Option<Turn>, &'a [Turn]);
 
 // Comes as a caller, and as the caller 9 if that one waits.
 fn comes<R: Wait, F: Fn(u64) -> bool>(rt: &R, gate: &CyclicGate<F>, caller: u32) -> Turn
@@ -71,7 +71,7 @@ fn waits<R: Wait, F: Fn(u64) -> bool>(
     rt: &R,
     gate: &CyclicGate<F>,
     marks: &Marks<'_>,
-    ending: Ending,
+    interruption: Interruption,
     caller: u32,
 ) -> Turn
     requires { AnswersAction (F.pre gate.now.action.closure) (F.post gate.now.action.closure) gate.now.action.plan }
@@ -80,7 +80,7 @@ fn waits<R: Wait, F: Fn(u64) -> bool>(
     let mut turn = comes(rt, gate, caller);
     for _ in 0..1000000u32 {
         let is_early = turn == BROKEN && marks.over.load(Ordering::SeqCst) == 0;
-        if !is_early || !matches!(ending, Ending::BreaksOff) {
+        if !is_early || !matches!(interruption, Interruption::BreaksOff) {
             break;
         }
         thread::yield_now();
@@ -114,14 +114,14 @@ fn counted(callers: &[u32], waiting: u32) -> usize {
 fn ends_once<R: Wait, F: Fn(u64) -> bool>(
     rt: &R,
     gate: &CyclicGate<F>,
-    ending: Ending,
+    interruption: Interruption,
     waiting: u32,
 ) -> usize {
-    match ending {
-        Ending::Comes | Ending::ComesAgain => 0,
-        Ending::Resets => counted(&gate.reset(rt), waiting),
-        Ending::BreaksOff => counted(&gate.break_off(rt), waiting),
-        Ending::TakesAway(caller) => match gate.abandon(rt, caller) {
+    match interruption {
+        Interruption::Comes | Interruption::ComesAgain => 0,
+        Interruption::Resets => counted(&gate.reset(rt), waiting),
+        Interruption::BreaksOff => counted(&gate.break_off(rt), waiting),
+        Interruption::TakesAway(caller) => match gate.abandon(rt, caller) {
             Ok(others) if others.contains(&caller) => usize::MAX,
             Ok(others) => counted(&others, waiting).saturating_add(1),
             Err(_) => 0,
@@ -135,16 +135,16 @@ fn ends_the_wait<R: Wait, F: Fn(u64) -> bool>(
     rt: &R,
     gate: &CyclicGate<F>,
     marks: &Marks<'_>,
-    ending: Ending,
+    interruption: Interruption,
     waiting: u32,
 ) -> Turn {
     let mut ended = 0;
     for _ in 0..1000000u32 {
-        ended = ends_once(rt, gate, ending, waiting);
+        ended = ends_once(rt, gate, interruption, waiting);
         if ended > 0 {
             break;
         }
-        if matches!(ending, Ending::BreaksOff) {
+        if matches!(interruption, Interruption::BreaksOff) {
             gate.reset(rt);
         }
         thread::yield_now();
@@ -180,9 +180,9 @@ fn goes<R: Wait, F: Fn(u64) -> bool>(
     gives_time(&marks.coming, scene.0, 1000000);
     gives_time(&marks.gone, scene.0, 20000);
     match scene.1 {
-        Ending::Comes => comes(rt, gate, caller),
-        Ending::ComesAgain => comes(rt, gate, 0),
-        ending => ends_the_wait(rt, gate, marks, ending, scene.0),
+        Interruption::Comes => comes(rt, gate, caller),
+        Interruption::ComesAgain => comes(rt, gate, 0),
+        interruption => ends_the_wait(rt, gate, marks, interruption, scene.0),
     }
 }
 
@@ -237,11 +237,15 @@ fn are_answered(turns: &[Turn], scene: &Scene<'_>) -> bool {
 }
 
 // Returns true if a broken gate answers a late caller so, and keeps nobody whom a reset would wake.
-fn is_mended<R: Wait, F: Fn(u64) -> bool>(rt: &R, gate: &CyclicGate<F>, ending: Ending) -> bool
+fn is_mended<R: Wait, F: Fn(u64) -> bool>(
+    rt: &R,
+    gate: &CyclicGate<F>,
+    interruption: Interruption,
+) -> bool
     requires { AnswersAction (F.pre gate.now.action.closure) (F.post gate.now.action.closure) gate.now.action.plan }
 {
-    match ending {
-        Ending::BreaksOff | Ending::TakesAway(_) => {
+    match interruption {
+        Interruption::BreaksOff | Interruption::TakesAway(_) => {
             gate.await_turn(rt, 2) == BROKEN && gate.reset(rt).is_empty()
         }
         _ => true,
@@ -286,7 +290,7 @@ fn plays<R: Threads + Wait + Abort + Sync>(rt: &R, alloc: Global, row: &Row<'_>)
     let gate = CyclicGate::new(alloc, parties, action).expect(rt, "a gate");
     let mut trips = 0u32;
     for scene in scenes {
-        if matches!(scene.1, Ending::Comes | Ending::ComesAgain) {
+        if matches!(scene.1, Interruption::Comes | Interruption::ComesAgain) {
             trips = trips.wrapping_add(1);
         }
         let marks = Marks {
@@ -308,38 +312,48 @@ const FAILED: Turn = Err(GateFault::ActionFailed);
 const THREE: [Turn; 3] = [BROKEN, BROKEN, BROKEN];
 
 // One thread or three wait, and another ends their wait.
-const ONE_IS_RESET: [Scene<'static>; 1] = [(1, Ending::Resets, Some(ENDED), &[BROKEN])];
+const ONE_IS_RESET: [Scene<'static>; 1] = [(1, Interruption::Resets, Some(ENDED), &[BROKEN])];
 
-const ONE_IS_BROKEN: [Scene<'static>; 1] = [(1, Ending::BreaksOff, Some(ENDED), &[BROKEN])];
+const ONE_IS_BROKEN: [Scene<'static>; 1] = [(1, Interruption::BreaksOff, Some(ENDED), &[BROKEN])];
 
-const ONE_IS_TAKEN: [Scene<'static>; 1] = [(1, Ending::TakesAway(0), Some(ENDED), &[BROKEN])];
+const ONE_IS_TAKEN: [Scene<'static>; 1] = [(1, Interruption::TakesAway(0), Some(ENDED), &[BROKEN])];
 
-const THREE_ARE_RESET: [Scene<'static>; 1] = [(3, Ending::Resets, Some(ENDED), &THREE)];
+const THREE_ARE_RESET: [Scene<'static>; 1] = [(3, Interruption::Resets, Some(ENDED), &THREE)];
 
-const THREE_ARE_BROKEN: [Scene<'static>; 1] = [(3, Ending::BreaksOff, Some(ENDED), &THREE)];
+const THREE_ARE_BROKEN: [Scene<'static>; 1] = [(3, Interruption::BreaksOff, Some(ENDED), &THREE)];
 
-const ONE_OF_THREE_IS_TAKEN: [Scene<'static>; 1] = [(3, Ending::TakesAway(0), Some(ENDED), &THREE)];
+const ONE_OF_THREE_IS_TAKEN: [Scene<'static>; 1] = [(
+    3,
+    Interruption::TakesAway(0),
+    Some(ENDED),
+    &THREE,
+)];
 
 // Two threads meet, also if both come as caller 0.
-const TWO_MEET: [Scene<'static>; 1] = [(1, Ending::Comes, None, &[Ok(1), Ok(0)])];
+const TWO_MEET: [Scene<'static>; 1] = [(1, Interruption::Comes, None, &[Ok(1), Ok(0)])];
 
-const TWO_COME_AGAIN: [Scene<'static>; 1] = [(1, Ending::ComesAgain, None, &[Ok(1), Ok(0)])];
+const TWO_COME_AGAIN: [Scene<'static>; 1] = [(1, Interruption::ComesAgain, None, &[Ok(1), Ok(0)])];
 
 // The action fails when two or four come.
-const TWO_FAIL: [Scene<'static>; 1] = [(1, Ending::Comes, None, &[BROKEN, FAILED])];
+const TWO_FAIL: [Scene<'static>; 1] = [(1, Interruption::Comes, None, &[BROKEN, FAILED])];
 
 const FOUR_FAIL: [Scene<'static>; 1] = [(
     3,
-    Ending::Comes,
+    Interruption::Comes,
     None,
     &[BROKEN, BROKEN, BROKEN, FAILED],
 )];
 
 // Three threads meet. Then one of two that wait is taken away, which breaks the gate. After a reset they meet there again.
 const MEET_TWICE: [Scene<'static>; 3] = [
-    (2, Ending::Comes, None, &[Ok(0), Ok(1), Ok(2)]),
-    (2, Ending::TakesAway(1), Some(ENDED), &[BROKEN, BROKEN]),
-    (2, Ending::Comes, None, &[Ok(0), Ok(1), Ok(2)]),
+    (2, Interruption::Comes, None, &[Ok(0), Ok(1), Ok(2)]),
+    (
+        2,
+        Interruption::TakesAway(1),
+        Some(ENDED),
+        &[BROKEN, BROKEN],
+    ),
+    (2, Interruption::Comes, None, &[Ok(0), Ok(1), Ok(2)]),
 ];
 
 const ROWS: [Row<'static>; 11] = [
@@ -363,7 +377,7 @@ fn who_waits_is_answered(rt: HostRuntime) {
     }
 }
 
-const A_TRIP: [Scene<'static>; 1] = [(3, Ending::Comes, None, &[Ok(0), Ok(1), Ok(2), Ok(3)])];
+const A_TRIP: [Scene<'static>; 1] = [(3, Interruption::Comes, None, &[Ok(0), Ok(1), Ok(2), Ok(3)])];
 
 #[test]
 fn a_trip_wakes_three(rt: HostRuntime) {
