@@ -10,9 +10,9 @@ use Rattle.std.specs.Fmt as fmt
 use Rattle.job_reader.specs.Trees.{JobTree}
 use Rattle.job_reader.specs.Reading.{job_in}
 use Rattle.job_reader.specs.Grammar.{canonical_text}
-use Rattle.job_faults.specs.Faults.{faults_in}
-use Rattle.job_faults.specs.Listing.{fault_line, listing}
-use Rattle.job_faults.proofs.Listed.{last_fault}
+use Rattle.refusal_reasons.specs.Faults.{faults_in}
+use Rattle.refusal_reasons.specs.Listing.{fault_line, listing}
+use Rattle.refusal_reasons.proofs.Listed.{last_fault}
 use Rattle.bsp_cli.specs.Ends.{ChecksAll, ChecksText, ListsFaults, ReadCause, Writes}
 use Rattle.bsp_cli.specs.declared.fault.RunFault.{RunFault}
 use Rattle.bsp_cli.specs.declared.fault.RunFault.TheVariants.{Text, Read, Write, Memory, NotStarted, Internal}

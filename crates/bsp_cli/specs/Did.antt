@@ -8,7 +8,7 @@ use Rattle.report_json.specs.ReportJson.{json_text}
 use Rattle.trace_text.specs.Trace.{asked_of}
 use Rattle.trace_text.specs.Outcome.{WritesAnswers, WritesBeginning}
 use Rattle.job_reader.specs.Reading.{job_in}
-use Rattle.job_faults.specs.Listing.{listing}
+use Rattle.refusal_reasons.specs.Listing.{listing}
 use Rattle.bsp_cli.specs.Drawn.{drawn_in}
 use Rattle.bsp_cli.specs.Jobs.{WritesCanonical, BeginsCanonical, BeginsListing, WritesUpgraded, BeginsUpgraded, WritesReport, BeginsReport, WritesSteps}
 use Rattle.bsp_cli.specs.Texts.{refusal_line, worker_line}

@@ -11,7 +11,7 @@ use Rattle.trace_text.specs.Trace.{asked_of}
 use Rattle.trace_text.specs.Outcome.{WritesAnswers, WritesBeginning}
 use Rattle.job_reader.specs.Trees.{job_tree}
 use Rattle.job_reader.specs.Reading.{job_in}
-use Rattle.job_faults.specs.Listing.{listing}
+use Rattle.refusal_reasons.specs.Listing.{listing}
 use Rattle.job_view.specs.Look.{LookValue}
 use Rattle.text_lines.specs.declared.refusal.Refusal.{Refusal}
 use Rattle.bsp_cli.specs.Jobs.{status_number, WritesCanonical, BeginsCanonical, BeginsListing, WritesUpgraded, BeginsUpgraded, WritesReportOf, BeginsReport}

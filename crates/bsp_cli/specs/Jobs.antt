@@ -11,7 +11,7 @@ use Rattle.job_reader.specs.Grammar.{canonical_text}
 use Rattle.job_reader.specs.Upgrade.{upgraded_tree}
 use Rattle.step_core.specs.Program.{Program}
 use Rattle.text_lines.specs.declared.refusal.Refusal.{Refusal}
-use Rattle.job_faults.specs.Listing.{listing}
+use Rattle.refusal_reasons.specs.Listing.{listing}
 use Rattle.step_core.specs.JobMeaning.{report_of}
 use Rattle.job_stream.specs.Streamed as stream
 

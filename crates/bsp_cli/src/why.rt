@@ -7,8 +7,7 @@ ghost use Rattle.refusal_reasons.specs.Reasons.{refusal_reason as told_reason};
 ghost use Rattle.bsp_cli.specs.Marked.{trace_mark as trace_mark_of};
 
 use devices::{Reader, Writer};
-use job_faults::{Kind, Mark, Part, job_reason, refusal_reason};
-use refusal_reasons::line_at;
+use refusal_reasons::{Kind, Mark, Part, job_reason, line_at, refusal_reason};
 use std::alloc::{AllocError, Global};
 use text_lines::{Code, Refusal};
 use trace_text::{TraceFault, faulty_number, run_trace};

@@ -1,4 +1,5 @@
 pub mod Behind
+pub mod Listed
 mod Marking
 mod Noted
 pub mod Reasoned

@@ -1,10 +1,15 @@
+pub mod Faults
+pub mod JobReasons
 pub mod Known
+pub mod Laws
 pub mod Lines
+pub mod Listing
 pub mod Marks
 pub mod Meanings
 pub mod Names
 pub mod Places
 pub mod Reasons
 pub mod WordFaults
+pub mod Worked
 pub mod WorkedPlaces
 pub mod WorkedReasons

@@ -1,9 +1,11 @@
-//! Laws of what a fault is about, of its place and of reasons. Each function does nothing: its contract is the law.
+//! Laws of places, of reasons, and of faulty lines. Each function does nothing: its contract is the law.
 ghost use Rattle.refusal_reasons.specs.Places.{PlacesAreOfRefusals};
 ghost use Rattle.refusal_reasons.specs.Reasons.{ReasonsAreOfRefusals, ReasonsAreShort};
 ghost use Rattle.refusal_reasons.specs.WordFaults.{MarksAreRefused, WordFaultsAreMarked};
 ghost use Rattle.refusal_reasons.specs.WorkedPlaces.{PlacesAreWorkedOut};
 ghost use Rattle.refusal_reasons.specs.WorkedReasons.{ReasonsAreWorkedOut};
+ghost use Rattle.refusal_reasons.specs.Laws.{FaultsAreFew, TheFirstFaultIsTheRefusal};
+ghost use Rattle.refusal_reasons.specs.Worked.{FaultsAreWorkedOut};
 
 /// The line and the code that are shown of a refused text are those of its refusal.
 pub fn places_are_of_refusals()
@@ -40,4 +42,19 @@ pub fn reasons_are_short()
 /// that is too long; and bytes that a terminal doesn't print.
 pub fn reasons_are_worked_out()
     ensures { ReasonsAreWorkedOut }
+{}
+
+/// A text that is a job has no faulty line, and the first of any other is its refusal.
+pub fn the_first_fault_is_the_refusal()
+    ensures { TheFirstFaultIsTheRefusal }
+{}
+
+/// At most twenty faulty lines are listed.
+pub fn faults_are_few()
+    ensures { FaultsAreFew }
+{}
+
+/// Texts with several faulty lines, and which are listed: lines of blocks, names that aren't there, faults that end the list.
+pub fn faults_are_worked_out()
+    ensures { FaultsAreWorkedOut }
 {}

@@ -8,11 +8,11 @@ ghost use Rattle.tier_table.specs.GroupsAtLast.{tokens_arrived};
 ghost use Rattle.test_groups.specs.Seats.{tree_at, TwoAt};
 
 use crate::ask::Deed;
+use crate::rules::Rule;
 use crate::seats::Seat;
+use crate::told::Told;
 use std::process::Abort;
 use std::sync::Wait;
-use test_parts::rules::Rule;
-use test_parts::told::Told;
 use tier_table::arriving_with::ArrivedWith;
 use tier_table::finishing::Finished;
 use tier_table::forcing::Forced;

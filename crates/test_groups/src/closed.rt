@@ -7,13 +7,13 @@ ghost use Rattle.tier_table.specs.Closes.{held};
 
 use crate::begun::begun;
 use crate::calls::told_of;
+use crate::counts::are;
+use crate::rules::{Rule, WHEN_EMPTY, is_empty};
+use crate::told::Told;
 use advance_rule::StoredAdvance;
 use std::alloc::Global;
 use std::process::Abort;
 use std::sync::Wait;
-use test_parts::counts::are;
-use test_parts::rules::{Rule, WHEN_EMPTY, is_empty};
-use test_parts::told::Told;
 use tier_table::closing::{ClosedAll, ClosedToken};
 use tier_table::groups::Group;
 use tier_table::tokens::{Door, Token};

@@ -3,6 +3,8 @@
 //! * `runs`: runs on one thread, worked out by hand; `begun`, `closed`: trees that begin or are closed with groups; `threads`: eight
 //!   threads; `random`, `mirror`: random lists of calls, beside the calls of their members.
 //! * `ask`, `calls`, `seats`, `trees`: what these tests share.
+//! * `told`: answers; `numbers`: random numbers; `machine`, `rules`: the tree as a machine, and its rule; `counts`: the words of a
+//!   closed tree. `test_phasers` has these from here.
 #![tactic(auto)]
 
 #[cfg(test)]
@@ -13,14 +15,19 @@ mod begun;
 mod calls;
 #[cfg(test)]
 mod closed;
+pub mod counts;
+pub mod machine;
 #[cfg(test)]
 mod mirror;
+pub mod numbers;
 #[cfg(test)]
 mod random;
+pub mod rules;
 #[cfg(test)]
 mod runs;
 pub mod seats;
 #[cfg(test)]
 mod threads;
+pub mod told;
 #[cfg(test)]
 mod trees;

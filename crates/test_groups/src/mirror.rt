@@ -2,11 +2,11 @@
 
 ghost use Rattle.tier_core.specs.Run.{IsCall};
 
+use crate::machine::{stepped, view_of};
+use crate::told::Told;
 use phaser_word::{MOST_PARTIES, Word};
 use std::alloc::Global;
 use std::process::Abort;
-use test_parts::machine::{stepped, view_of};
-use test_parts::told::Told;
 use tier_core::call::{Call, Played};
 use tier_core::tree::Core;
 

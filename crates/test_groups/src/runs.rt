@@ -11,18 +11,18 @@ use crate::ask::Deed::{
     Register, Split,
 };
 use crate::calls::done;
+use crate::counts::are;
+use crate::rules::{Rule, WHEN_EMPTY, is_empty};
 use crate::seats::{Seat, Three};
+use crate::told::Told;
+use crate::told::Told::{
+    AlreadyArrived, Busy, Done, Ended, Full, Here, Joined, Left, Passed, Waiting,
+};
 use crate::trees::{left, planted};
 use advance_rule::StoredAdvance;
 use std::alloc::Global;
 use std::process::Abort;
 use std::sync::Wait;
-use test_parts::counts::are;
-use test_parts::rules::{Rule, WHEN_EMPTY, is_empty};
-use test_parts::told::Told;
-use test_parts::told::Told::{
-    AlreadyArrived, Busy, Done, Ended, Full, Here, Joined, Left, Passed, Waiting,
-};
 use tier_table::tokens::Door;
 use tier_table::tree::Tree;
 

@@ -3,10 +3,10 @@
 ghost use Rattle.std.specs.Prelude.{◌≡◌, ◌≤◌, All};
 ghost use Rattle.tier_table.specs.Closes.{held};
 
+use crate::rules::Rule;
 use advance_rule::StoredAdvance;
 use std::alloc::Global;
 use std::process::Abort;
-use test_parts::rules::Rule;
 use tier_shape::Shape;
 use tier_table::closing::Closed;
 use tier_table::tokens::{Door, Token};

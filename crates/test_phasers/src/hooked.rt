@@ -11,7 +11,7 @@ use std::alloc::Global;
 use std::process::Abort;
 use std::sync::Wait;
 use std::sync::atomic::{AtomicU64, Ordering};
-use test_parts::told::Told;
+use test_groups::told::Told;
 
 // Appends each phase that ends, and the parties at the root then, as two digits.
 #[derive(Drop)]

@@ -5,7 +5,7 @@ use phasers::tree::{EndPlan, Forced, Guest, PhaserTree, Polled};
 use std::alloc::Global;
 use std::process::Abort;
 use std::sync::Wait;
-use test_parts::told::Told;
+use test_groups::told::Told;
 
 // What parties are asked.
 #[derive(Clone, Copy)]

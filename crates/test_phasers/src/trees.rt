@@ -6,7 +6,7 @@ ghost use Rattle.tier_table.specs.Closes.{held};
 use advance_rule::StoredAdvance;
 use std::alloc::Global;
 use std::process::Abort;
-use test_parts::rules::Rule;
+use test_groups::rules::Rule;
 use tier_shape::Shape;
 use tier_table::closing::Closed;
 use tier_table::tokens::{Door, Token};

@@ -12,7 +12,7 @@ use std::sync::Wait;
 use std::sync::atomic::{AtomicU64, Ordering};
 use std::thread;
 use std::thread::Threads;
-use test_parts::rules::WHEN_EMPTY;
+use test_groups::rules::WHEN_EMPTY;
 use tier_shape::Shape;
 use tier_table::arriving::Arrived;
 use tier_table::joining::Registered;

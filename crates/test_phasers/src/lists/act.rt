@@ -10,9 +10,9 @@ use crate::calls::call::call;
 use crate::calls::holders::Holder;
 use crate::lists::mirror::Mirror;
 use std::process::Abort;
-use test_parts::numbers::Numbers;
-use test_parts::rules::Rule;
-use test_parts::told::Told;
+use test_groups::numbers::Numbers;
+use test_groups::rules::Rule;
+use test_groups::told::Told;
 use tier_table::tree::Tree;
 
 // Returns what a token is asked next; late in a list this may be the end by force, too.

@@ -5,8 +5,8 @@ ghost use Rattle.tier_core.specs.Run.{IsCall};
 
 use crate::calls::ask::Ask;
 use std::process::Abort;
-use test_parts::machine::{stepped, view_of};
-use test_parts::told::Told;
+use test_groups::machine::{stepped, view_of};
+use test_groups::told::Told;
 use tier_core::call::{Call, Played};
 use tier_core::tree::Core;
 use tier_steps::view::{Errand, View};

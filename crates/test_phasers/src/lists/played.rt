@@ -15,9 +15,9 @@ use advance_rule::StoredAdvance;
 use phaser_word::Word;
 use std::alloc::Global;
 use std::process::Abort;
-use test_parts::machine::machine;
-use test_parts::numbers::Numbers;
-use test_parts::rules::{Rule, WHEN_EMPTY, is_empty};
+use test_groups::machine::machine;
+use test_groups::numbers::Numbers;
+use test_groups::rules::{Rule, WHEN_EMPTY, is_empty};
 use tier_table::tokens::{Door, Token};
 use tier_table::tree::Tree;
 

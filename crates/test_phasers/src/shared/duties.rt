@@ -9,7 +9,7 @@ use std::process::Abort;
 use std::sync::Wait;
 use std::thread;
 use std::thread::Threads;
-use test_parts::rules::Rule;
+use test_groups::rules::Rule;
 use tier_table::in_place::ArrivedInPlace;
 use tier_table::tokens::{Crew, Door, Token};
 use tier_table::tree::Tree;

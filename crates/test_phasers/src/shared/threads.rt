@@ -13,7 +13,7 @@ use std::alloc::Global;
 use std::process::Abort;
 use std::sync::Wait;
 use std::thread::Threads;
-use test_parts::rules::{Rule, WHEN_EMPTY, is_empty};
+use test_groups::rules::{Rule, WHEN_EMPTY, is_empty};
 use tier_table::closing::Closed;
 use tier_table::tokens::{Door, Token};
 use tier_table::tree::Tree;

@@ -2,7 +2,7 @@
 
 use crate::calls::ask::Ask;
 use crate::calls::holders::Holder;
-use test_parts::told::Told;
+use test_groups::told::Told;
 
 /// What a token says of itself.
 #[derive(Clone, Copy, PartialEq, Eq)]

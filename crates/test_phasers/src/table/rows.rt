@@ -9,8 +9,8 @@ use crate::calls::ask::Ask;
 use crate::calls::call::call;
 use crate::calls::holders::{Holder, Three};
 use std::process::Abort;
-use test_parts::rules::Rule;
-use test_parts::told::Told;
+use test_groups::rules::Rule;
+use test_groups::told::Told;
 use tier_table::joining::Registered;
 use tier_table::tree::Tree;
 

@@ -11,9 +11,9 @@ use crate::table::trees::{left_by_three, with_three};
 use advance_rule::{EndPlan, StoredAdvance};
 use std::alloc::Global;
 use std::process::Abort;
-use test_parts::counts::are;
-use test_parts::rules::{Rule, WHEN_EMPTY, is_empty};
-use test_parts::told::Told::{
+use test_groups::counts::are;
+use test_groups::rules::{Rule, WHEN_EMPTY, is_empty};
+use test_groups::told::Told::{
     AlreadyArrived, Busy, Done, Ended, Full, Held, Here, Joined, Left, Owing, Passed, Waiting,
 };
 use tier_core::call::Cause;

@@ -9,7 +9,7 @@ use crate::trees::{left, planted};
 use advance_rule::StoredAdvance;
 use std::alloc::Global;
 use std::process::Abort;
-use test_parts::rules::Rule;
+use test_groups::rules::Rule;
 use tier_table::closing::Closed;
 use tier_table::tree::Tree;
 

@@ -1,5 +1,0 @@
-use Rattle.job_faults.proofs.Listed.{the-first-fault-is-the-refusal}
-use Rattle.job_faults.proofs.laws.the_first_fault_is_the_refusal.Goals as goal
-
-pub returns : goal.returns
-returns c = the-first-fault-is-the-refusal

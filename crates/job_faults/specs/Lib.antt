@@ -1,5 +1,0 @@
-pub mod Faults
-pub mod JobReasons
-pub mod Laws
-pub mod Listing
-pub mod Worked

@@ -1,0 +1,25 @@
+use Rattle.std.proofs.Common.{refl}
+use Rattle.std.specs.Fmt as fmt
+use Rattle.task_code.specs.Names as names
+use Rattle.job_words.specs.Words as words
+use Rattle.job_words.specs.Exprs as exprs
+use Rattle.job_words.specs.Lines as lines
+use Rattle.job_reader.specs.Reading as reading
+use Rattle.refusal_reasons.specs.Faults as faults
+use Rattle.refusal_reasons.proofs.laws.faults_are_worked_out.Goals as goal
+
+pub returns : goal.returns
+unfolding fmt.digits names.is_reserved reading.job_in reading.outer_of words.index_of words.in_index exprs.cell_of exprs.operand_of exprs.in_operand exprs.operator_of lines.keyword_of lines.line_behind lines.mentions_behind faults.faulty
+returns c = record {
+  none = refl;
+  lines = refl;
+  blocks = refl;
+  missing = refl;
+  bytes = refl;
+  unclosed = refl;
+  header = refl;
+  too_long = refl;
+  told = refl;
+  reserved = refl;
+  bodies = refl;
+}
