@@ -19,7 +19,7 @@ use Rattle.step_core.specs.JobMeaning.{report_of}
 use Rattle.bsp_cli.specs.Jobs.{plan_of, program_of_tree, status_number}
 use Rattle.std.specs.Io.KnownBytes.{Appends, Keeps}
 use Rattle.devices.specs.Device.{AppendsBeginning}
-use Rattle.bsp_cli.specs.Drawn.{drawn, program_told}
+use Rattle.bsp_cli.specs.Drawn.{drawn, program_of_text}
 use Rattle.bsp_cli.specs.Ends.{IsOfPool, ReadCause, WriteCause, Reports, Runs, Draws, Does, end_result}
 use Rattle.bsp_words.specs.declared.asked.Asked.TheVariants.{Run, RunJson, Draw}
 use Rattle.bsp_cli.specs.declared.fault.RunFault.{RunFault}
@@ -95,8 +95,8 @@ draws workers limit look input old new (Err (NotStarted k)) h = h
 draws workers limit look input old new (Err Internal) h = h
 
 -- the program of a text is that of the job that was read
-program-read : (j : JobValue) (bytes : List ℕ) → job_in bytes ≡ Ok (job_tree j) → program_of j ≡ program_told (job_in bytes)
-program-read j bytes e = sym (ap program_told e ∙ same-program j)
+program-read : (j : JobValue) (bytes : List ℕ) → job_in bytes ≡ Ok (job_tree j) → program_of j ≡ program_of_text (job_in bytes)
+program-read j bytes e = sym (ap program_of_text e ∙ same-program j)
 
 -- a job that was read and run, and its picture that was written
 pub draws_runs : (look : LookValue) (workers limit : ℕ) (input old new : Option (List ℕ)) (j : JobValue) (report : ReportValue) (r : Result JobStatus RunFault)

@@ -75,10 +75,10 @@ IsWorkerOf (Draw workers limit) k = k < workers
 IsWorkerOf _ k = ⊥
 
 -- what is asked for is done if the status is 0, 2 or 3; else the output and the line on standard error say what went wrong
-pub record Did (a : Asked) (look : LookValue) (input old new : Option (List ℕ)) (told : List ℕ → Type 0) (status : ℕ) : Type 0 where
+pub record Did (a : Asked) (look : LookValue) (input old new : Option (List ℕ)) (says : List ℕ → Type 0) (status : ℕ) : Type 0 where
   pub finished : status ≤ 3 → IfSome input (λ bytes. Finishes a look bytes old new status)
-  pub refused : status ≡ 4 → Lists a input old new × (r : Refusal) × told (refusal_line r) × IfSome input (λ bytes. Refuses a bytes r)
+  pub refused : status ≡ 4 → Lists a input old new × (r : Refusal) × says (refusal_line r) × IfSome input (λ bytes. Refuses a bytes r)
   pub memory : status ≡ 6 → RunsOut a input old new
-  pub not_started : status ≡ 7 → Keeps old new × (k : ℕ) × IsWorkerOf a k × told (worker_line k)
+  pub not_started : status ≡ 7 → Keeps old new × (k : ℕ) × IsWorkerOf a k × says (worker_line k)
   pub failed : status ≡ 8 → Keeps old new ⊎ IfSome input (λ bytes. Begins a look bytes old new)
   pub internal : status ≡ 9 → StopsShort a input old new

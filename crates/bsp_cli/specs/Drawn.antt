@@ -27,10 +27,10 @@ abbrev pub drawn : LookValue → Program → ℕ → ReportValue → List ℕ
 drawn look p limit r = drawn_by (is_bare look) look p limit r
 
 -- the program of a text, if it is that of a job
-abbrev pub program_told : Result JobTree Refusal → Program
-program_told (Ok job) = program_of_tree job
-program_told (Err r) = record { arrays = []; plans = []; starts = [] }
+abbrev pub program_of_text : Result JobTree Refusal → Program
+program_of_text (Ok job) = program_of_tree job
+program_of_text (Err r) = record { arrays = []; plans = []; starts = [] }
 
 -- the picture of what the job of a text leaves within a limit, as it is asked for
 abbrev pub drawn_in : LookValue → ℕ → List ℕ → ReportValue → List ℕ
-drawn_in look limit input r = drawn look (program_told (job_in input)) limit r
+drawn_in look limit input r = drawn look (program_of_text (job_in input)) limit r

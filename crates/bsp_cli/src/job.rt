@@ -15,7 +15,7 @@ ghost use Rattle.bsp_cli.specs.Drawn.{drawn, is_bare as is_bare_of};
 ghost use Rattle.bsp_cli.specs.Ends.{TakesJob, Checks, ChecksAll, Draws, ChecksText, ListsFaults, Writes, Upgrades, IsOfPool, Reports, Runs, ReadCause, WriteCause, end_result};
 
 use crate::fault::RunFault;
-use crate::progress::{NoProgress, Progress, WatchEnd};
+use crate::progress::{NoProgress, ObserveEnd, Progress};
 use crate::status::{LIMIT_REACHED, TASK_FAULT};
 use devices::{CountedRead, CountedWrite, ReadFault, read_all, write_all};
 use job_picture::picture_of;
@@ -27,7 +27,7 @@ use report_json::json_text_of;
 use std::alloc::{AllocError, Global};
 use std::sync::Wait;
 use std::thread::Threads;
-use step_core::{run_alone, run_watched};
+use step_core::{run_alone, run_observed};
 use task_code::job::Job;
 use tier_shape::Shape;
 use worker_pool::{AllStart, Gate, OpenGate, Refused, run_within};
@@ -232,9 +232,9 @@ fn run_on_one_thread<P: Progress>(
     let Some(progress) = progress else {
         return run_alone(alloc, job, limit);
     };
-    let mut watch = progress.alone();
-    let left = run_watched(alloc, job, limit, &mut watch);
-    watch.end();
+    let mut observer = progress.alone();
+    let left = run_observed(alloc, job, limit, &mut observer);
+    observer.end();
     left
 }
 

@@ -26,7 +26,7 @@ pub use fault::RunFault;
 pub use job::{draw_bytes, run_bytes, run_json_bytes};
 pub use laws::lines_are_worked_out;
 pub use program::run_program;
-pub use progress::{NoProgress, Progress, Seen, Teller, WatchEnd};
+pub use progress::{NoProgress, ObserveEnd, Progress, Seen, Teller};
 pub use stream::stream_bytes;
 
 /// Statuses that the program ends with. 0 means success.

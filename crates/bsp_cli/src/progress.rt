@@ -6,23 +6,23 @@ use std::sync::{Arc, Condvar, CondvarTimeouts, Mutex, Wait};
 use std::thread;
 use std::thread::{JoinHandle, Threads};
 use std::time::{Duration, Instant};
-use step_core::{NoWatch, Watch};
+use step_core::{NoObserver, Observe};
 use superstep_memory::arrays::Arrays;
 use superstep_memory::path::Path;
 use worker_pool::Gate;
 
 /// Watches the supersteps of a job on one thread, and is called once more when the job has left its report.
-pub trait WatchEnd: Watch {
+pub trait ObserveEnd: Observe {
     /// Called when no more supersteps come.
     fn end(self);
 }
 
 /// Reports progress: is called around each segment of a job that workers share, and once when the job has left its report.
 pub trait Progress: Gate {
-    /// The watch for a job on one thread.
-    type Alone: WatchEnd;
+    /// The observer of a job on one thread.
+    type Alone: ObserveEnd;
 
-    /// Returns a watch for the supersteps of a job on one thread.
+    /// Returns an observer for the supersteps of a job on one thread.
     fn alone(&self) -> Self::Alone;
 
     /// Called when no more segments come.
@@ -42,15 +42,15 @@ impl Gate for NoProgress {
     fn leave<R: Wait>(&self, _rt: &R, _path: &Path, _step: u32) {}
 }
 
-impl WatchEnd for NoWatch {
+impl ObserveEnd for NoObserver {
     fn end(self) {}
 }
 
 impl Progress for NoProgress {
-    type Alone = NoWatch;
+    type Alone = NoObserver;
 
-    fn alone(&self) -> NoWatch {
-        NoWatch
+    fn alone(&self) -> NoObserver {
+        NoObserver
     }
 
     fn end<R: Wait>(&self, _rt: &R) {}
@@ -68,7 +68,7 @@ struct ProgressState {
     step: u32,
     tasks: u32,
     began: Option<Instant>,
-    told: u64,
+    shown: u64,
     over: bool,
 }
 
@@ -92,12 +92,12 @@ fn tell<T: Eprint>(rt: &T, seen: ProgressState, seconds: u64) {
 // Reports the superstep that was seen, if a second has passed since the last report. Returns the state after that.
 fn tell_if_due<T: Clock + Eprint>(rt: &T, seen: ProgressState) -> ProgressState {
     let passed = seconds(rt, seen);
-    if passed <= seen.told {
+    if passed <= seen.shown {
         return seen;
     }
     tell(rt, seen, passed);
     ProgressState {
-        told: passed,
+        shown: passed,
         ..seen
     }
 }
@@ -140,7 +140,7 @@ impl Seen {
                 step: 0,
                 tasks: 0,
                 began: None,
-                told: 0,
+                shown: 0,
                 over: false,
             }),
             over: Condvar::new(),
@@ -257,13 +257,13 @@ impl<'a, T: Clock + Eprint + Wait> Teller<'a, T> {
     }
 }
 
-impl<T: Clock + Eprint + Wait> Watch for Teller<'_, T> {
+impl<T: Clock + Eprint + Wait> Observe for Teller<'_, T> {
     fn superstep(&mut self, step: u32, _arrays: &Arrays, tasks: usize) {
         self.seen.see(self.rt, step, tasks);
     }
 }
 
-impl<T: Clock + Eprint + Wait> WatchEnd for Teller<'_, T> {
+impl<T: Clock + Eprint + Wait> ObserveEnd for Teller<'_, T> {
     fn end(self) {
         self.seen.end(self.rt);
     }

@@ -3,7 +3,7 @@
 ghost use Rattle.std.specs.Prelude.{◌≡◌, Err, IfOk, IfSome};
 ghost use Rattle.text_lines.specs.declared.refusal.Refusal.{Refusal};
 ghost use Rattle.trace_text.specs.Trace.{asked_of};
-ghost use Rattle.refusal_reasons.specs.Reasons.{refusal_reason as told_reason};
+ghost use Rattle.refusal_reasons.specs.Reasons.{refusal_reason as reason_said};
 ghost use Rattle.bsp_cli.specs.Marked.{trace_mark as trace_mark_of};
 
 use devices::{Reader, Writer};
@@ -32,7 +32,7 @@ fn trace_mark(text: &[u8], refusal: Refusal) -> Option<Mark>
 // Returns why the text of a trace is refused, if it is.
 fn trace_reason(alloc: Global, source: &str, text: &[u8]) -> Result<Option<Vec<u8>>, AllocError>
     ensures { IfOk result (λ reason. IfSome reason (λ said.
-        (r : Refusal) × (asked_of text.now ≡ Err r) × (said.items ≡ told_reason source.now text.now Kind.Trace r (trace_mark_of text.now r)))) }
+        (r : Refusal) × (asked_of text.now ≡ Err r) × (said.items ≡ reason_said source.now text.now Kind.Trace r (trace_mark_of text.now r)))) }
 {
     let mut answers = Vec::new(alloc);
     match run_trace(

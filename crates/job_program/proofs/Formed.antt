@@ -8,8 +8,8 @@ use Rattle.task_actions.specs.Meaning as job
 use Rattle.task_lang.specs.Laws as task
 use Rattle.task_lang.specs.Lent as lent
 use Rattle.task_lang.proofs.AllSegments.{numbers-its-spawns, stays-the-same-task}
-use Rattle.task_actions.specs.declared.scene.Ending as code
-use Rattle.task_actions.specs.declared.scene.Ending.TheVariants as ends
+use Rattle.task_actions.specs.declared.scene.CodeEnd as code
+use Rattle.task_actions.specs.declared.scene.CodeEnd.TheVariants as ends
 use Rattle.step_parts.specs.SlotParts.{path_in}
 use Rattle.programs.specs.declared.work.Work.{Work}
 use Rattle.programs.specs.declared.work.Ending.{Ending}
@@ -44,19 +44,19 @@ numbers plans t arrays step = (job_formed plans t arrays step).numbered
 pub stays : (plans : List job.Plan) → StaysTheSameTask (job_says plans)
 stays plans t u arrays step e = (job_formed plans t arrays step).same u e
 
-abbrev pub as_ending : code.Ending → Ending
+abbrev pub as_ending : code.CodeEnd → Ending
 as_ending (ends.Synced place) = ending.Stays
 as_ending ends.Stopped = ending.Stops
 as_ending (ends.Fault f) = ending.Fails (code_of f)
 
-left_as : (ps : List job.Plan) (e : code.Ending) (t u : TaskValue) (a b : Work TaskValue) (g : job.Segment)
+left_as : (ps : List job.Plan) (e : code.CodeEnd) (t u : TaskValue) (a b : Work TaskValue) (g : job.Segment)
     → lent.IsLeft ps e t u a b g → IsLeft (task_of ps) path_in (as_ending e) t u a b g
 left_as ps (ends.Fault f) t u a b g h = (ap (λ (x : job.Segment). x.after) h.0, ap path_in h.1)
 left_as ps ends.Stopped t u a b g h = (record { puts = h.0.puts; prints = h.0.prints; spawns = h.0.spawns }, h.1, ap path_in h.2)
 left_as ps (ends.Synced place) t u a b g h = (record { puts = h.0.puts; prints = h.0.prints; spawns = h.0.spawns }, h.1, ap path_in h.2)
 
 -- a segment that ended so left what a task of the program may leave
-pub job_left : (ps : List job.Plan) (arrays : List (List ℕ × List ℤ)) (step : ℕ) (d e : code.Ending) (t u : TaskValue) (a b : Work TaskValue)
+pub job_left : (ps : List job.Plan) (arrays : List (List ℕ × List ℤ)) (step : ℕ) (d e : code.CodeEnd) (t u : TaskValue) (a b : Work TaskValue)
     → d ≡ e → lent.IsLeft ps d t u a b (job.segment_of ps (task_of ps t) arrays step)
     → HasLeft job_frame (JobMay ps) (task_of ps) path_in arrays step (as_ending e) t u a b
 job_left ps arrays step d e t u a b is h = record {
@@ -65,5 +65,5 @@ job_left ps arrays step d e t u a b is h = record {
   formed = job_formed ps (task_of ps t) arrays step;
   is =
       left_as ps e t u a b (job.segment_of ps (task_of ps t) arrays step)
-      (subst (λ (x : code.Ending). lent.IsLeft ps x t u a b (job.segment_of ps (task_of ps t) arrays step)) is h);
+      (subst (λ (x : code.CodeEnd). lent.IsLeft ps x t u a b (job.segment_of ps (task_of ps t) arrays step)) is h);
 }

@@ -53,9 +53,9 @@ impl<'j> Program for JobProgram<'j> {
         work: &mut Work<Task>,
     ) -> Result<Ending, AllocError> {
         match segment_into(alloc, self.job, task, arrays, step, work)? {
-            scene::Ending::Synced(_) => Ok(Ending::Stays),
-            scene::Ending::Stopped => Ok(Ending::Stops),
-            scene::Ending::Fault(fault) => Ok(Ending::Fails(fault.code())),
+            scene::CodeEnd::Synced(_) => Ok(Ending::Stays),
+            scene::CodeEnd::Stopped => Ok(Ending::Stops),
+            scene::CodeEnd::Fault(fault) => Ok(Ending::Fails(fault.code())),
         }
     }
 

@@ -118,7 +118,7 @@ impl<'j> JobSteps<'j> {
     }
 
     // Takes one superstep, and drops what was printed and recorded. Returns true if the run has ended.
-    fn go_on(&mut self, alloc: Global) -> Result<bool, AllocError>
+    fn step_and_discard(&mut self, alloc: Global) -> Result<bool, AllocError>
         ensures later { OnOk result (IsLater 1 self.old self.new) }
         ensures over { IfOk result (λ over. over ≡ true → is_some (ended self.new.run) ≡ true) }
     {
@@ -136,7 +136,7 @@ impl<'j> JobSteps<'j> {
         ensures { OnOk result (IsLater count self.old self.new) }
     {
         for _ in 0..count {
-            if self.go_on(alloc)? {
+            if self.step_and_discard(alloc)? {
                 return Ok(());
             }
         }

@@ -19,17 +19,17 @@ fn take_step(
     alloc: Global,
     schedule: &mut Schedule<'_>,
     step: JobStep,
-    told: &mut Vec<Answer>,
+    replies: &mut Vec<Answer>,
 ) -> Result<(), AllocError>
     requires reached { IsReached (world_of schedule.old) }
     requires kept { IsKept schedule.old.round (world_of schedule.old) }
-    ensures told { OnOk result (map answer_seen told.new.items ≡ map answer_seen told.old.items ++ answer_of (world_of schedule.old) step ∷ []) }
+    ensures replies { OnOk result (map answer_seen replies.new.items ≡ map answer_seen replies.old.items ++ answer_of (world_of schedule.old) step ∷ []) }
     ensures after { OnOk result (world_of schedule.new ≡ world_after (world_of schedule.old) step) }
     ensures reached { OnOk result (IsReached (world_of schedule.new)) }
     ensures kept { OnOk result (IsKept schedule.new.round (world_of schedule.new)) }
 {
     let answer = schedule.step(alloc, step)?;
-    told.push(answer)?;
+    replies.push(answer)?;
     Ok(())
 }
 
@@ -41,15 +41,15 @@ fn take_each(
 ) -> Result<Vec<Answer>, AllocError>
     requires reached { IsReached (world_of schedule.old) }
     requires kept { IsKept schedule.old.round (world_of schedule.old) }
-    ensures { IfOk result (λ told. map answer_seen told.items ≡ answers (world_of schedule.old) steps.now) }
+    ensures { IfOk result (λ replies. map answer_seen replies.items ≡ answers (world_of schedule.old) steps.now) }
 {
-    let mut told = Vec::new(alloc);
+    let mut replies = Vec::new(alloc);
     let mut rest = steps;
     while let Some((step, after)) = rest.split_first() {
-        take_step(alloc, schedule, *step, &mut told)?;
+        take_step(alloc, schedule, *step, &mut replies)?;
         rest = after;
     }
-    Ok(told)
+    Ok(replies)
 }
 
 // Takes the steps on a job from its beginning.
@@ -61,7 +61,7 @@ fn take_steps(
     steps: &[JobStep],
 ) -> Result<Vec<Answer>, AllocError>
     requires { 1 ≤ limit }
-    ensures { IfOk result (λ told. map answer_seen told.items ≡ answers (initial_world (program_of job.now) shape limit) steps.now) }
+    ensures { IfOk result (λ replies. map answer_seen replies.items ≡ answers (initial_world (program_of job.now) shape limit) steps.now) }
 {
     let mut schedule = Schedule::new(alloc, job, shape, limit)?;
     take_each(alloc, &mut schedule, steps)
@@ -81,10 +81,10 @@ pub fn drive_job(
 ) -> Result<Vec<Answer>, AllocError>
     requires some { 1 ≤ limit }
     requires few { limit ≤ 2147483648 }
-    ensures answers { IfOk result (λ told. map answer_seen told.items ≡ answers (initial_world (program_of job.now) shape limit) steps.now) }
-    ensures report { IfOk result (λ told. (report : ReportValue) → Contains (map answer_seen told.items) (Finished report)
+    ensures answers { IfOk result (λ replies. map answer_seen replies.items ≡ answers (initial_world (program_of job.now) shape limit) steps.now) }
+    ensures report { IfOk result (λ replies. (report : ReportValue) → Contains (map answer_seen replies.items) (Finished report)
         → report_of (program_of job.now) limit ≡ Some report) }
 {
-    let told = take_steps(alloc, job, shape, limit, steps)?;
-    Ok(told)
+    let replies = take_steps(alloc, job, shape, limit, steps)?;
+    Ok(replies)
 }

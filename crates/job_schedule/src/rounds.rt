@@ -53,8 +53,8 @@ pub(crate) fn hand_in<'j>(
     requires wanted { IsWanted round.old path.now }
     ensures taken { OnOk result (IsTaken round.old path.now round.new) }
     ensures round { OnOk result (IsAsBefore round.old round.new) }
-    ensures synced { IfOk result (λ told. told.0 ≡ has_synced (deed_by round.old path.now)) }
-    ensures spawns { IfOk result (λ told. map path_items told.1.items ≡ spawned_paths (deed_by round.old path.now)) }
+    ensures synced { IfOk result (λ replies. replies.0 ≡ has_synced (deed_by round.old path.now)) }
+    ensures spawns { IfOk result (λ replies. map path_items replies.1.items ≡ spawned_paths (deed_by round.old path.now)) }
 {
     let delivery = segment_for(alloc, round, path)?;
     let synced = delivery.synced();

@@ -59,7 +59,7 @@ fn mode_after(closer: usize, token: usize, status: &JobStatus) -> Mode
 }
 
 // Takes `steps` steps of a token's call.
-fn go_on(core: &mut Core, token: usize, steps: u32)
+fn go_steps(core: &mut Core, token: usize, steps: u32)
     ensures { core.new ≡ gone steps token core.old }
 {
     let mut left = steps;
@@ -171,7 +171,7 @@ impl<'j> Schedule<'j> {
         let token = self.core.add_token()?;
         self.core
             .step(Step::Begin(token, Call::Join { tier: home, n: 1 }));
-        go_on(&mut self.core, token, 16);
+        go_steps(&mut self.core, token, 16);
         self.participants
             .push(Participant::new(alloc, path, token, home))?;
         Ok(())

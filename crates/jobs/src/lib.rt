@@ -3,7 +3,7 @@
 //! A program of your own is a crate of this repository, `crates/NAME`. The command `tools/new NAME --jobs` makes one.
 //!
 //! * [`read_job`] reads a [`Job`] from its text, and [`write_job`] writes it.
-//! * [`run_alone`] runs a job on the caller's thread. [`run_watched`] also calls a [`Watch`] as each superstep begins.
+//! * [`run_alone`] runs a job on the caller's thread. [`run_observed`] also calls a [`Observe`] as each superstep begins.
 //! * [`run_within`] runs it on 1 to 64 worker threads, which meet at a tree of phasers after each superstep. The
 //!   [`Report`] is the same whatever the number of workers and the shape of the tree. [`run_job`] is the call below it,
 //!   and takes your advance rule.
@@ -61,9 +61,9 @@
 //! # What is in it
 //!
 //! * Texts: [`read_job`], [`write_job`], [`canonical`], [`upgrade`], [`ReadJobFault`], [`Refusal`], [`Code`].
-//! * Runs: [`run_alone`] and [`run_watched`], which fail only if memory runs out; [`run_within`] and [`run_job`], whose error
+//! * Runs: [`run_alone`] and [`run_observed`], which fail only if memory runs out; [`run_within`] and [`run_job`], whose error
 //!   [`Refused`] says why there is no report.
-//! * Hooks: [`Watch`] and [`NoWatch`] of a run on one thread; [`Gate`] and [`OpenGate`], called before and after each task's
+//! * Hooks: [`Observe`] and [`NoObserver`] of a run on one thread; [`Gate`] and [`OpenGate`], called before and after each task's
 //!   part of a superstep; [`Starter`] and [`AllStart`], asked before each worker is started.
 //! * Reports: [`Report`], with its [`Print`]s, [`PhaseRecord`]s, arrays and [`JobStatus`]; [`write_report`], [`text_of`].
 //! * Supersteps: [`JobSteps`]; [`Round`], [`Order`], [`Delivery`], [`AcceptFault`], [`CloseFault`], [`Outcome`].
@@ -74,8 +74,8 @@ pub use advance_rule::{EndPlan, StoredAdvance};
 pub use job_reader::{Code, ReadJobFault, Refusal, canonical, read_job, upgrade, write_job};
 pub use phase_records::{JobStatus, PhaseRecord, Print, Report, WriteFault, text_of, write_report};
 pub use step_core::{
-    AcceptFault, CloseFault, Delivery, JobSteps, NoWatch, Order, Outcome, Round, Watch, run_alone,
-    run_watched,
+    AcceptFault, CloseFault, Delivery, JobSteps, NoObserver, Observe, Order, Outcome, Round,
+    run_alone, run_observed,
 };
 pub use task_code::job::Job;
 pub use tier_shape::{Shape, ShapeFault};

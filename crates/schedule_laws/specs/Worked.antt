@@ -24,8 +24,8 @@ alone = record { arrays = []; plans = record { ahead = Done; locals = 0 } ∷ []
 abbrev pub one_worker : List JobStep
 one_worker = Take 0 ∷ Deliver 0 ∷ Tree 0 ∷ Tree 0 ∷ Tree 0 ∷ Advance 0 ∷ Close 0 ∷ Take 0 ∷ []
 
-abbrev pub told_one : List AnswerValue
-told_one =
+abbrev pub answers_one : List AnswerValue
+answers_one =
     Took (0 ∷ []) ∷ Delivered ∷ Stepped (IsDone 0) ∷ Stepped GoesOn ∷ Stepped (MustAdvance 0 0) ∷ Advanced (IsDone 0)
     ∷ Finished (record { prints = []; records = record { phase = 0; parties = 1; left = 1; spawned = 0 } ∷ []; arrays = []; status = Ended 1 }) ∷ NotNow ∷ []
 
@@ -44,8 +44,8 @@ two_workers =
     Take 0 ∷ Take 1 ∷ Deliver 0 ∷ Deliver 1 ∷ Tree 0 ∷ Tree 0 ∷ Tree 0 ∷ Tree 0 ∷ Close 0 ∷ Take 0
     ∷ Tree 1 ∷ Tree 1 ∷ Tree 1 ∷ Tree 1 ∷ Close 1 ∷ Advance 1 ∷ Close 0 ∷ Close 1 ∷ Take 0 ∷ []
 
-abbrev pub told_two : List AnswerValue
-told_two =
+abbrev pub answers_two : List AnswerValue
+answers_two =
     Took (0 ∷ []) ∷ Took (1 ∷ []) ∷ Delivered ∷ Delivered ∷ Stepped (IsDone 0) ∷ Stepped GoesOn ∷ Stepped GoesOn ∷ Stepped (IsDone 0) ∷ NotNow ∷ NotNow
     ∷ Stepped (IsDone 0) ∷ Stepped GoesOn ∷ Stepped GoesOn ∷ Stepped (MustAdvance 0 2) ∷ NotNow ∷ Advanced (IsDone 0) ∷ NotNow ∷ Closed ∷ Took (0 ∷ []) ∷ []
 
@@ -71,8 +71,8 @@ three_workers =
     ∷ Tree 0 ∷ Tree 0 ∷ Tree 0 ∷ Tree 0 ∷ Tree 0 ∷ Tree 0 ∷ Tree 0 ∷ Tree 0 ∷ Tree 0
     ∷ Tree 2 ∷ Tree 2 ∷ Tree 2 ∷ Tree 2 ∷ Advance 2 ∷ Close 2 ∷ Tree 1 ∷ Tree 2 ∷ Tree 2 ∷ []
 
-abbrev pub told_three : List AnswerValue
-told_three =
+abbrev pub answers_three : List AnswerValue
+answers_three =
     Took (0 ∷ []) ∷ Took (1 ∷ []) ∷ Took (2 ∷ []) ∷ Delivered ∷ Delivered ∷ Delivered
     ∷ Stepped (IsDone 0) ∷ Stepped GoesOn ∷ Stepped GoesOn ∷ Stepped GoesOn ∷ Stepped (IsDone 0) ∷ NotNow
     ∷ Stepped (IsDone 0) ∷ Stepped GoesOn ∷ Stepped (Held 0 AllArrived) ∷ Stepped GoesOn ∷ Stepped (IsDone 0)
@@ -83,8 +83,8 @@ told_three =
 
 pub record SchedulesAreWorkedOut : Type 0 where
   pub alone_is_driven : IsDriven alone (0 ∷ []) 10
-  pub one : answers (initial_world alone (0 ∷ []) 10) one_worker ≡ told_one
+  pub one : answers (initial_world alone (0 ∷ []) 10) one_worker ≡ answers_one
   pub pair_is_driven : IsDriven pair (0 ∷ 0 ∷ 0 ∷ []) 10
-  pub two : answers (initial_world pair (0 ∷ 0 ∷ 0 ∷ []) 10) two_workers ≡ told_two
+  pub two : answers (initial_world pair (0 ∷ 0 ∷ 0 ∷ []) 10) two_workers ≡ answers_two
   pub uneven_is_driven : IsDriven uneven (0 ∷ 0 ∷ 0 ∷ 1 ∷ []) 10
-  pub three : answers (initial_world uneven (0 ∷ 0 ∷ 0 ∷ 1 ∷ []) 10) three_workers ≡ told_three
+  pub three : answers (initial_world uneven (0 ∷ 0 ∷ 0 ∷ 1 ∷ []) 10) three_workers ≡ answers_three

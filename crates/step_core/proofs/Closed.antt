@@ -24,7 +24,7 @@ use Rattle.step_parts.specs.JobMeaning.{so_far, initial, start_tasks, starts}
 use Rattle.programs.specs.Supersteps.{status}
 use Rattle.step_parts.specs.SlotValue.{SlotValue}
 use Rattle.step_parts.specs.FinishedValue.{FinishedValue}
-use Rattle.step_parts.specs.Slots.{Slot, slot_of, slots_of, told_by, task_in, delivered, with_done, first_missing, or_missing, fresh, all_prints, all_told}
+use Rattle.step_parts.specs.Slots.{Slot, slot_of, slots_of, finished_by, task_in, delivered, with_done, first_missing, or_missing, fresh, all_prints, all_counts}
 use Rattle.step_parts.specs.SlotParts.{path_in, path_of, living_in, fresh_slot, IsSmall, AllSmall}
 use Rattle.step_parts.specs.RoundValue.{RoundValue, IsRound, Fits, AllFit, AllFresh, Opens, state_of, status_in, slots_in, whole, with_fault}
 use Rattle.programs.proofs.Runs.{goes, no_fault}
@@ -194,24 +194,24 @@ more_prints fs gs f e = ap all_prints e ∙ by fs
     by [] = nil f.prints
     by (g ∷ gs) = ap (λ (xs : List PrintValue). g.prints ++ xs) (by gs) ∙ assoc g.prints (all_prints gs) f.prints
 
-pub more_told : (fs gs : List FinishedValue) (f : FinishedValue) → gs ≡ fs ++ f ∷ [] → all_told gs ≡ all_told fs ++ f.told ∷ []
-more_told fs gs f e = ap all_told e ∙ by fs
+pub more_told : (fs gs : List FinishedValue) (f : FinishedValue) → gs ≡ fs ++ f ∷ [] → all_counts gs ≡ all_counts fs ++ f.counts ∷ []
+more_told fs gs f e = ap all_counts e ∙ by fs
   where
-    by : (fs : List FinishedValue) → all_told (fs ++ f ∷ []) ≡ all_told fs ++ f.told ∷ []
+    by : (fs : List FinishedValue) → all_counts (fs ++ f ∷ []) ≡ all_counts fs ++ f.counts ∷ []
     by [] = refl
-    by (g ∷ gs) = ap (λ (xs : List PhaseRecord). g.told ∷ xs) (by gs)
+    by (g ∷ gs) = ap (λ (xs : List PhaseRecord). g.counts ∷ xs) (by gs)
 
 -- as the code keeps it
 pub went_on : (job : JobValue) (limit step : ℕ) (arrays : List (List ℕ × List ℤ)) (slots : List SlotValue) (finished : List FinishedValue) (fault : Option (ℕ × List ℕ))
     → Closes (whole job limit step arrays slots finished fault) → first_fault (deeds (whole job limit step arrays slots finished fault)) ≡ None
     → overflow arrays (deeds (whole job limit step arrays slots finished fault)) ≡ None → (xs : List SlotValue) → xs ≡ map fresh_slot (in_path_order path_in (living_in slots)) → length xs ≤ 4096
     → (a : List (List ℕ × List ℤ)) → a ≡ landed (joined (map log_of (deeds (whole job limit step arrays slots finished fault)))) arrays
-    → (fs : List FinishedValue) → fs ≡ finished ++ told_by step (deeds (whole job limit step arrays slots finished fault)) ∷ []
+    → (fs : List FinishedValue) → fs ≡ finished ++ finished_by step (deeds (whole job limit step arrays slots finished fault)) ∷ []
     → IsClosed (whole job limit step arrays slots finished fault) (whole job limit (step + 1) a xs fs fault)
 went_on job limit step arrays slots finished fault c none fits xs ex le a ea fs ef =
-    let f = told_by step (deeds (whole job limit step arrays slots finished fault)) in
+    let f = finished_by step (deeds (whole job limit step arrays slots finished fault)) in
     gone_further (whole job limit step arrays slots finished fault) c none fits xs ex le a ea
-    (all_prints fs) (more_prints finished fs f ef) (all_told fs) (more_told finished fs f ef)
+    (all_prints fs) (more_prints finished fs f ef) (all_counts fs) (more_told finished fs f ef)
 
 pub closed_now : (r now new : RoundValue) → r ≡ now → IsClosed r new → Opens new now.job now.limit (next_state now)
 closed_now r now new e h = subst (λ x. Opens new x.job x.limit (next_state x)) e h.1

@@ -4,7 +4,7 @@ ghost use Rattle.step_parts.specs.Program.{program_of};
 ghost use Rattle.step_parts.specs.JobMeaning.{report_of};
 ghost use Rattle.step_core.specs.Watching.{SawAll};
 
-use crate::watch::{Looking, NoWatch, Watch};
+use crate::observe::{Looking, NoObserver, Observe};
 use job_program::{Beginning, JobProgram, MOST_TASKS, begin};
 use phase_records::Report;
 use programs::alone::{Ran, run_watched as run_program};
@@ -25,11 +25,11 @@ pub fn run_alone(alloc: Global, job: &Job, limit: u32) -> Result<Report, AllocEr
     requires { 1 ≤ limit }
     ensures { IfOk result (λ report. report_of (program_of job.now) limit ≡ Some report) }
 {
-    run_watched(alloc, job, limit, &mut NoWatch)
+    run_observed(alloc, job, limit, &mut NoObserver)
 }
 
 /// Returns what [`run_alone`] returns. `watch` is called before each superstep, and that changes nothing.
-pub fn run_watched<W: Watch>(
+pub fn run_observed<W: Observe>(
     alloc: Global,
     job: &Job,
     limit: u32,

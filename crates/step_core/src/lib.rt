@@ -2,19 +2,19 @@
 //!
 //! # Where things are
 //!
-//! * `round.rt`: the round; `alone.rt`: one thread; `watch.rt`: watchers of its supersteps; `laws.rt`: the laws.
+//! * `round.rt`: the round; `alone.rt`: one thread; `observe.rt`: observers of its supersteps; `laws.rt`: the laws.
 //! * `proofs/Rounds.antt`: orders and deliveries; `Closed.antt`: closing; `Watching.antt`: one thread and watchers;
 //!   `LawProofs.antt`, `Apart.antt`, `Landings.antt`: the laws.
 #![tactic(auto)]
 
 mod alone;
 pub mod laws;
+mod observe;
 mod round;
-mod watch;
 
-pub use alone::{run_alone, run_watched};
+pub use alone::{run_alone, run_observed};
 pub use job_program::{JobSteps, start_all};
+pub use observe::{NoObserver, Observe};
 pub use round::Round;
 pub use step_parts::fault::{AcceptFault, CloseFault, Outcome};
 pub use step_parts::order::{Delivery, Order};
-pub use watch::{NoWatch, Watch};

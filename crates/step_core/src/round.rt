@@ -296,7 +296,7 @@ impl<'j> Round<'j> {
     fn refuses(&self, delivery: &Delivery<'j>) -> Option<AcceptFault>
         requires running { status_in self.now ≡ None }
         requires job { delivery.now.job ≡ self.now.job }
-        ensures told { MatchOption result (Takes self.now delivery.now) (λ fault. Refuses fault self.now delivery.now) }
+        ensures answered { MatchOption result (Takes self.now delivery.now) (λ fault. Refuses fault self.now delivery.now) }
         ensures own { delivery.now.step ≡ self.now.step → IfSome result IsDouble }
     {
         if !delivery.is_of_step(self.step) {

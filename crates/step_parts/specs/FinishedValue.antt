@@ -5,4 +5,4 @@ use Rattle.phase_records.specs.declared.record.PhaseRecord.{PhaseRecord}
 
 pub record FinishedValue : Type 0 where
   pub prints : List PrintValue
-  pub told : PhaseRecord
+  pub counts : PhaseRecord

@@ -12,7 +12,7 @@ use Rattle.step_parts.specs.JobMeaning.{so_far}
 use Rattle.programs.specs.Supersteps.{status}
 use Rattle.step_parts.specs.SlotValue.{SlotValue}
 use Rattle.step_parts.specs.FinishedValue.{FinishedValue}
-use Rattle.step_parts.specs.Slots.{Slot, slots_of, task_in, all_prints, all_told}
+use Rattle.step_parts.specs.Slots.{Slot, slots_of, task_in, all_prints, all_counts}
 
 pub record RoundValue : Type 0 where
   pub job : JobValue
@@ -33,7 +33,7 @@ whole job limit step arrays slots finished fault = record {
   arrays = arrays;
   slots = slots;
   prints = all_prints finished;
-  records = all_told finished;
+  records = all_counts finished;
   fault = fault;
 }
 

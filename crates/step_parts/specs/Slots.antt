@@ -66,12 +66,12 @@ abbrev pub all_prints : List FinishedValue → List PrintValue
 all_prints [] = []
 all_prints (f ∷ fs) = f.prints ++ all_prints fs
 
-abbrev pub told_of : FinishedValue → PhaseRecord
-told_of f = f.told
+abbrev pub counts_of : FinishedValue → PhaseRecord
+counts_of f = f.counts
 
-abbrev pub all_told : List FinishedValue → List PhaseRecord
-all_told fs = map told_of fs
+abbrev pub all_counts : List FinishedValue → List PhaseRecord
+all_counts fs = map counts_of fs
 
 -- what a superstep of these segments prints and records
-abbrev pub told_by : ℕ → List (List ℕ × Segment) → FinishedValue
-told_by step ss = record { prints = prints_of step ss; told = record_of step ss }
+abbrev pub finished_by : ℕ → List (List ℕ × Segment) → FinishedValue
+finished_by step ss = record { prints = prints_of step ss; counts = record_of step ss }

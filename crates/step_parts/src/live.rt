@@ -5,13 +5,13 @@ ghost use Rattle.std.specs.Vec.{vec_capacity};
 ghost use Rattle.superstep_memory.specs.Landing.{landed, joined};
 ghost use Rattle.task_actions.specs.Meaning.{Plan};
 ghost use Rattle.programs.specs.Superstep.{log_of, overflow};
-ghost use Rattle.step_parts.specs.Slots.{slots_of, delivered, told_by};
+ghost use Rattle.step_parts.specs.Slots.{slots_of, delivered, finished_by};
 ghost use Rattle.superstep_memory.specs.PathOrder.{in_path_order};
 ghost use Rattle.step_parts.specs.SlotParts.{AllSmall, beside, living_by, no_segment, path_in};
 
 use crate::closing::{collect_prints, record_of};
 use crate::landing::land_start_arrays;
-use crate::next::{go_on, make_room, set_undone};
+use crate::next::{list_next, make_room, set_undone};
 use crate::slot::{Finished, Slots};
 use programs::blame::Blame;
 use std::alloc::{AllocError, Global};
@@ -58,19 +58,19 @@ fn finish(
     ensures lands { IfOk result (λ fault. fault ≡ None → (ps : List Plan)
         → arc_value start_arrays.new ≡ landed (joined (map log_of (delivered (slots_of ps slots.now)))) (arc_value start_arrays.old)) }
     ensures tells { IfOk result (λ fault. fault ≡ None → (ps : List Plan)
-        → finished.new.items ≡ finished.old.items ++ told_by step (delivered (slots_of ps slots.now)) ∷ []) }
+        → finished.new.items ≡ finished.old.items ++ finished_by step (delivered (slots_of ps slots.now)) ∷ []) }
     ensures unlanded { IfOk result (λ fault. IsSome fault
         → (arc_value start_arrays.new ≡ arc_value start_arrays.old) × (finished.new.items ≡ finished.old.items)) }
     ensures same_arrays { OnErr result (arc_value start_arrays.new ≡ arc_value start_arrays.old) }
     ensures same_tales { OnErr result (finished.new.items ≡ finished.old.items) }
 {
     let prints = collect_prints(alloc, step, slots)?;
-    let told = record_of(step, slots);
+    let counts = record_of(step, slots);
     finished.reserve(1)?;
     if let Some(blame) = land_start_arrays(alloc, start_arrays, slots)? {
         return Ok(Some(blame));
     }
-    match finished.push(Finished { prints, told }) {
+    match finished.push(Finished { prints, counts }) {
         Ok(()) => Ok(None),
         Err(_) => unreachable!(),
     }
@@ -117,7 +117,7 @@ fn close_into(
     ensures lands { IfOk result (λ fault. fault ≡ None → (ps : List Plan) → arc_value start_arrays.new
         ≡ landed (joined (map log_of (delivered (slots_of ps (beside tasks.now done.old.items))))) (arc_value start_arrays.old)) }
     ensures tells { IfOk result (λ fault. fault ≡ None → (ps : List Plan) → finished.new.items
-        ≡ finished.old.items ++ told_by step (delivered (slots_of ps (beside tasks.now done.old.items))) ∷ []) }
+        ≡ finished.old.items ++ finished_by step (delivered (slots_of ps (beside tasks.now done.old.items))) ∷ []) }
     ensures tasks { IfOk result (λ fault. fault ≡ None → (arc_value next.new).items ≡ in_path_order path_in (living_by done.old.items)) }
     ensures none { IfOk result (λ fault. fault ≡ None → done.new.items ≡ map no_segment (arc_value next.new).items) }
     ensures unlanded { IfOk result (λ fault. IsSome fault → (done.new.items ≡ done.old.items)
@@ -132,7 +132,7 @@ fn close_into(
     if let Some(blame) = finish(alloc, step, &Slots::of(tasks, done), start_arrays, finished)? {
         return Ok(Some(blame));
     }
-    go_on(done, room, list);
+    list_next(done, room, list);
     Ok(None)
 }
 
@@ -151,7 +151,7 @@ impl Live {
     ghost use Rattle.superstep_memory.specs.PathOrder.{in_path_order};
     ghost use Rattle.task_actions.specs.Meaning.{Plan};
     ghost use Rattle.programs.specs.Superstep.{log_of, overflow};
-    ghost use Rattle.step_parts.specs.Slots.{slots_of, delivered, told_by, with_segment};
+    ghost use Rattle.step_parts.specs.Slots.{slots_of, delivered, finished_by, with_segment};
     ghost use Rattle.step_parts.specs.SlotParts.{AllSmall, path_in, fresh_slot, living_in};
     ghost use Rattle.step_parts.specs.Taking.{is_done, task_at};
 
@@ -226,7 +226,7 @@ impl Live {
         ensures lands { IfOk result (λ fault. fault ≡ None → (ps : List Plan)
             → arc_value start_arrays.new ≡ landed (joined (map log_of (delivered (slots_of ps self.old)))) (arc_value start_arrays.old)) }
         ensures tells { IfOk result (λ fault. fault ≡ None → (ps : List Plan)
-            → finished.new.items ≡ finished.old.items ++ told_by step (delivered (slots_of ps self.old)) ∷ []) }
+            → finished.new.items ≡ finished.old.items ++ finished_by step (delivered (slots_of ps self.old)) ∷ []) }
         ensures next { IfOk result (λ fault. fault ≡ None → self.new ≡ map fresh_slot (in_path_order path_in (living_in self.old))) }
         ensures unlanded { IfOk result (λ fault. IsSome fault → (self.new ≡ self.old)
             × (arc_value start_arrays.new ≡ arc_value start_arrays.old) × (finished.new.items ≡ finished.old.items)) }
@@ -235,7 +235,7 @@ impl Live {
         ensures same_tales { OnErr result (finished.new.items ≡ finished.old.items) }
     {
         let mut next = list_for(alloc, &mut self.room, &mut self.done, count)?;
-        let told = close_into(
+        let landed = close_into(
             alloc,
             step,
             &self.tasks,
@@ -245,7 +245,7 @@ impl Live {
             start_arrays,
             finished,
         )?;
-        if let Some(blame) = told {
+        if let Some(blame) = landed {
             return Ok(Some(blame));
         }
         let last = std::mem::replace(&mut self.tasks, next);

@@ -105,7 +105,11 @@ pub(crate) fn set_undone(done: &mut Vec<Option<Segment>>, tasks: &[Task])
 }
 
 /// Puts the next live tasks into a list, with nothing delivered for them. Doesn't allocate: there is room in the other two.
-pub(crate) fn go_on(done: &mut Vec<Option<Segment>>, living: &mut Vec<Task>, list: &mut Vec<Task>)
+pub(crate) fn list_next(
+    done: &mut Vec<Option<Segment>>,
+    living: &mut Vec<Task>,
+    list: &mut Vec<Task>,
+)
     requires none_yet { living.old.items ≡ [] }
     requires room { length (living_by done.old.items) ≤ vec_capacity living.old }
     requires places { length (living_by done.old.items) ≤ vec_capacity done.old }

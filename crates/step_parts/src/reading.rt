@@ -1,6 +1,6 @@
 //! What is read of a round.
 ghost use Rattle.std.specs.Prelude.{◌≡◌, ◌≤◌, ◌++◌, length, false, IfOk, OnOk, MatchOption, map};
-ghost use Rattle.step_parts.specs.Slots.{all_prints, all_told};
+ghost use Rattle.step_parts.specs.Slots.{all_prints, all_counts};
 ghost use Rattle.step_parts.specs.SlotParts.{IsPlaceOf};
 ghost use Rattle.step_parts.specs.Taking.{is_live};
 
@@ -101,12 +101,12 @@ fn copy_prints(prints: &mut Vec<Print>, more: &[Print]) -> Result<(), AllocError
 
 /// Returns the records, superstep by superstep.
 pub fn records_of(alloc: Global, finished: &[Finished]) -> Result<Vec<PhaseRecord>, AllocError>
-    ensures { IfOk result (λ records. records.items ≡ all_told finished.now) }
+    ensures { IfOk result (λ records. records.items ≡ all_counts finished.now) }
 {
     let mut records = Vec::with_capacity(alloc, finished.len())?;
     let mut rest = finished;
     while let Some((one, after)) = rest.split_first() {
-        records.push(one.told)?;
+        records.push(one.counts)?;
         rest = after;
     }
     Ok(records)

@@ -185,7 +185,7 @@ impl<'a> Slot<'a> {
 #[derive(Drop)]
 pub struct Finished {
     pub prints: Vec<Print>,
-    pub told: PhaseRecord,
+    pub counts: PhaseRecord,
 }
 
 impl Model for Finished {
@@ -193,5 +193,5 @@ impl Model for Finished {
 
     ghost Value = { FinishedValue };
 
-    ghost view = { λ f. record { prints = f.prints.items; told = f.told } };
+    ghost view = { λ f. record { prints = f.prints.items; counts = f.counts } };
 }

@@ -1,13 +1,13 @@
 //! What `run` reports of its progress, to a `Progress` of the test, and that workers share a job's segments.
 use crate::runs::{SWAP, status_of};
-use bsp_cli::{Progress, WatchEnd};
+use bsp_cli::{ObserveEnd, Progress};
 use phase_records::JobStatus;
 use std::alloc::Global;
 use std::sync::Wait;
 use std::sync::atomic::{AtomicU64, Ordering};
 use std::thread;
 use std::thread::Threads;
-use step_core::Watch;
+use step_core::Observe;
 use superstep_memory::arrays::Arrays;
 use superstep_memory::path::Path;
 use worker_pool::Gate;
@@ -45,14 +45,14 @@ fn is_start(path: &Path, number: u16) -> bool {
     path.as_slice() == [number].as_slice()
 }
 
-impl Watch for Counter<'_> {
+impl Observe for Counter<'_> {
     fn superstep(&mut self, _step: u32, _arrays: &Arrays, tasks: usize) {
         add(&self.counts.supersteps, 1);
         add(&self.counts.tasks, tasks as u64);
     }
 }
 
-impl WatchEnd for Counter<'_> {
+impl ObserveEnd for Counter<'_> {
     fn end(self) {
         add(&self.counts.ends, 1);
     }

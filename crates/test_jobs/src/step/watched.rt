@@ -1,7 +1,7 @@
 //! What the watcher of a job on one thread gets: each superstep once, with its number and how many tasks live.
 use crate::left::job_of;
 use std::alloc::Global;
-use step_core::{Watch, run_watched};
+use step_core::{Observe, run_observed};
 use superstep_memory::arrays::Arrays;
 
 // A task that spawns two.
@@ -43,7 +43,7 @@ struct Notes {
     count: usize,
 }
 
-impl Watch for Notes {
+impl Observe for Notes {
     fn superstep(&mut self, step: u32, _arrays: &Arrays, tasks: usize) {
         if let Some(call) = self.calls.get_mut(self.count) {
             *call = (step, tasks);
@@ -70,7 +70,7 @@ fn makes_calls(alloc: Global, text: &str, want: &[(u32, usize)]) -> bool {
         calls: [(0, 0); 8],
         count: 0,
     };
-    match run_watched(alloc, &job, 3, &mut notes) {
+    match run_observed(alloc, &job, 3, &mut notes) {
         Ok(_) => are(&notes, want),
         Err(_) => false,
     }

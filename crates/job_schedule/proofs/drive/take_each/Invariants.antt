@@ -6,7 +6,7 @@ use Rattle.job_schedule.proofs.drive.take_each.Given as goal
 
 abbrev pub invariant-loop-step : goal.invariant-loop-step
 invariant-loop-step l = record {
-  told : map answer_seen l.told.items ++ answers (world_of l.schedule) l.rest ≡ answers (world_of l.fn.schedule) l.fn.steps;
+  replies : map answer_seen l.replies.items ++ answers (world_of l.schedule) l.rest ≡ answers (world_of l.fn.schedule) l.fn.steps;
   reached : IsReached (world_of l.schedule);
   kept : IsKept l.schedule.round (world_of l.schedule);
 }

@@ -7,7 +7,7 @@ use Rattle.job_schedule.proofs.drive.take_steps.Goals as goal
 
 pub returns : goal.returns
 returns c =
-    subst (λ (w : World). IfOk c.take_each.result (λ told. map answer_seen told.items ≡ answers w c.args.steps.now))
+    subst (λ (w : World). IfOk c.take_each.result (λ replies. map answer_seen replies.items ≡ answers w c.args.steps.now))
     c.in_ok-schedule.ensures.world c.take_each.ensures
 
 pub take_each-requires-clause-reached : goal.take_each-requires-clause-reached

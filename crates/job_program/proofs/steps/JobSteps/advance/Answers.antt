@@ -5,6 +5,6 @@ use Rattle.job_program.proofs.steps.JobSteps.advance.Goals as goal
 pub returns-then-branch : goal.returns-then-branch
 returns-then-branch c =
     let le : c.loop.counter + 1 ≤ c.args.count = omega (arith, c.loop-test.true) in
-    ended_on (c.loop.counter + 1) c.args.count c.args.self.now c.go_on.new.self
-    (more_on c.loop.counter c.args.self.now c.loop.self c.go_on.new.self c.loop.invariant c.in_ok-go_on.ensures.later)
-    (c.in_ok-go_on.ensures.over c.if-branch.true) le
+    ended_on (c.loop.counter + 1) c.args.count c.args.self.now c.step_and_discard.new.self
+    (more_on c.loop.counter c.args.self.now c.loop.self c.step_and_discard.new.self c.loop.invariant c.in_ok-step_and_discard.ensures.later)
+    (c.in_ok-step_and_discard.ensures.over c.if-branch.true) le

@@ -10,15 +10,15 @@ is_done-requires c =
     (c.is_of_step.ensures.0 c.if-not-is_of_step.false) c.path-known.ensures.known in
     subst (λ p. p < length c.self.inside.live) (sym c.place-place.ensures) (met_below _ _ m)
 
-pub returns-then-is_done-clause-told : goal.returns-then-is_done-clause-told
-returns-then-is_done-clause-told c =
+pub returns-then-is_done-clause-answered : goal.returns-then-is_done-clause-answered
+returns-then-is_done-clause-answered c =
     let m = meets (round_of c.self.inside) _ c.self.invariant.0 c.self.view_is c.requires.running _ c.requires.job
     (c.is_of_step.ensures.0 c.if-not-is_of_step.false) c.path-known.ensures.known in
     is_double _ _ c.self.view_is _ m
     (ap (λ p. is_done (slice_get c.self.inside.live p)) (sym c.place-place.ensures) ∙ sym c.is_done.ensures ∙ c.if-is_done.true)
 
-pub returns-clause-told : goal.returns-clause-told
-returns-clause-told c =
+pub returns-clause-answered : goal.returns-clause-answered
+returns-clause-answered c =
     let m = meets (round_of c.self.inside) _ c.self.invariant.0 c.self.view_is c.requires.running _ c.requires.job
     (c.is_of_step.ensures.0 c.if-not-is_of_step.false) c.path-known.ensures.known in
     is_first _ _ c.self.view_is _ m

@@ -24,9 +24,9 @@ pub returns-clause-next : goal.returns-clause-next
 returns-clause-next c = λ none.
     let same = shown_living (arc_value c.self.inside.tasks).items c.self.inside.done.items c.args.self.now c.self.invariant c.self.view_is in
     (λ i. beside (arc_value (c.replace-last.ensures.after i)).items c.close_into.new.done.items)
-    ∙ (λ i. beside (arc_value c.close_into.new.next).items (c.in_ok-told.ensures.none c.in_default.is i))
+    ∙ (λ i. beside (arc_value c.close_into.new.next).items (c.in_ok-landed.ensures.none c.in_default.is i))
     ∙ beside_fresh (arc_value c.close_into.new.next).items
     ∙ ap (map fresh_slot)
-    (c.in_ok-told.ensures.tasks c.in_default.is
+    (c.in_ok-landed.ensures.tasks c.in_default.is
     ∙ ap (λ (ds : List (Option SegmentValue)). in_path_order path_in (living_by ds)) c.in_ok-next.ensures.same
     ∙ ap (in_path_order path_in) (sym same))

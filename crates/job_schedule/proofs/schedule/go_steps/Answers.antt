@@ -1,7 +1,7 @@
 use Rattle.std.proofs.Common.{◌∙◌, ◌-◌, ap, sym, arith}
 use Rattle.job_schedule.specs.World.{gone}
 use Rattle.job_schedule.proofs.Initial.{gone_one}
-use Rattle.job_schedule.proofs.schedule.go_on.Goals as goal
+use Rattle.job_schedule.proofs.schedule.go_steps.Goals as goal
 
 pub loop-left-preserved : goal.loop-left-preserved
 loop-left-preserved c =

@@ -3,7 +3,7 @@ use Rattle.std.proofs.lemmas.List.{length-reverse}
 use Rattle.superstep_memory.specs.PathOrder.{in_path_order}
 use Rattle.step_parts.specs.SlotParts.{path_in, living_by}
 use Rattle.superstep_memory.proofs.InOrder.{count_in_order}
-use Rattle.step_parts.proofs.next.go_on.Goals as goal
+use Rattle.step_parts.proofs.next.list_next.Goals as goal
 
 pub set_undone-requires-clause-room : goal.set_undone-requires-clause-room
 set_undone-requires-clause-room c =

@@ -1,5 +1,5 @@
 use Rattle.job_program.proofs.Stepped.{one_on}
-use Rattle.job_program.proofs.steps.JobSteps.go_on.Goals as goal
+use Rattle.job_program.proofs.steps.JobSteps.step_and_discard.Goals as goal
 
 pub returns-clause-later : goal.returns-clause-later
 returns-clause-later c =
