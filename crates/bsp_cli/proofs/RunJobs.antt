@@ -4,14 +4,14 @@ use Rattle.std.specs.Prelude.{IfSome}
 use Rattle.phase_records.specs.ReportValue.{ReportValue}
 use Rattle.phase_records.specs.ReportText.{report_text}
 use Rattle.job_view.specs.Look.{LookValue}
-use Rattle.report_json.specs.ReportJson.{json_text}
+use Rattle.job_view.specs.ReportJson.{json_text}
 use Rattle.phase_records.specs.Status.{Status, Ended, Fault, Limit}
 use Rattle.phase_records.specs.StatusSeen.{status_seen}
 use Rattle.phase_records.specs.declared.record.JobStatus.{JobStatus}
 use Rattle.task_code.specs.BodyValue.{BodyValue}
 use Rattle.task_code.specs.JobValue.{JobValue}
-use Rattle.task_actions.specs.Meaning.{Plan}
-use Rattle.task_actions.specs.Views.{plans}
+use Rattle.task_lang.specs.Meaning.{Plan}
+use Rattle.task_lang.specs.Views.{plans}
 use Rattle.job_reader.specs.Trees.{body_tree, job_tree}
 use Rattle.job_reader.specs.Reading.{job_in}
 use Rattle.step_core.specs.Program.{Program, program_of}

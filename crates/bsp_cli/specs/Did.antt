@@ -4,7 +4,7 @@ use Rattle.std.specs.Io.KnownBytes.{Appends, Keeps}
 use Rattle.text_lines.specs.declared.refusal.Refusal.{Refusal}
 use Rattle.phase_records.specs.ReportText.{report_text}
 use Rattle.job_view.specs.Look.{LookValue}
-use Rattle.report_json.specs.ReportJson.{json_text}
+use Rattle.job_view.specs.ReportJson.{json_text}
 use Rattle.trace_text.specs.Trace.{asked_of}
 use Rattle.trace_text.specs.Outcome.{WritesAnswers, WritesBeginning}
 use Rattle.job_reader.specs.Reading.{job_in}

@@ -4,7 +4,7 @@ use Rattle.phase_records.specs.ReportValue.{ReportValue}
 use Rattle.job_picture.specs.Picture.{picture}
 use Rattle.job_reader.specs.Trees.{JobTree}
 use Rattle.job_reader.specs.Reading.{job_in}
-use Rattle.job_rows.specs.Drawing.{drawing}
+use Rattle.job_view.specs.Drawing.{drawing}
 use Rattle.job_view.specs.Look.{LookValue}
 use Rattle.step_core.specs.Program.{Program}
 use Rattle.text_lines.specs.declared.refusal.Refusal.{Refusal}

@@ -4,7 +4,7 @@ use Rattle.std.specs.Io.KnownBytes.{Appends}
 use Rattle.devices.specs.Device.{AppendsBeginning}
 use Rattle.phase_records.specs.Status.{Status, Ended, Fault, Limit}
 use Rattle.phase_records.specs.ReportValue.{ReportValue}
-use Rattle.task_actions.specs.Meaning.{Plan}
+use Rattle.task_lang.specs.Meaning.{Plan}
 use Rattle.job_reader.specs.Trees.{BodyTree, JobTree}
 use Rattle.job_reader.specs.Reading.{job_in}
 use Rattle.job_reader.specs.Grammar.{canonical_text}

@@ -4,11 +4,11 @@ use Rattle.phase_records.specs.ReportValue.{ReportValue}
 use Rattle.phase_records.specs.ReportText.{report_text}
 use Rattle.task_code.specs.JobValue.{JobValue}
 use Rattle.task_code.specs.BodyValue.{BodyValue}
-use Rattle.task_actions.specs.Meaning.{Plan}
-use Rattle.task_actions.specs.Views.{plans}
+use Rattle.task_lang.specs.Meaning.{Plan}
+use Rattle.task_lang.specs.Views.{plans}
 use Rattle.job_reader.specs.Trees.{body_tree, job_tree}
-use Rattle.step_parts.specs.Program.{Program, program_of}
-use Rattle.step_parts.specs.JobMeaning.{report_of}
+use Rattle.job_program.specs.Program.{Program, program_of}
+use Rattle.job_program.specs.JobMeaning.{report_of}
 use Rattle.bsp_job.specs.declared.Told.{Told}
 use Rattle.bsp_job.specs.Given.{IsGiven}
 use Rattle.bsp_job.specs.Jobs.{GivesReport, plan_of, program_of_tree, status_number}

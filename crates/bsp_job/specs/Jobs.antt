@@ -3,7 +3,7 @@ use Rattle.std.specs.Prelude.{◌≡◌, ◌≢◌, ◌⊎◌, ℕ, ℤ, pos, Li
 use Rattle.phase_records.specs.Status.{Status, Ended, Fault, Limit}
 use Rattle.phase_records.specs.ReportValue.{ReportValue}
 use Rattle.phase_records.specs.ReportText.{report_text}
-use Rattle.task_actions.specs.Meaning.{Plan}
+use Rattle.task_lang.specs.Meaning.{Plan}
 use Rattle.text_lines.specs.Refusals.{code_number}
 use Rattle.text_lines.specs.declared.refusal.Refusal.{Refusal}
 use Rattle.job_reader.specs.Trees.{BodyTree, JobTree}
@@ -11,8 +11,8 @@ use Rattle.job_reader.specs.Reading.{job_in}
 use Rattle.job_reader.specs.Begins.{BeginsWell}
 use Rattle.job_reader.specs.Grammar.{canonical_text}
 use Rattle.job_reader.specs.Upgrade.{upgraded_tree}
-use Rattle.step_parts.specs.Program.{Program}
-use Rattle.step_parts.specs.JobMeaning.{report_of}
+use Rattle.job_program.specs.Program.{Program}
+use Rattle.job_program.specs.JobMeaning.{report_of}
 use Rattle.bsp_job.specs.declared.Told.{Told}
 use Rattle.bsp_job.specs.Given.{IsGiven}
 

@@ -14,13 +14,13 @@ use Rattle.task_code.specs.declared.code.Expr.{Expr}
 use Rattle.task_code.specs.declared.code.Line.{Line}
 use Rattle.task_code.specs.declared.code.Line.TheVariants as line
 use Rattle.task_code.proofs.Jumps.{rest-else, rest-end, some-within}
-use Rattle.task_actions.specs.Meaning.{Doing, Effect, Goes, Syncs, Stops, Fails, Segment, Setting, Task, act, after_effect, after_test, ended, faulted, index_value, put, put_into, run, set_local, spawn, started, value_of, with_ok}
+use Rattle.task_lang.specs.Meaning.{Doing, Effect, Goes, Syncs, Stops, Fails, Segment, Setting, Task, act, after_effect, after_test, ended, faulted, index_value, put, put_into, run, set_local, spawn, started, value_of, with_ok}
 use Rattle.programs.specs.Meaning.{Stopped}
-use Rattle.task_actions.specs.declared.fault.Fault.{Fault}
-use Rattle.task_actions.specs.declared.fault.Fault.TheVariants.{Depth as Deep, Spawns as Many}
-use Rattle.task_actions.specs.declared.scene.Effect.{Effect as CodeEffect}
-use Rattle.task_actions.specs.declared.scene.Effect.TheVariants as told
-use Rattle.task_actions.specs.declared.scene.Move.TheVariants.{To as ToPlace}
+use Rattle.task_lang.specs.declared.fault.Fault.{Fault}
+use Rattle.task_lang.specs.declared.fault.Fault.TheVariants.{Depth as Deep, Spawns as Many}
+use Rattle.task_lang.specs.declared.scene.Effect.{Effect as CodeEffect}
+use Rattle.task_lang.specs.declared.scene.Effect.TheVariants as told
+use Rattle.task_lang.specs.declared.scene.Move.TheVariants.{To as ToPlace}
 use Rattle.task_lang.proofs.Runs.{run-again, run-do, run-ends, run-if, run-spent, run-while}
 use Rattle.fault_reasons.specs.Done.{Done}
 use Rattle.fault_reasons.specs.Laws.{IsOf, WalksAreSegments, done_of}

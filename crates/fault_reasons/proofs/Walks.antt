@@ -2,8 +2,8 @@
 use Rattle.std.proofs.Common.{◌≡◌, ℕ, zero, suc, ◌+◌, ◌-◌, ◌<◌, List, Option, Some, None, refl, sym, ap, ◌∙◌, arith}
 use Rattle.std.specs.Prelude.{slice_get}
 use Rattle.task_code.specs.declared.code.Line.{Line}
-use Rattle.task_actions.specs.declared.scene.Move.{Move}
-use Rattle.task_actions.specs.Meaning.{Setting}
+use Rattle.task_lang.specs.declared.scene.Move.{Move}
+use Rattle.task_lang.specs.Meaning.{Setting}
 use Rattle.fault_reasons.specs.Done.{Done}
 use Rattle.fault_reasons.specs.Walk.{after_move, costing, moved_at, spent, walked}
 use Rattle.fault_reasons.specs.declared.walk.End.{End}

@@ -2,11 +2,11 @@
 use Rattle.std.specs.Prelude.{◌≡◌, ℕ, ℤ, Bool, true, false, List, map, Option, Some, None}
 use Rattle.phase_records.specs.Status.{Status, Ended, Fault, Limit}
 use Rattle.programs.specs.Supersteps.{status}
-use Rattle.step_parts.specs.JobMeaning.{so_far}
-use Rattle.step_parts.specs.Program.{program_of}
+use Rattle.job_program.specs.JobMeaning.{so_far}
+use Rattle.job_program.specs.Program.{program_of}
 use Rattle.task_code.specs.JobValue.{JobValue}
-use Rattle.task_actions.specs.TaskValue.{TaskValue}
-use Rattle.task_actions.specs.Views.{plans, task_of}
+use Rattle.task_lang.specs.TaskValue.{TaskValue}
+use Rattle.task_lang.specs.Views.{plans, task_of}
 
 -- The job gets to its superstep of this number: if it were the limit, that is where the job would end.
 abbrev pub GetsTo : JobValue → ℕ → Type 0

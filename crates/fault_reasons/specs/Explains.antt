@@ -3,7 +3,7 @@ use Rattle.std.specs.Prelude.{◌≡◌, ℕ, ℤ, List, Option, Some, None, Res
 use Rattle.phase_records.specs.Status.{Status, Ended, Fault, Limit}
 use Rattle.text_lines.specs.declared.refusal.Refusal.{Refusal}
 use Rattle.task_code.specs.JobValue.{JobValue}
-use Rattle.task_actions.specs.TaskValue.{TaskValue}
+use Rattle.task_lang.specs.TaskValue.{TaskValue}
 use Rattle.job_reader.specs.Reading.{job_in}
 use Rattle.job_reader.specs.Trees.{JobTree, job_tree}
 use Rattle.fault_reasons.specs.Begun.{Begins, GetsTo}

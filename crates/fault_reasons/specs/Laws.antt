@@ -2,14 +2,14 @@
 use Rattle.std.specs.Prelude.{◌≡◌, ℕ, true, List, length, Some}
 use Rattle.phase_records.specs.ReportValue.{ReportValue}
 use Rattle.phase_records.specs.Status.{Status, Ended, Fault, Limit}
-use Rattle.step_parts.specs.JobMeaning.{report_of}
-use Rattle.step_parts.specs.Program.{program_of}
+use Rattle.job_program.specs.JobMeaning.{report_of}
+use Rattle.job_program.specs.Program.{program_of}
 use Rattle.task_code.specs.JobValue.{JobValue}
-use Rattle.step_parts.specs.OrderValue.{is_synced}
+use Rattle.job_program.specs.OrderValue.{is_synced}
 use Rattle.task_code.specs.Reading.{IsMatched, tree_of}
 use Rattle.task_code.specs.Tree.{rest_at}
 use Rattle.task_code.specs.declared.code.Line.{Line}
-use Rattle.task_actions.specs.Meaning.{Doing, Segment, Setting, faulted, run}
+use Rattle.task_lang.specs.Meaning.{Doing, Segment, Setting, faulted, run}
 use Rattle.programs.specs.Meaning.{Stopped}
 use Rattle.fault_reasons.specs.Begun.{GetsTo}
 use Rattle.fault_reasons.specs.Done.{Done}

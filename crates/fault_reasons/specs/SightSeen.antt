@@ -1,6 +1,6 @@
 -- What a statement reads, as the code has it.
 use Rattle.std.specs.Prelude.{map, string_bytes}
-use Rattle.task_actions.specs.Views.{setting}
+use Rattle.task_lang.specs.Views.{setting}
 use Rattle.fault_reasons.specs.Items.{Seen}
 use Rattle.fault_reasons.specs.declared.items.Sight.{Sight}
 

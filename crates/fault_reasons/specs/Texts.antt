@@ -9,12 +9,12 @@ use Rattle.phase_records.specs.ReportText.{path_text}
 use Rattle.task_code.specs.BodyValue.{BodyValue}
 use Rattle.task_code.specs.JobValue.{JobValue}
 use Rattle.task_code.specs.declared.code.Line.{Line}
-use Rattle.task_actions.specs.FaultCode.{code_of}
-use Rattle.task_actions.specs.Meaning.{Setting}
-use Rattle.task_actions.specs.TaskValue.{TaskValue}
-use Rattle.task_actions.specs.Views.{plans}
-use Rattle.task_actions.specs.declared.fault.Fault.{Fault}
-use Rattle.task_actions.specs.declared.fault.Fault.TheVariants.{Overflow, DivideByZero, Index, Budget, Depth, Spawns}
+use Rattle.task_lang.specs.FaultCode.{code_of}
+use Rattle.task_lang.specs.Meaning.{Setting}
+use Rattle.task_lang.specs.TaskValue.{TaskValue}
+use Rattle.task_lang.specs.Views.{plans}
+use Rattle.task_lang.specs.declared.fault.Fault.{Fault}
+use Rattle.task_lang.specs.declared.fault.Fault.TheVariants.{Overflow, DivideByZero, Index, Budget, Depth, Spawns}
 use Rattle.job_words.specs.Words.{name_at}
 use Rattle.fault_reasons.specs.Done.{Done}
 use Rattle.fault_reasons.specs.Items.{listed, reads}

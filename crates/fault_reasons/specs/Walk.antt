@@ -10,13 +10,13 @@ use Rattle.task_code.specs.declared.code.Action.{Action}
 use Rattle.task_code.specs.declared.code.Action.TheVariants.{Let, Put as PutAt, Print, Spawn, Sync, Stop}
 use Rattle.task_code.specs.declared.code.Line.{Line}
 use Rattle.task_code.specs.declared.code.Line.TheVariants as line
-use Rattle.task_actions.specs.declared.fault.Fault.{Fault}
-use Rattle.task_actions.specs.declared.fault.Fault.TheVariants.{Budget, Depth, Spawns, Index as NoCell}
-use Rattle.task_actions.specs.declared.scene.Effect.{Effect}
-use Rattle.task_actions.specs.declared.scene.Effect.TheVariants.{Goes, Syncs, Stops, Fails}
-use Rattle.task_actions.specs.declared.scene.Move.{Move}
-use Rattle.task_actions.specs.declared.scene.Move.TheVariants as move
-use Rattle.task_actions.specs.Meaning.{Setting, value_of, index_value}
+use Rattle.task_lang.specs.declared.fault.Fault.{Fault}
+use Rattle.task_lang.specs.declared.fault.Fault.TheVariants.{Budget, Depth, Spawns, Index as NoCell}
+use Rattle.task_lang.specs.declared.scene.Effect.{Effect}
+use Rattle.task_lang.specs.declared.scene.Effect.TheVariants.{Goes, Syncs, Stops, Fails}
+use Rattle.task_lang.specs.declared.scene.Move.{Move}
+use Rattle.task_lang.specs.declared.scene.Move.TheVariants as move
+use Rattle.task_lang.specs.Meaning.{Setting, value_of, index_value}
 use Rattle.fault_reasons.specs.Done.{Done}
 use Rattle.fault_reasons.specs.declared.walk.End.{End}
 use Rattle.fault_reasons.specs.declared.walk.End.TheVariants as end

@@ -12,8 +12,8 @@ use Rattle.task_code.specs.declared.code.Expr.TheVariants.{One, Two}
 use Rattle.task_code.specs.declared.code.Action.TheVariants.{Let, Put, Print, Spawn, Sync}
 use Rattle.task_code.specs.declared.code.Line.{Line}
 use Rattle.task_code.specs.declared.code.Line.TheVariants.{Do, If, Else, EndIf, While, EndWhile}
-use Rattle.task_actions.specs.TaskValue.{TaskValue}
-use Rattle.task_actions.specs.declared.fault.Fault.TheVariants.{Budget}
+use Rattle.task_lang.specs.TaskValue.{TaskValue}
+use Rattle.task_lang.specs.declared.fault.Fault.TheVariants.{Budget}
 use Rattle.fault_reasons.specs.Texts.{Again, fault_text, fresh, limit_text, setting_in}
 use Rattle.fault_reasons.specs.Walk.{walked}
 use Rattle.fault_reasons.specs.declared.walk.End.TheVariants.{Fault as FaultAt}

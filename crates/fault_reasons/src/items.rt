@@ -22,9 +22,9 @@ ghost use Rattle.fault_reasons.specs.SightSeen.{sight_seen};
 use crate::names::{push_array_name, push_cell, push_index};
 use crate::pieces::{push_field, push_text};
 use std::alloc::{AllocError, Global};
-use task_actions::value::{cell_value, index_value};
 use task_code::code::{Action, Cell, Expr, Index, Line, Operand};
 use task_lang::scene::Scene;
+use task_lang::value::{cell_value, index_value};
 
 /// What a statement reads: the scene of its task, with the names and the values of its locals.
 #[derive(Clone, Copy)]

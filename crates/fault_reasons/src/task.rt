@@ -2,7 +2,7 @@
 ghost use Rattle.std.specs.Prelude.{◌≡◌, ◌++◌, OnOk, IfOk, map, slice_get, string_bytes};
 ghost use Rattle.std.specs.Option.{option_map, option_copied};
 ghost use Rattle.task_code.specs.Reading.{IsMatched};
-ghost use Rattle.task_actions.specs.Views.{setting};
+ghost use Rattle.task_lang.specs.Views.{setting};
 ghost use Rattle.phase_records.specs.ReportText.{path_text};
 ghost use Rattle.fault_reasons.specs.AgainSeen.{again_seen};
 ghost use Rattle.fault_reasons.specs.Done.{Done};

@@ -1,19 +1,19 @@
 //! Where a segment ends, and what it did up to there: line by line, by what each line says.
 ghost use Rattle.std.specs.Prelude.{◌≡◌, ◌≤◌, Some, IfOk, length, slice_get};
 ghost use Rattle.task_code.specs.Reading.{IsMatched};
-ghost use Rattle.task_actions.specs.Meaning.{value_of as value_in};
-ghost use Rattle.task_actions.specs.Views.{setting};
+ghost use Rattle.task_lang.specs.Meaning.{value_of as value_in};
+ghost use Rattle.task_lang.specs.Views.{setting};
 ghost use Rattle.fault_reasons.specs.Walk.{acted, costing, free_to as free_to_of, moved, moved_at, spent as spent_at, statement_count, tested, walked, with_local, with_put, with_spawn};
 
 use std::alloc::AllocError;
 use std::marker::Model;
 use superstep_memory::arrays::{Put, PutKind};
-use task_actions::value::{index_value, value_of};
 use task_code::code::{Action, Cell, Expr, Line};
 use task_code::operation::line_at;
 use task_lang::fault::Fault;
 use task_lang::scene::{Effect, Move, Scene};
 use task_lang::segment::BUDGET;
+use task_lang::value::{index_value, value_of};
 
 /// What a segment has done so far: the locals that it has set, its puts in order, and how many tasks it has spawned.
 #[derive(Drop)]

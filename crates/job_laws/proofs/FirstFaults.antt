@@ -5,7 +5,7 @@ use Rattle.std.proofs.lemmas.Bool.{ltb-true, ltb-false}
 use Rattle.std.specs.Option.{option_map}
 use Rattle.superstep_memory.specs.Landing.{first_over}
 use Rattle.task_lang.proofs.AllSegments.{faults-have-codes}
-use Rattle.task_actions.specs.Meaning.{Task, After, Segment, segment_of}
+use Rattle.task_lang.specs.Meaning.{Task, After, Segment, segment_of}
 use Rattle.programs.specs.Meaning.{Synced, Stopped, Faulted}
 use Rattle.step_core.specs.Program.{Program}
 use Rattle.step_core.specs.Superstep.{State, segments, too_many, closed, next_live}

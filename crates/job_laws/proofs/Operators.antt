@@ -3,9 +3,9 @@ use Rattle.std.proofs.Common.{◌≡◌, ◌≢◌, ◌↔◌, ℕ, suc, ◌<◌
 use Rattle.std.proofs.lemmas.Int.{ints, quot-rem, rem_below}
 use Rattle.text_lines.specs.Number.{fits_i64}
 use Rattle.text_lines.proofs.NumbersLemmas.{fits_back}
-use Rattle.task_actions.specs.declared.fault.Fault.{Fault}
-use Rattle.task_actions.specs.declared.fault.Fault.TheVariants.{Overflow, DivideByZero}
-use Rattle.task_actions.specs.Meaning.{in_range, one_if}
+use Rattle.task_lang.specs.declared.fault.Fault.{Fault}
+use Rattle.task_lang.specs.declared.fault.Fault.TheVariants.{Overflow, DivideByZero}
+use Rattle.task_lang.specs.Meaning.{in_range, one_if}
 use Rattle.job_laws.specs.WorkedOperators.{IsDivided, OperatorsAreArithmetic}
 
 fitting : (z : ℤ) → FitsSigned w64 z → in_range z ≡ Ok z

@@ -12,7 +12,7 @@ use Rattle.phase_records.specs.ReportText.{steps_text, array_line, status_line}
 use Rattle.phase_records.specs.Status.{Status}
 use Rattle.phase_records.specs.ReportLaws.{AreFrom, AreWithin, of_step, each_step}
 use Rattle.phase_records.proofs.ReportLawProofs.{each-step-has-its-prints}
-use Rattle.task_actions.specs.Meaning.{Task, After, Segment}
+use Rattle.task_lang.specs.Meaning.{Task, After, Segment}
 use Rattle.programs.specs.Meaning.{Synced, Stopped, Faulted}
 use Rattle.step_core.specs.Program.{Program}
 use Rattle.step_core.specs.Superstep.{State, superstep, segments, fault_in, closed, next_live, job_says}

@@ -1,8 +1,8 @@
 -- When a task may spawn.
 use Rattle.std.proofs.Common.{◌≡◌, ℕ, ◌+◌, ◌<◌, ◌≤◌, Bool, true, false, nat_le, length, ℤ, refl, arith}
 use Rattle.std.proofs.lemmas.Grind.{common_steps}
-use Rattle.task_actions.specs.declared.fault.Fault.TheVariants.{Spawns}
-use Rattle.task_actions.specs.Meaning.{Setting, Doing, Fails, spawn}
+use Rattle.task_lang.specs.declared.fault.Fault.TheVariants.{Spawns}
+use Rattle.task_lang.specs.Meaning.{Setting, Doing, Fails, spawn}
 use Rattle.job_laws.specs.WorkedFaults.{SpawnsAreNumbered}
 
 at_least : (m n : ℕ) → m ≤ n → nat_le m n ≡ true

@@ -1,8 +1,8 @@
 -- What the outcome of a superstep says, and in which order a delivery names its spawns.
 use Rattle.std.proofs.Common.{◌≡◌, ℕ, ◌<◌, ◌≤◌, nat_lt, true, false, List, length, Some, refl, sym, ap, ◌∙◌, subst, arith}
 use Rattle.std.proofs.lemmas.Grind.{common_steps}
-use Rattle.task_actions.specs.Meaning as meaning
-use Rattle.task_actions.specs.Meaning.{Task, Segment}
+use Rattle.task_lang.specs.Meaning as meaning
+use Rattle.task_lang.specs.Meaning.{Task, Segment}
 use Rattle.task_lang.specs.Laws.{children}
 use Rattle.task_lang.proofs.AllSegments.{numbers-its-spawns}
 use Rattle.step_core.specs.Program.{program_of}

@@ -7,7 +7,7 @@ use Rattle.task_code.specs.declared.code.Index.TheVariants.{Number}
 use Rattle.task_code.specs.declared.code.Expr.TheVariants.{One}
 use Rattle.task_code.specs.declared.code.Action.TheVariants.{Put, Spawn, Sync}
 use Rattle.task_code.specs.Tree.{Done, Do}
-use Rattle.task_actions.specs.Meaning.{Task, Segment, segment_of, started}
+use Rattle.task_lang.specs.Meaning.{Task, Segment, segment_of, started}
 use Rattle.task_lang.specs.Laws.{children}
 use Rattle.step_core.specs.Program.{Program, program_of}
 use Rattle.step_core.specs.Superstep.{segments, next_live}
@@ -15,8 +15,8 @@ use Rattle.programs.specs.Superstep.{first_fault, log_of}
 use Rattle.step_core.specs.JobMeaning.{initial, state_at}
 use Rattle.step_core.specs.OrderValue.{DeliveryValue, IsDelivery, delivered_segment, spawned_paths}
 use Rattle.step_core.specs.Taking.{outcome_of}
-use Rattle.step_parts.specs.declared.fault.Outcome.{Outcome}
-use Rattle.step_parts.specs.declared.fault.Outcome.TheVariants.{Landed, Faulted, TooMany, Overflowed}
+use Rattle.job_program.specs.declared.fault.Outcome.{Outcome}
+use Rattle.job_program.specs.declared.fault.Outcome.TheVariants.{Landed, Faulted, TooMany, Overflowed}
 use Rattle.job_laws.specs.Worked.{cell, arg, number, body, start, array, program, faulting, overflowing, in_time, faulting_first}
 use Rattle.job_laws.specs.WorkedFaults.{spawning}
 

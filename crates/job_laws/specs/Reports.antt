@@ -6,9 +6,9 @@ use Rattle.phase_records.specs.declared.record.PhaseRecord.{PhaseRecord}
 use Rattle.phase_records.specs.ReportValue.{ReportValue}
 use Rattle.phase_records.specs.ReportText.{report_text, array_line, status_line}
 use Rattle.phase_records.specs.ReportLaws.{AreFrom, AreWithin, of_step, each_step}
-use Rattle.task_actions.specs.FaultCode.{code_of}
-use Rattle.task_actions.specs.declared.fault.Fault.{Fault}
-use Rattle.task_actions.specs.Meaning.{Task, After}
+use Rattle.task_lang.specs.FaultCode.{code_of}
+use Rattle.task_lang.specs.declared.fault.Fault.{Fault}
+use Rattle.task_lang.specs.Meaning.{Task, After}
 use Rattle.programs.specs.Meaning.{Synced, Stopped, Faulted}
 use Rattle.step_core.specs.Program.{Program}
 use Rattle.step_core.specs.Superstep.{State, superstep, segments, next_live}

@@ -17,7 +17,7 @@ use Rattle.task_code.specs.declared.code.Expr.{Expr}
 use Rattle.task_code.specs.declared.code.Expr.TheVariants.{One, Two}
 use Rattle.task_code.specs.declared.code.Action.TheVariants.{Let, Put, Print, Spawn, Sync}
 use Rattle.task_code.specs.Tree.{Block, Done, Do, While}
-use Rattle.task_actions.specs.Meaning.{Plan}
+use Rattle.task_lang.specs.Meaning.{Plan}
 use Rattle.step_core.specs.Program.{Program}
 use Rattle.step_core.specs.JobMeaning.{report_of}
 

@@ -8,9 +8,9 @@ use Rattle.task_code.specs.declared.code.Operand.TheVariants.{Plain, Cell as At}
 use Rattle.task_code.specs.declared.code.Operator.TheVariants.{Add, Below}
 use Rattle.task_code.specs.declared.code.Expr.TheVariants.{One, Two}
 use Rattle.task_code.specs.declared.code.Action.TheVariants.{Let, Put, Print, Spawn, Sync}
-use Rattle.task_actions.specs.declared.fault.Fault.TheVariants.{Depth, Spawns}
+use Rattle.task_lang.specs.declared.fault.Fault.TheVariants.{Depth, Spawns}
 use Rattle.task_code.specs.Tree.{Block, Done, Do, If, While}
-use Rattle.task_actions.specs.Meaning.{Setting, Doing, Goes, Fails, spawn, started}
+use Rattle.task_lang.specs.Meaning.{Setting, Doing, Goes, Fails, spawn, started}
 use Rattle.step_core.specs.Program.{Program}
 use Rattle.step_core.specs.JobMeaning.{report_of}
 use Rattle.job_laws.specs.Worked.{cell, arg, number, body, start, array, program, superstep, print, report}

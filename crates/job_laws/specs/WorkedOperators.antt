@@ -12,8 +12,8 @@ use Rattle.task_code.specs.declared.code.Operator.TheVariants.{
   Equal,
   NotEqual,
 }
-use Rattle.task_actions.specs.declared.fault.Fault.TheVariants.{Overflow, DivideByZero}
-use Rattle.task_actions.specs.Meaning.{applied}
+use Rattle.task_lang.specs.declared.fault.Fault.TheVariants.{Overflow, DivideByZero}
+use Rattle.task_lang.specs.Meaning.{applied}
 
 -- x is q times y plus r; r is less than y, and has the sign of x or is 0
 pub record IsDivided (x y q r : ℤ) : Type 0 where

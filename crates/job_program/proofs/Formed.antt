@@ -1,21 +1,21 @@
 -- What a task of a job leaves is well formed, and is what its segment left.
 use Rattle.std.proofs.Common.{◌≡◌, ℕ, zero, suc, ◌+◌, List, [], ◌∷◌, ◌++◌, length, refl, ap, ◌∙◌, subst, arith}
 use Rattle.std.specs.Prelude.{ℤ}
-use Rattle.task_actions.specs.FaultCode.{code_of}
-use Rattle.task_actions.specs.TaskValue.{TaskValue}
-use Rattle.task_actions.specs.Views.{task_of}
-use Rattle.task_actions.specs.Meaning as job
+use Rattle.task_lang.specs.FaultCode.{code_of}
+use Rattle.task_lang.specs.TaskValue.{TaskValue}
+use Rattle.task_lang.specs.Views.{task_of}
+use Rattle.task_lang.specs.Meaning as job
 use Rattle.task_lang.specs.Laws as task
 use Rattle.task_lang.specs.Lent as lent
 use Rattle.task_lang.proofs.AllSegments.{numbers-its-spawns, stays-the-same-task}
-use Rattle.task_actions.specs.declared.scene.CodeEnd as code
-use Rattle.task_actions.specs.declared.scene.CodeEnd.TheVariants as ends
-use Rattle.step_parts.specs.SlotParts.{path_in}
+use Rattle.task_lang.specs.declared.scene.CodeEnd as code
+use Rattle.task_lang.specs.declared.scene.CodeEnd.TheVariants as ends
+use Rattle.job_program.specs.SlotParts.{path_in}
 use Rattle.programs.specs.declared.work.Work.{Work}
 use Rattle.programs.specs.declared.work.Ending.{Ending}
 use Rattle.programs.specs.declared.work.Ending.TheVariants as ending
 use Rattle.programs.specs.Meaning.{children, IsFormed, NumbersItsSpawns, StaysTheSameTask}
-use Rattle.step_parts.specs.Superstep.{job_frame, job_says}
+use Rattle.job_program.specs.Superstep.{job_frame, job_says}
 use Rattle.programs.specs.Lent.{IsLeft, HasLeft}
 use Rattle.job_program.specs.JobTasks.{JobMay}
 

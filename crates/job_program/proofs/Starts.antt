@@ -3,15 +3,15 @@ use Rattle.std.proofs.Common.{◌≡◌, ℕ, suc, List, [], ◌∷◌, map, len
 use Rattle.std.specs.Prelude.{ℤ}
 use Rattle.std.proofs.lemmas.List.{length-map}
 use Rattle.phase_records.specs.ReportValue.{ReportValue}
-use Rattle.task_actions.specs.TaskValue.{TaskValue}
-use Rattle.task_actions.specs.Views.{plans, task_of}
-use Rattle.task_actions.specs.Meaning.{Plan, Task, segment_of}
+use Rattle.task_lang.specs.TaskValue.{TaskValue}
+use Rattle.task_lang.specs.Views.{plans, task_of}
+use Rattle.task_lang.specs.Meaning.{Plan, Task, segment_of}
 use Rattle.task_code.specs.declared.job.Start.{Start}
 use Rattle.task_code.specs.JobValue.{JobValue}
-use Rattle.step_parts.specs.SlotParts.{path_in}
-use Rattle.step_parts.specs.Program.{Program, program_of}
-use Rattle.step_parts.specs.Superstep.{job_frame}
-use Rattle.step_parts.specs.JobMeaning.{start_tasks, starts, report_of}
+use Rattle.job_program.specs.SlotParts.{path_in}
+use Rattle.job_program.specs.Program.{Program, program_of}
+use Rattle.job_program.specs.Superstep.{job_frame}
+use Rattle.job_program.specs.JobMeaning.{start_tasks, starts, report_of}
 use Rattle.programs.specs.Meaning.{children}
 use Rattle.programs.specs.History.{HasRun}
 use Rattle.programs.proofs.Exactly.{exactly}

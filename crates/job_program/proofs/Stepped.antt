@@ -6,15 +6,15 @@ use Rattle.phase_records.specs.PrintValue.{PrintValue}
 use Rattle.phase_records.specs.declared.record.PhaseRecord.{PhaseRecord}
 use Rattle.phase_records.specs.Status.{Status}
 use Rattle.task_code.specs.JobValue.{JobValue}
-use Rattle.task_actions.specs.TaskValue.{TaskValue}
-use Rattle.task_actions.specs.Meaning.{segment_of}
-use Rattle.task_actions.specs.Views.{plans, task_of}
+use Rattle.task_lang.specs.TaskValue.{TaskValue}
+use Rattle.task_lang.specs.Meaning.{segment_of}
+use Rattle.task_lang.specs.Views.{plans, task_of}
 use Rattle.programs.specs.Order.{AreOrdered}
 use Rattle.programs.specs.Steps.{StepsValue, begun, ended, IsRunning, HasStepped}
 use Rattle.programs.proofs.Stepped.{prints_taken, records_taken, so_far_none, so_far_stays, so_far_more}
-use Rattle.step_parts.specs.Program.{program_of}
-use Rattle.step_parts.specs.Superstep.{job_frame, job_says}
-use Rattle.step_parts.specs.JobMeaning.{starts}
+use Rattle.job_program.specs.Program.{program_of}
+use Rattle.job_program.specs.Superstep.{job_frame, job_says}
+use Rattle.job_program.specs.JobMeaning.{starts}
 use Rattle.job_program.specs.JobTasks.{JobMay}
 use Rattle.job_program.specs.JobRun.{JobRunValue, HasReached, IsAfter, IsLater, HasStepped as HasSteppedOn}
 

@@ -5,12 +5,12 @@ use Rattle.phase_records.specs.declared.record.PhaseRecord.{PhaseRecord}
 use Rattle.programs.specs.Steps as program
 use Rattle.programs.specs.Steps.{StepsValue, IsSoFar}
 use Rattle.job_program.specs.JobTasks.{JobMay}
-use Rattle.step_parts.specs.JobMeaning.{starts, so_far}
-use Rattle.step_parts.specs.Program.{program_of}
-use Rattle.step_parts.specs.Superstep.{State, job_frame, job_says}
+use Rattle.job_program.specs.JobMeaning.{starts, so_far}
+use Rattle.job_program.specs.Program.{program_of}
+use Rattle.job_program.specs.Superstep.{State, job_frame, job_says}
 use Rattle.task_code.specs.JobValue.{JobValue}
-use Rattle.task_actions.specs.TaskValue.{TaskValue}
-use Rattle.task_actions.specs.Views.{plans, task_of}
+use Rattle.task_lang.specs.TaskValue.{TaskValue}
+use Rattle.task_lang.specs.Views.{plans, task_of}
 
 -- the job, and its run
 pub record JobRunValue : Type 0 where

@@ -1,6 +1,6 @@
 -- What a task of a job may leave (own).
 use Rattle.std.specs.Prelude.{◌≡◌, ℕ, ℤ, List}
-use Rattle.task_actions.specs.Meaning.{Plan, Task, Segment, segment_of}
+use Rattle.task_lang.specs.Meaning.{Plan, Task, Segment, segment_of}
 
 -- what its segment does, and nothing else
 abbrev pub JobMay : List Plan → Task → List (List ℕ × List ℤ) → ℕ → Segment → Type 0

@@ -1,2 +1,12 @@
-pub mod JobTasks
+pub mod FinishedValue
+pub mod JobMeaning
 pub mod JobRun
+pub mod JobTasks
+pub mod OrderValue
+pub mod Program
+pub mod RoundValue
+pub mod SlotParts
+pub mod SlotValue
+pub mod Slots
+pub mod Superstep
+pub mod Taking

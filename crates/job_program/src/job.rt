@@ -1,11 +1,11 @@
 //! A job of the task language as a program.
 ghost use Rattle.std.specs.Prelude.{◌≡◌, ◌≤◌, [], IfOk, length, map, refl};
 ghost use Rattle.programs.specs.Meaning.{children};
-ghost use Rattle.step_parts.specs.SlotParts.{path_in};
-ghost use Rattle.task_actions.specs.Meaning as job;
-ghost use Rattle.task_actions.specs.Views.{plans, task_of};
-ghost use Rattle.step_parts.specs.JobMeaning.{start_tasks};
-ghost use Rattle.step_parts.specs.Superstep.{job_frame};
+ghost use Rattle.job_program.specs.SlotParts.{path_in};
+ghost use Rattle.task_lang.specs.Meaning as job;
+ghost use Rattle.task_lang.specs.Views.{plans, task_of};
+ghost use Rattle.job_program.specs.JobMeaning.{start_tasks};
+ghost use Rattle.job_program.specs.Superstep.{job_frame};
 ghost use Rattle.job_program.specs.JobTasks.{JobMay};
 
 use phase_records::Print;

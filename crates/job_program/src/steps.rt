@@ -1,6 +1,6 @@
 //! A run of a job on one thread, superstep by superstep.
 ghost use Rattle.std.specs.Prelude.{◌≡◌, ◌≤◌, IfOk};
-ghost use Rattle.task_actions.specs.Views.{plans, task_of};
+ghost use Rattle.task_lang.specs.Views.{plans, task_of};
 
 use crate::job::{Beginning, JobProgram, MOST_TASKS, begin};
 use phase_records::{JobStatus, PhaseRecord, Print};
@@ -35,8 +35,8 @@ pub struct JobSteps<'j> {
 impl<'j> Model for JobSteps<'j> {
     ghost use Rattle.std.specs.Prelude.{map};
     ghost use Rattle.programs.specs.Order.{AreOrdered};
-    ghost use Rattle.task_actions.specs.Views.{plans, task_of};
-    ghost use Rattle.step_parts.specs.Superstep.{job_frame};
+    ghost use Rattle.task_lang.specs.Views.{plans, task_of};
+    ghost use Rattle.job_program.specs.Superstep.{job_frame};
     ghost use Rattle.job_program.specs.JobRun.{JobRunValue};
 
     ghost Value = { JobRunValue };

@@ -7,7 +7,7 @@ use Rattle.std.proofs.lemmas.Slice.Eq.{bytes_eq-Decides}
 use Rattle.superstep_memory.specs.Paths.{path_lt, is_rising}
 use Rattle.superstep_memory.proofs.PathOrder.{rising_rest, rising_all, lt_asym}
 use Rattle.task_code.specs.JobValue.{JobValue}
-use Rattle.task_actions.specs.Meaning.{Task, Segment, segment_of}
+use Rattle.task_lang.specs.Meaning.{Task, Segment, segment_of}
 use Rattle.phase_records.specs.Status.{Status}
 use Rattle.step_core.specs.Program.{Program, program_of}
 use Rattle.step_core.specs.Superstep.{State, segments}
@@ -16,7 +16,7 @@ use Rattle.step_core.specs.RoundValue.{RoundValue, IsRound, state_of, status_in}
 use Rattle.step_core.specs.OrderValue.{DeliveryValue, IsDelivery, delivered_segment, deed_of, deed_at}
 use Rattle.step_core.proofs.Rounds.{running, tasks_stay}
 use Rattle.step_core.specs.Taking.{with_delivery}
-use Rattle.task_actions.specs.Views.{plans}
+use Rattle.task_lang.specs.Views.{plans}
 use Rattle.step_core.proofs.Apart.{reached_rises}
 use Rattle.job_schedule.specs.World.{deed_in}
 use Rattle.job_schedule.specs.Parts.{deed_by, IsAsBefore}

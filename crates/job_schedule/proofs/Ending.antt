@@ -16,7 +16,7 @@ use Rattle.tier_core.specs.Turn.{turn}
 use Rattle.tier_core.specs.Machine.{State as Tree, view_at, call_at, turn_at, played, is_active, is_due}
 use Rattle.tier_core.specs.Run.{after, answer_to, may_begin, may_go, may_finish, is_idle, begun, finish_at, plan_ends}
 use Rattle.tier_core.proofs.Turns.{not_both}
-use Rattle.task_actions.specs.Meaning.{Task}
+use Rattle.task_lang.specs.Meaning.{Task}
 use Rattle.step_core.specs.Program.{Program}
 use Rattle.step_core.specs.Superstep.{State, superstep, live_paths}
 use Rattle.step_core.specs.JobMeaning.{initial}

@@ -12,9 +12,9 @@ use Rattle.phase_records.specs.ReportValue.{ReportValue}
 use Rattle.superstep_memory.specs.Paths.{path_lt, is_rising}
 use Rattle.superstep_memory.proofs.PathOrder.{rising_rest, rising_all}
 use Rattle.task_code.specs.JobValue.{JobValue}
-use Rattle.task_actions.specs.SegmentValue.{SegmentValue}
-use Rattle.task_actions.specs.Meaning.{Plan, Task}
-use Rattle.task_actions.specs.Views.{plans, meant}
+use Rattle.task_lang.specs.SegmentValue.{SegmentValue}
+use Rattle.task_lang.specs.Meaning.{Plan, Task}
+use Rattle.task_lang.specs.Views.{plans, meant}
 use Rattle.tier_core.specs.declared.call.Played.{Played}
 use Rattle.tier_core.specs.declared.call.Answer.{Answer as TreeAnswer}
 use Rattle.tier_core.specs.declared.call.Answer.TheVariants as answer

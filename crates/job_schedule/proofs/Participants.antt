@@ -8,7 +8,7 @@ use Rattle.std.proofs.lemmas.Slice.Eq.{bytes_eq-Decides}
 use Rattle.superstep_memory.specs.Paths.{path_lt, is_rising}
 use Rattle.superstep_memory.specs.PathOrder.{put_in, in_path_order}
 use Rattle.superstep_memory.proofs.PathOrder.{rising_rest, rising_all}
-use Rattle.task_actions.specs.Meaning.{Task, Segment, segment_of}
+use Rattle.task_lang.specs.Meaning.{Task, Segment, segment_of}
 use Rattle.step_core.specs.Program.{Program}
 use Rattle.step_core.specs.Superstep.{segments}
 use Rattle.step_core.specs.OrderValue.{has_synced, spawned_paths}

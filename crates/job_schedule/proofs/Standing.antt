@@ -13,7 +13,7 @@ use Rattle.tier_core.specs.declared.call.Call.TheVariants as call
 use Rattle.tier_core.specs.declared.call.Step.TheVariants.{Begin, Go, Finish}
 use Rattle.tier_core.specs.Machine.{State as Tree}
 use Rattle.tier_core.specs.Run.{after, answer_to}
-use Rattle.task_actions.specs.Meaning.{Segment}
+use Rattle.task_lang.specs.Meaning.{Segment}
 use Rattle.step_core.specs.Program.{Program}
 use Rattle.step_core.specs.Superstep.{State, segments, superstep, live_paths}
 use Rattle.step_core.specs.JobMeaning.{initial}

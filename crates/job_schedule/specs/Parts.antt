@@ -8,7 +8,7 @@ use Rattle.programs.specs.Supersteps.{status, unless_ended}
 use Rattle.step_core.specs.RoundValue.{RoundValue, AllFresh, state_of, status_in}
 use Rattle.step_core.specs.OrderValue.{DeliveryValue}
 use Rattle.step_core.specs.Taking.{Takes as IsTakenBy, IsFor, is_done, is_live, with_delivery}
-use Rattle.task_actions.specs.Meaning.{Segment}
+use Rattle.task_lang.specs.Meaning.{Segment}
 use Rattle.step_core.specs.Superstep.{segments}
 use Rattle.job_schedule.specs.declared.schedule.Schedule.{Schedule}
 use Rattle.job_participants.specs.declared.stage.Mode.TheVariants.{Runs}

@@ -11,7 +11,7 @@ use Rattle.tier_core.specs.declared.call.Answer.TheVariants as answer
 use Rattle.tier_core.specs.declared.call.Step.TheVariants.{Begin, Go, Finish}
 use Rattle.tier_core.specs.Machine.{State as Tree, opened, with_token}
 use Rattle.tier_core.specs.Run.{after, answer_to, may_finish}
-use Rattle.task_actions.specs.Meaning.{Segment}
+use Rattle.task_lang.specs.Meaning.{Segment}
 use Rattle.programs.specs.Meaning.{Stopped}
 use Rattle.step_core.specs.Program.{Program}
 use Rattle.step_core.specs.Superstep.{State, segments, superstep, live_paths}

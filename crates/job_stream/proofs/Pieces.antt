@@ -5,10 +5,10 @@ use Rattle.snapshot_log.specs.Agreed.{WasBefore}
 use Rattle.phase_records.specs.ReportValue.{ReportValue}
 use Rattle.phase_records.specs.Status.{Status}
 use Rattle.task_code.specs.JobValue.{JobValue}
-use Rattle.task_actions.specs.TaskValue.{TaskValue}
-use Rattle.task_actions.specs.Views.{plans, task_of}
-use Rattle.task_actions.specs.Meaning as job
-use Rattle.step_parts.specs.Program.{Program, program_of}
+use Rattle.task_lang.specs.TaskValue.{TaskValue}
+use Rattle.task_lang.specs.Views.{plans, task_of}
+use Rattle.task_lang.specs.Meaning as job
+use Rattle.job_program.specs.Program.{Program, program_of}
 use Rattle.programs.specs.Supersteps as gm
 use Rattle.programs.specs.History.{Entry, says_by, IsEntered, HasRun, living_after}
 use Rattle.programs.proofs.Exactly.{so_far_same}
@@ -16,8 +16,8 @@ use Rattle.programs.proofs.Histories.{so_far_shorter}
 use Rattle.programs.proofs.Runs.{ends_in_time}
 use Rattle.job_program.specs.declared.job.JobProgram.{JobProgram}
 use Rattle.job_program.specs.JobTasks.{JobMay}
-use Rattle.step_parts.specs.Superstep.{State, job_frame, job_says}
-use Rattle.step_parts.specs.JobMeaning.{so_far, starts}
+use Rattle.job_program.specs.Superstep.{State, job_frame, job_says}
+use Rattle.job_program.specs.JobMeaning.{so_far, starts}
 use Rattle.job_program.proofs.Starts.{starts_begin, job_report}
 use Rattle.program_stretches.specs.SuperstepStart.{SuperstepStartValue, live_of}
 use Rattle.program_stretches.specs.LinesValue.{LinesValue}

@@ -7,14 +7,14 @@ use Rattle.phase_records.specs.declared.record.PhaseRecord.{PhaseRecord}
 use Rattle.phase_records.specs.ReportValue.{ReportValue}
 use Rattle.phase_records.specs.Status.{Status}
 use Rattle.task_code.specs.JobValue.{JobValue}
-use Rattle.task_actions.specs.Views.{plans, task_of}
+use Rattle.task_lang.specs.Views.{plans, task_of}
 use Rattle.programs.specs.Supersteps.{status}
 use Rattle.programs.specs.Steps.{ended, left_by}
 use Rattle.programs.proofs.Stepped.{prints_taken, records_taken, so_far_ended, so_far_told}
 use Rattle.programs.proofs.Runs.{ends_in_time}
-use Rattle.step_parts.specs.Program.{Program, program_of}
-use Rattle.step_parts.specs.Superstep.{State, job_says}
-use Rattle.step_parts.specs.JobMeaning.{so_far, starts, report_of}
+use Rattle.job_program.specs.Program.{Program, program_of}
+use Rattle.job_program.specs.Superstep.{State, job_says}
+use Rattle.job_program.specs.JobMeaning.{so_far, starts, report_of}
 use Rattle.job_program.specs.JobRun.{JobRunValue, IsAfter, state_after}
 use Rattle.job_stream.specs.Running.{IsWritten}
 use Rattle.job_stream.specs.Streamed.{IsPiece, IsRest}

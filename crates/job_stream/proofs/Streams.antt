@@ -9,8 +9,8 @@ use Rattle.phase_records.specs.ReportValue.{ReportValue}
 use Rattle.phase_records.specs.ReportText.{steps_text, report_text}
 use Rattle.phase_records.specs.declared.record.JobStatus.{JobStatus}
 use Rattle.task_code.specs.JobValue.{JobValue}
-use Rattle.task_actions.specs.TaskValue.{TaskValue}
-use Rattle.step_parts.specs.Program.{Program, program_of}
+use Rattle.task_lang.specs.TaskValue.{TaskValue}
+use Rattle.job_program.specs.Program.{Program, program_of}
 use Rattle.job_program.specs.declared.job.JobProgram.{JobProgram}
 use Rattle.program_stretches.specs.SuperstepStart.{SuperstepStartValue}
 use Rattle.stretch_parts.specs.Parts.{Reading}

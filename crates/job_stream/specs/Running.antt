@@ -2,13 +2,13 @@
 use Rattle.std.specs.Prelude.{◌≡◌, ℕ, List, [], ◌∷◌, ◌++◌, map, None}
 use Rattle.snapshot_log.specs.Agreed.{WasBefore}
 use Rattle.task_code.specs.JobValue.{JobValue}
-use Rattle.task_actions.specs.TaskValue.{TaskValue}
-use Rattle.task_actions.specs.Views.{plans, task_of}
-use Rattle.step_parts.specs.JobMeaning.{start_tasks}
-use Rattle.step_parts.specs.SlotParts.{path_in}
-use Rattle.task_actions.specs.Meaning.{Task}
+use Rattle.task_lang.specs.TaskValue.{TaskValue}
+use Rattle.task_lang.specs.Views.{plans, task_of}
+use Rattle.job_program.specs.JobMeaning.{start_tasks}
+use Rattle.job_program.specs.SlotParts.{path_in}
+use Rattle.task_lang.specs.Meaning.{Task}
 use Rattle.job_program.specs.declared.job.JobProgram.{JobProgram}
-use Rattle.step_parts.specs.Superstep.{job_frame}
+use Rattle.job_program.specs.Superstep.{job_frame}
 use Rattle.job_program.specs.JobTasks.{JobMay}
 use Rattle.job_program.specs.JobRun.{JobRunValue, IsAfter}
 use Rattle.phase_records.specs.PrintValue.{PrintValue}

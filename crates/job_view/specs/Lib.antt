@@ -1,3 +1,9 @@
+pub mod Drawing
+pub mod JsonLaws
+pub mod Laws
 pub mod Look
+pub mod ReportJson
+pub mod Rows
 pub mod Words
 pub mod Worked
+pub mod WorkedJson

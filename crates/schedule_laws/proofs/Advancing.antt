@@ -9,7 +9,7 @@ use Rattle.advance_rule.specs.Plan.{end_ends}
 use Rattle.flat_phaser.specs.Flat.{registered}
 use Rattle.phaser_word.specs.Phase.{next_phase_of}
 use Rattle.phase_records.specs.Status.{Limit as IsAtLimit}
-use Rattle.task_actions.specs.Meaning.{Task}
+use Rattle.task_lang.specs.Meaning.{Task}
 use Rattle.tier_steps.specs.declared.view.Passage.{Passage}
 use Rattle.tier_steps.specs.declared.view.Passage.TheVariants.{Arrival, Departure}
 use Rattle.tier_core.specs.declared.call.Answer.{Answer as TreeAnswer}

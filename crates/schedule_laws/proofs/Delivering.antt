@@ -7,7 +7,7 @@ use Rattle.std.proofs.lemmas.List.{get_or-set_same, get_or-set_other, length-set
 use Rattle.std.proofs.lemmas.List.Sums.{sum_by-cons, sum_by_push}
 use Rattle.tier_core.specs.Machine.{State as Tree, with_token}
 use Rattle.tier_core.proofs.Opening.{entry_before, entry_last}
-use Rattle.task_actions.specs.Meaning.{Segment}
+use Rattle.task_lang.specs.Meaning.{Segment}
 use Rattle.step_core.specs.OrderValue.{has_synced, spawned_paths}
 use Rattle.schedule_laws.specs.Roles.{Role, Out}
 use Rattle.schedule_laws.specs.Cast.{role_at}

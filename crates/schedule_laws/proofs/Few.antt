@@ -5,7 +5,7 @@ use Rattle.std.specs.Str.{bytes_eq}
 use Rattle.std.proofs.lemmas.Bool.{ltb-false}
 use Rattle.std.proofs.lemmas.List.{length-map}
 use Rattle.phase_records.specs.Status.{Status}
-use Rattle.task_actions.specs.Meaning.{Task, Segment, segment_of}
+use Rattle.task_lang.specs.Meaning.{Task, Segment, segment_of}
 use Rattle.task_lang.proofs.AllSegments.{numbers-its-spawns}
 use Rattle.step_core.specs.Program.{Program}
 use Rattle.step_core.specs.Superstep.{State, segments, too_many, fault_in, superstep, closed, next_live, live_paths}

@@ -29,7 +29,7 @@ use Rattle.step_core.specs.Program.{Program}
 use Rattle.step_core.specs.Superstep.{live_paths}
 use Rattle.step_core.specs.JobMeaning.{initial, start_tasks}
 use Rattle.programs.specs.Supersteps.{status, status_of}
-use Rattle.task_actions.specs.Meaning.{Plan, Task}
+use Rattle.task_lang.specs.Meaning.{Plan, Task}
 use Rattle.task_code.specs.declared.job.Start.{Start}
 use Rattle.schedule_laws.specs.Roles.{Role, Out, Late, Plays}
 use Rattle.schedule_laws.specs.Cast.{role_at}

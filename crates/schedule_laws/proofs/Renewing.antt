@@ -10,7 +10,7 @@ use Rattle.phase_records.specs.Status.{Status}
 use Rattle.tier_steps.specs.declared.view.Passage.TheVariants.{Arrival}
 use Rattle.tier_core.proofs.Turns.{not_both}
 use Rattle.tier_laws.specs.Frame.{flat_of}
-use Rattle.task_actions.specs.Meaning.{Task, Segment}
+use Rattle.task_lang.specs.Meaning.{Task, Segment}
 use Rattle.step_core.specs.Program.{Program}
 use Rattle.step_core.specs.Superstep.{State, segments, fault_in, superstep, closed, next_live, live_paths}
 use Rattle.programs.specs.Supersteps.{status, status_of, told, report_in}

@@ -4,7 +4,7 @@ use Rattle.tier_shape.specs.Parents.{parent_of}
 use Rattle.tier_shape.specs.Paths.{path_of, IsTiers}
 use Rattle.tier_shape.specs.Widths.{IsWidth}
 use Rattle.tier_shape.proofs.TreeShape.{tree_tiers}
-use Rattle.task_actions.specs.Meaning as meaning
+use Rattle.task_lang.specs.Meaning as meaning
 use Rattle.schedule_laws.specs.Laws.{IsDriven}
 use Rattle.schedule_laws.specs.Worked.{alone, pair, uneven, SchedulesAreWorkedOut}
 

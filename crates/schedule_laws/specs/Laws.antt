@@ -5,7 +5,7 @@ use Rattle.tier_shape.specs.Paths.{IsTiers}
 use Rattle.tier_core.specs.declared.call.Call.TheVariants as call
 use Rattle.tier_core.specs.declared.call.Played.{Played}
 use Rattle.tier_laws.specs.Frame.{flat_of}
-use Rattle.task_actions.specs.Meaning.{Segment}
+use Rattle.task_lang.specs.Meaning.{Segment}
 use Rattle.step_core.specs.Program.{Program}
 use Rattle.step_core.specs.Superstep.{segments}
 use Rattle.programs.specs.Superstep.{first_fault, record_of}

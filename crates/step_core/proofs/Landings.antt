@@ -10,13 +10,13 @@ use Rattle.superstep_memory.specs.Landing.{joined, landed, is_to, is_set, sets}
 use Rattle.superstep_memory.specs.Logs.{paths}
 use Rattle.superstep_memory.specs.Laws.{has_put, has_set}
 use Rattle.superstep_memory.proofs.LandedLaws as landings
-use Rattle.task_actions.specs.Meaning.{Task, Segment}
+use Rattle.task_lang.specs.Meaning.{Task, Segment}
 use Rattle.task_lang.specs.Laws.{is_to_cell}
 use Rattle.task_lang.proofs.AllSegments.{puts-into-cells}
-use Rattle.step_parts.specs.Program.{Program}
-use Rattle.step_parts.specs.Superstep.{State, closed, segments, fault_in}
+use Rattle.job_program.specs.Program.{Program}
+use Rattle.job_program.specs.Superstep.{State, closed, segments, fault_in}
 use Rattle.programs.specs.Superstep.{log_of}
-use Rattle.step_parts.specs.JobMeaning.{so_far}
+use Rattle.job_program.specs.JobMeaning.{so_far}
 use Rattle.step_core.specs.Laws.{deed, LaterPathWins, OthersKeepTheirValues}
 use Rattle.step_core.proofs.Apart.{live-paths-rise}
 

@@ -4,20 +4,20 @@ use Rattle.std.specs.Prelude.{if◌then◌else◌}
 use Rattle.std.proofs.lemmas.List.{append-nil}
 use Rattle.superstep_memory.specs.Paths.{path_lt}
 use Rattle.phase_records.specs.Status.{Status, Limit}
-use Rattle.task_actions.specs.Meaning.{Task, After, Segment, segment_of}
+use Rattle.task_lang.specs.Meaning.{Task, After, Segment, segment_of}
 use Rattle.programs.specs.Meaning.{Synced, Stopped, Faulted}
-use Rattle.task_actions.specs.Views.{plans}
-use Rattle.step_parts.specs.Program.{Program, program_of}
+use Rattle.task_lang.specs.Views.{plans}
+use Rattle.job_program.specs.Program.{Program, program_of}
 use Rattle.superstep_memory.specs.PathOrder.{put_in, in_path_order}
-use Rattle.step_parts.specs.Superstep.{State, superstep, closed, segments, too_many, fault_in, next_live, job_says}
+use Rattle.job_program.specs.Superstep.{State, superstep, closed, segments, too_many, fault_in, next_live, job_says}
 use Rattle.programs.specs.Superstep.{gone_on, first_fault, overflow, or_next, or_later, living_on, synced, stopped, spawned, left, record_of}
-use Rattle.step_parts.specs.JobMeaning.{so_far, report_of, starts}
+use Rattle.job_program.specs.JobMeaning.{so_far, report_of, starts}
 use Rattle.programs.specs.Supersteps.{status, status_of, unless_ended}
-use Rattle.step_parts.specs.SlotValue.{SlotValue}
-use Rattle.step_parts.specs.Slots.{delivered, first_missing}
-use Rattle.step_parts.specs.OrderValue.{DeliveryValue, IsDelivery}
-use Rattle.step_parts.specs.RoundValue.{RoundValue, IsRound, state_of, status_in, slots_in, with_slots}
-use Rattle.step_parts.specs.Taking.{Takes, IsFor, with_delivery}
+use Rattle.job_program.specs.SlotValue.{SlotValue}
+use Rattle.job_program.specs.Slots.{delivered, first_missing}
+use Rattle.job_program.specs.OrderValue.{DeliveryValue, IsDelivery}
+use Rattle.job_program.specs.RoundValue.{RoundValue, IsRound, state_of, status_in, slots_in, with_slots}
+use Rattle.job_program.specs.Taking.{Takes, IsFor, with_delivery}
 use Rattle.step_core.specs.Laws.{
   FormatsMeanTheSame,
   after_all,
@@ -36,8 +36,8 @@ use Rattle.programs.proofs.Runs.{always_told}
 use Rattle.superstep_memory.proofs.InOrder.{put_all_mapped}
 use Rattle.std.proofs.lemmas.List.{map-append}
 use Rattle.task_lang.proofs.AllSegments.{stays-the-same-task}
-use Rattle.step_parts.specs.OrderValue.{spawned_paths, is_synced}
-use Rattle.step_parts.specs.Superstep.{live_paths}
+use Rattle.job_program.specs.OrderValue.{spawned_paths, is_synced}
+use Rattle.job_program.specs.Superstep.{live_paths}
 
 -- ---- deliveries in any order
 

@@ -4,13 +4,13 @@ use Rattle.std.specs.Prelude.{ℤ}
 use Rattle.std.proofs.lemmas.Bool.{ltb-true, ltb-false}
 use Rattle.phase_records.specs.ReportValue.{ReportValue}
 use Rattle.task_code.specs.JobValue.{JobValue}
-use Rattle.task_actions.specs.TaskValue.{TaskValue}
-use Rattle.task_actions.specs.Views.{plans, task_of}
-use Rattle.task_actions.specs.Meaning as job
-use Rattle.step_parts.specs.Program.{Program, program_of}
-use Rattle.step_parts.specs.JobMeaning.{so_far, start_tasks, report_of, starts}
+use Rattle.task_lang.specs.TaskValue.{TaskValue}
+use Rattle.task_lang.specs.Views.{plans, task_of}
+use Rattle.task_lang.specs.Meaning as job
+use Rattle.job_program.specs.Program.{Program, program_of}
+use Rattle.job_program.specs.JobMeaning.{so_far, start_tasks, report_of, starts}
 use Rattle.programs.specs.Supersteps.{status}
-use Rattle.step_parts.specs.Superstep.{State, job_frame, job_says}
+use Rattle.job_program.specs.Superstep.{State, job_frame, job_says}
 use Rattle.programs.proofs.Runs.{going_on, ended_stays}
 use Rattle.programs.specs.Supersteps as gm
 use Rattle.programs.specs.History.{says_by, HasRun, HasRunTo, OfState}

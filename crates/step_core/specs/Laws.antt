@@ -6,17 +6,17 @@ use Rattle.superstep_memory.specs.declared.arrays.Put.{Put}
 use Rattle.superstep_memory.specs.Cells.{cell_at}
 use Rattle.superstep_memory.specs.Paths.{path_lt, is_rising}
 use Rattle.superstep_memory.specs.Laws.{has_put}
-use Rattle.task_actions.specs.Meaning.{Task, Segment, segment_of}
+use Rattle.task_lang.specs.Meaning.{Task, Segment, segment_of}
 use Rattle.task_code.specs.JobValue.{JobValue}
-use Rattle.step_parts.specs.Program.{Program, program_of}
-use Rattle.step_parts.specs.Superstep.{State, superstep, segments, live_paths}
+use Rattle.job_program.specs.Program.{Program, program_of}
+use Rattle.job_program.specs.Superstep.{State, superstep, segments, live_paths}
 use Rattle.programs.specs.Superstep.{record_of}
-use Rattle.step_parts.specs.JobMeaning.{so_far, report_of}
-use Rattle.step_parts.specs.Slots.{delivered, first_missing, missing_in}
-use Rattle.step_parts.specs.OrderValue.{OrderValue, IsOrder, ordered_task, DeliveryValue, IsDelivery, has_synced, spawned_paths}
+use Rattle.job_program.specs.JobMeaning.{so_far, report_of}
+use Rattle.job_program.specs.Slots.{delivered, first_missing, missing_in}
+use Rattle.job_program.specs.OrderValue.{OrderValue, IsOrder, ordered_task, DeliveryValue, IsDelivery, has_synced, spawned_paths}
 use Rattle.superstep_memory.specs.PathOrder.{in_path_order}
-use Rattle.step_parts.specs.RoundValue.{RoundValue, IsRound, state_of, status_in, slots_in}
-use Rattle.step_parts.specs.Taking.{Takes, with_delivery}
+use Rattle.job_program.specs.RoundValue.{RoundValue, IsRound, state_of, status_in, slots_in}
+use Rattle.job_program.specs.Taking.{Takes, with_delivery}
 
 -- a round with these deliveries more, one after another
 abbrev pub after_all : RoundValue → List DeliveryValue → RoundValue

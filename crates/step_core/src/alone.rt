@@ -1,7 +1,7 @@
 //! A job on one thread.
 ghost use Rattle.std.specs.Prelude.{◌≡◌, ◌≤◌, Some, IfOk};
-ghost use Rattle.step_parts.specs.Program.{program_of};
-ghost use Rattle.step_parts.specs.JobMeaning.{report_of};
+ghost use Rattle.job_program.specs.Program.{program_of};
+ghost use Rattle.job_program.specs.JobMeaning.{report_of};
 ghost use Rattle.step_core.specs.Watching.{SawAll};
 
 use crate::observe::{Looking, NoObserver, Observe};

@@ -13,8 +13,8 @@ mod observe;
 mod round;
 
 pub use alone::{run_alone, run_observed};
+pub use job_program::fault::{AcceptFault, CloseFault, Outcome};
+pub use job_program::order::{Delivery, Order};
 pub use job_program::{JobSteps, start_all};
 pub use observe::{NoObserver, Observe};
 pub use round::Round;
-pub use step_parts::fault::{AcceptFault, CloseFault, Outcome};
-pub use step_parts::order::{Delivery, Order};

@@ -32,7 +32,7 @@ pub(crate) struct Unwritten<'o, 'w, R: Wait, W: CountedWrite, J: Streaming> {
 impl<'o, 'w, R: Wait, W: CountedWrite, J: Streaming> Model for Unwritten<'o, 'w, R, W, J> {
     ghost use Rattle.std.specs.Prelude.{◌≤◌};
     ghost use Rattle.program_stretches.specs.LinesValue.{LinesValue};
-    ghost use Rattle.step_parts.specs.Program.{program_of};
+    ghost use Rattle.job_program.specs.Program.{program_of};
     ghost use Rattle.job_stream.specs.Streamed.{IsPiece};
 
     ghost Value = { LinesValue };

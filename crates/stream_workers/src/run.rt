@@ -4,7 +4,7 @@ ghost use Rattle.std.specs.Io.KnownBytes.{Appends};
 ghost use Rattle.advance_rule.specs.Stored.{Answers};
 ghost use Rattle.advance_rule.specs.Plan.{end_ends_at};
 ghost use Rattle.programs.specs.Meaning.{children};
-ghost use Rattle.step_parts.specs.Program.{program_of};
+ghost use Rattle.job_program.specs.Program.{program_of};
 ghost use Rattle.stretch_queue.specs.Hooked.{AreNext};
 ghost use Rattle.program_stretches.specs.Closing.{HasLeft};
 ghost use Rattle.job_stream.specs.Running.{IsRunOf, job_reading};

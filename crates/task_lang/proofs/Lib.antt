@@ -1,4 +1,5 @@
 pub mod AllSegments
+pub mod Begins
 pub mod Behind
 pub mod Firsts
 pub mod Joined

@@ -2,8 +2,8 @@
 ghost use Rattle.std.specs.Prelude.{◌≡◌, ◌≤◌, Some, IfOk, IfErr};
 ghost use Rattle.advance_rule.specs.Stored.{Answers};
 ghost use Rattle.advance_rule.specs.Plan.{end_ends_at};
-ghost use Rattle.step_parts.specs.Program.{program_of};
-ghost use Rattle.step_parts.specs.JobMeaning.{report_of};
+ghost use Rattle.job_program.specs.Program.{program_of};
+ghost use Rattle.job_program.specs.JobMeaning.{report_of};
 ghost use Rattle.worker_pool.specs.JobPlan.{limit_of, IsJobPlan};
 ghost use Rattle.stretch_queue.specs.Refusals.{IsOfWorkers};
 

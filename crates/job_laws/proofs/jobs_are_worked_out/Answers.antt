@@ -1,5 +1,5 @@
 use Rattle.std.proofs.Common.{refl}
-use Rattle.task_actions.specs.Meaning as meaning
+use Rattle.task_lang.specs.Meaning as meaning
 use Rattle.job_laws.proofs.jobs_are_worked_out.Goals as goal
 
 pub returns : goal.returns

@@ -1,6 +1,6 @@
 use Rattle.std.proofs.Common.{refl}
 use Rattle.std.specs.Fmt as fmt
-use Rattle.task_actions.specs.Meaning as meaning
+use Rattle.task_lang.specs.Meaning as meaning
 use Rattle.job_laws.proofs.reports_are_written_so.Goals as goal
 
 pub returns : goal.returns

@@ -1,4 +1,4 @@
-use Rattle.report_json.specs.ReportJson.{json_text}
+use Rattle.job_view.specs.ReportJson.{json_text}
 use Rattle.bsp_cli.proofs.RunJobs.{runs, pool_runs, pool_reads, pool_writes}
 use Rattle.bsp_cli.proofs.job.run_json_bytes.Goals as goal
 

@@ -1,7 +1,7 @@
 use Rattle.std.proofs.Common.{◌≡◌, ℕ, ◌-◌, ap, sym, ◌∙◌, arith}
 use Rattle.std.specs.Prelude.{slice_get}
-use Rattle.task_actions.specs.Views.{setting}
-use Rattle.task_actions.specs.declared.scene.Move.{Move}
+use Rattle.task_lang.specs.Views.{setting}
+use Rattle.task_lang.specs.declared.scene.Move.{Move}
 use Rattle.fault_reasons.specs.Walk.{after_move, spent, walked}
 use Rattle.fault_reasons.proofs.Walks.{out, step}
 use Rattle.fault_reasons.proofs.walk.walk.Goals as goal

@@ -1,5 +1,5 @@
 use Rattle.std.proofs.Common.{◌≡◌}
-use Rattle.task_actions.specs.Views.{setting}
+use Rattle.task_lang.specs.Views.{setting}
 use Rattle.fault_reasons.specs.Walk.{walked}
 use Rattle.fault_reasons.proofs.walk.walk.Given as goal
 

@@ -1,10 +1,10 @@
 use Rattle.std.proofs.Common.{ℤ, FitsSigned, w64, rules, ◌≡◌, ◌∙◌, ℕ, suc, ◌+◌, List, [], ◌∷◌, ◌++◌, map, refl, sym, ap, arith}
 use Rattle.std.proofs.lemmas.Int.{to_z-of_z}
-use Rattle.task_actions.specs.TaskValue.{TaskValue}
-use Rattle.task_actions.specs.Meaning.{Plan, Task, started}
-use Rattle.task_actions.specs.Views.{plans, task_of}
+use Rattle.task_lang.specs.TaskValue.{TaskValue}
+use Rattle.task_lang.specs.Meaning.{Plan, Task, started}
+use Rattle.task_lang.specs.Views.{plans, task_of}
 use Rattle.task_code.specs.declared.job.Start.{Start}
-use Rattle.step_parts.specs.JobMeaning.{start_tasks}
+use Rattle.job_program.specs.JobMeaning.{start_tasks}
 use Rattle.job_program.proofs.job.start_all.Goals as goal
 
 -- one task more was started

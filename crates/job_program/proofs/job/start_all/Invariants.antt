@@ -1,6 +1,6 @@
 use Rattle.std.proofs.Common.{◌≡◌, ◌≤◌, ◌+◌, ◌++◌, map, length}
-use Rattle.task_actions.specs.Views.{plans, task_of}
-use Rattle.step_parts.specs.JobMeaning.{start_tasks}
+use Rattle.task_lang.specs.Views.{plans, task_of}
+use Rattle.job_program.specs.JobMeaning.{start_tasks}
 use Rattle.job_program.proofs.job.start_all.Given as goal
 
 abbrev pub invariant-loop-start : goal.invariant-loop-start

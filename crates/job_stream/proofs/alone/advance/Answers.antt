@@ -2,7 +2,7 @@ use Rattle.std.proofs.Common.{◌≡◌, ℕ, List, [], ◌+◌, ◌++◌, refl,
 use Rattle.phase_records.specs.PrintValue.{PrintValue}
 use Rattle.phase_records.specs.declared.record.PhaseRecord.{PhaseRecord}
 use Rattle.phase_records.specs.ReportText.{steps_text}
-use Rattle.step_parts.specs.Program.{program_of}
+use Rattle.job_program.specs.Program.{program_of}
 use Rattle.programs.proofs.Reached.{ok_is}
 use Rattle.job_program.specs.JobRun.{JobRunValue, IsAfter}
 use Rattle.job_stream.specs.Streamed.{lines_of}

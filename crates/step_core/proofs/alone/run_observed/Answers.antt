@@ -1,5 +1,5 @@
 use Rattle.std.proofs.Common.{map}
-use Rattle.task_actions.specs.Views.{plans, task_of}
+use Rattle.task_lang.specs.Views.{plans, task_of}
 use Rattle.step_core.proofs.Watching.{job_leaves}
 use Rattle.step_core.proofs.alone.run_observed.Goals as goal
 

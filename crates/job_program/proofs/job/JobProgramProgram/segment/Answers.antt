@@ -1,4 +1,4 @@
-use Rattle.task_actions.specs.Views.{plans}
+use Rattle.task_lang.specs.Views.{plans}
 use Rattle.job_program.proofs.Formed.{job_left}
 use Rattle.job_program.proofs.job.JobProgramProgram.segment.Goals as goal
 

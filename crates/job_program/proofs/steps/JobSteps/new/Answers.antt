@@ -1,9 +1,9 @@
 use Rattle.std.proofs.Common.{map, sym, subst}
 use Rattle.programs.specs.Order.{AreOrdered}
 use Rattle.programs.specs.Steps.{StepsValue}
-use Rattle.step_parts.specs.Superstep.{job_frame}
-use Rattle.task_actions.specs.TaskValue.{TaskValue}
-use Rattle.task_actions.specs.Views.{plans, task_of}
+use Rattle.job_program.specs.Superstep.{job_frame}
+use Rattle.task_lang.specs.TaskValue.{TaskValue}
+use Rattle.task_lang.specs.Views.{plans, task_of}
 use Rattle.job_program.proofs.steps.JobSteps.new.Goals as goal
 
 pub invariant_of-result : goal.invariant_of-result

@@ -1,0 +1,14 @@
+use Rattle.std.proofs.Common.{◌≡◌, ◌++◌, length, map}
+use Rattle.json.specs.Tree.{items_tokens}
+use Rattle.json.specs.Value.{items_of}
+use Rattle.job_view.specs.ReportJson.{superstep_json}
+use Rattle.job_view.proofs.json_lists.write_records.Given as goal
+
+abbrev pub invariant-loop-told : goal.invariant-loop-told
+invariant-loop-told l = record {
+  tokens : l.out.tokens ++ items_tokens (items_of (map superstep_json l.rest)) ≡ l.fn.out.tokens ++ items_tokens (items_of (map superstep_json l.fn.records));
+  before : l.out.before ≡ l.fn.out.before;
+}
+
+abbrev pub decreases-loop-told : goal.decreases-loop-told
+decreases-loop-told l = length l.rest

@@ -1,4 +1,0 @@
-pub mod Joined
-pub mod Members
-pub mod ReadBack
-pub mod Working
