@@ -53,7 +53,10 @@ fn a_stream_that_did_not_end_prints_why(rt: HostRuntime) {
     let rows = [(StreamFault::Write, "write failed")];
     assert!(rt; print_so(rt.alloc(), &rows));
     let rows = [
-        (WorkersStreamFault::Fault(StreamFault::Memory), "out of memory"),
+        (
+            WorkersStreamFault::Fault(StreamFault::Memory),
+            "out of memory",
+        ),
         (WorkersStreamFault::Fault(StreamFault::Internal), "internal"),
         (WorkersStreamFault::NotStarted(3), "worker 3 not started"),
     ];
