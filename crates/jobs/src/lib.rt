@@ -3,7 +3,8 @@
 //! A program of your own is a crate of this repository, `crates/NAME`. The command `tools/new NAME --jobs` makes one.
 //!
 //! * [`read_job`] reads a [`Job`] from its text, and [`write_job`] writes it.
-//! * [`run_alone`] runs a job on the caller's thread. [`run_observed`] also calls a [`Observe`] as each superstep begins.
+//! * [`run_alone`] runs a job on the caller's thread. [`run_observed`] also calls an observer ([`Observe`]) as each superstep
+//!   begins.
 //! * [`run_within`] runs it on 1 to 64 worker threads, which meet at a tree of phasers after each superstep. The
 //!   [`Report`] is the same whatever the number of workers and the shape of the tree. [`run_job`] is the call below it,
 //!   and takes your advance rule.
