@@ -46,7 +46,7 @@
 //!         out: &mut Out<Block>,
 //!     ) -> Result<Ending, AllocError> {
 //!         let cells = view.cells(0);
-//!         let mut values = out.room(alloc);
+//!         let mut values = out.buffer(alloc);
 //!         for place in block.first..block.end {
 //!             let left = at(cells, place.wrapping_sub(1));
 //!             values.push(left.wrapping_add(at(cells, place.wrapping_add(1))) / 2)?;
@@ -121,7 +121,7 @@ pub use superstep_memory::path::Path;
 pub use task_bodies::body::{Ending, Exact, Out, TaskBody, View};
 pub use task_bodies::kernel::{BoardRows, Cells, Grid, Map, Reduce, Span, Stencil, Window};
 pub use task_bodies::member::Member;
-pub use task_bodies::run::RunFault;
+pub use task_bodies::run::BodiesFault;
 pub use tier_shape::{Shape, ShapeFault};
 pub use watched::WatchedRun;
 pub use worker_pool::{AllStart, Gate, OpenGate, Refused, Starter};

@@ -14,7 +14,7 @@ use std::thread::Threads;
 use superstep_memory::arrays::Arrays;
 use task_bodies::body::TaskBody;
 use task_bodies::member::Member;
-use task_bodies::run::RunFault;
+use task_bodies::run::BodiesFault;
 use worker_pool::{AllStart, Gate, OpenGate, Starter};
 
 // How many tasks may live at once, and how many supersteps are taken, if a caller doesn't say so.
@@ -46,7 +46,7 @@ impl<'b, B: TaskBody> Run<'b, B> {
     ghost use Rattle.std.specs.Prelude.{◌≡◌, ◌≤◌, ◌↔◌, [], true, false, IfOk, IfErr, length};
     ghost use Rattle.programs.specs.History.{HasRun};
     ghost use Rattle.task_bodies.specs.Bodies.{member_frame, are_too_many, BodyMay, numbered};
-    ghost use Rattle.task_bodies.specs.declared.run.RunFault.TheVariants.{TooMany as TooManyStart};
+    ghost use Rattle.task_bodies.specs.declared.run.BodiesFault.TheVariants.{TooMany as TooManyStart};
     ghost use Rattle.bodies.specs.Leaving.{are_too_many_parties, RefusesFor};
 
     /// Creates a run of this body: a task for each element of `tasks`, which is what the task keeps. At most 65535 tasks may
@@ -90,7 +90,7 @@ impl<'b, B: TaskBody> Run<'b, B> {
     /// Runs the body on this thread. In each superstep, the tasks run one after another, in path order. The report has the arrays,
     /// the prints, a record for each superstep, and how the run ended. If the limit was reached, the tasks that still live come
     /// back with what they keep.
-    pub fn alone(self, alloc: Global) -> Result<Ran<Member<B::Kept>>, RunFault>
+    pub fn alone(self, alloc: Global) -> Result<Ran<Member<B::Kept>>, BodiesFault>
         requires ready { B.ready self.body }
         ensures ran { IfOk result (λ ran. let r = self.entry in HasRun member_frame (BodyMay (B.may r.body)) r.most r.arrays (numbered [] 0 r.tasks) r.limit ran.report ran.tasks.items) }
         ensures few { IfOk result (λ ran. are_too_many self.entry.most (length self.entry.tasks) ≡ false) }

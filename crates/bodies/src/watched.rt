@@ -15,7 +15,7 @@ use std::thread::Threads;
 use task_bodies::Native;
 use task_bodies::body::TaskBody;
 use task_bodies::member::{Member, starts};
-use task_bodies::run::{RunFault, run_bodies_watched};
+use task_bodies::run::{BodiesFault, run_bodies_watched};
 use worker_pool::{AllStart, Gate, OpenGate, Refused, Starter, run_program_watched};
 
 /// A run of a body that hasn't begun, with a watcher, which is called before each superstep and can stop the run there, as a limit
@@ -38,10 +38,10 @@ impl<'b, 'w, B: TaskBody, W: Watch> WatchedRun<'b, 'w, B, W> {
     ghost use Rattle.std.specs.Prelude.{◌≡◌, ◌↔◌, [], true, false, IfOk, IfErr, length};
     ghost use Rattle.programs.specs.History.{HasRunTo};
     ghost use Rattle.task_bodies.specs.Bodies.{member_frame, are_too_many, BodyMay, numbered};
-    ghost use Rattle.task_bodies.specs.declared.run.RunFault.TheVariants.{TooMany as TooManyStart};
+    ghost use Rattle.task_bodies.specs.declared.run.BodiesFault.TheVariants.{TooMany as TooManyStart};
 
     /// Runs the body as [`Run::alone`] does. Calls the watcher before each superstep, which can stop the run there, as a limit does.
-    pub fn alone(self, alloc: Global) -> Result<Ran<Member<B::Kept>>, RunFault>
+    pub fn alone(self, alloc: Global) -> Result<Ran<Member<B::Kept>>, BodiesFault>
         requires ready { B.ready self.body }
         ensures ran { IfOk result (λ ran. let r = self.entry in HasRunTo W.stops W.goes member_frame (BodyMay (B.may r.body)) r.most r.arrays (numbered [] 0 r.tasks) r.limit ran.report ran.tasks.items) }
         ensures few { IfOk result (λ ran. are_too_many self.entry.most (length self.entry.tasks) ≡ false) }

@@ -8,10 +8,10 @@ use Rattle.bsp_words.specs.declared.asked.Asked.{Asked}
 use Rattle.bsp_cli.specs.declared.fault.RunFault.{RunFault}
 use Rattle.bsp_cli.specs.declared.fault.RunFault.TheVariants.{Text, Read, Write, Memory, NotStarted, Internal}
 
--- by its fault, the line that was told, and its status
-pub faulted : (a : Asked) (look : LookValue) (input old new : Option (List ℕ)) (told : List ℕ → Type 0) (fault : RunFault) (status : ℕ) → Does a look input old new (Err fault)
-    → told (fault_text fault) → status ≡ fault_status fault → Did a look input old new told status
-faulted a look input old new told (Text r) status does line e =
+-- by its fault, the line that was said, and its status
+pub faulted : (a : Asked) (look : LookValue) (input old new : Option (List ℕ)) (reported : List ℕ → Type 0) (fault : RunFault) (status : ℕ) → Does a look input old new (Err fault)
+    → reported (fault_text fault) → status ≡ fault_status fault → Did a look input old new reported status
+faulted a look input old new reported (Text r) status does line e =
     let known : status ≡ 4 = e in
     record {
       finished = λ h. absurd (omega arith);
@@ -21,7 +21,7 @@ faulted a look input old new told (Text r) status does line e =
       failed = λ h. absurd (omega arith);
       internal = λ h. absurd (omega arith);
     }
-faulted a look input old new told Read status does line e =
+faulted a look input old new reported Read status does line e =
     let known : status ≡ 8 = e in
     record {
       finished = λ h. absurd (omega arith);
@@ -31,7 +31,7 @@ faulted a look input old new told Read status does line e =
       failed = λ h. inl does;
       internal = λ h. absurd (omega arith);
     }
-faulted a look input old new told Write status does line e =
+faulted a look input old new reported Write status does line e =
     let known : status ≡ 8 = e in
     record {
       finished = λ h. absurd (omega arith);
@@ -41,7 +41,7 @@ faulted a look input old new told Write status does line e =
       failed = λ h. inr does;
       internal = λ h. absurd (omega arith);
     }
-faulted a look input old new told Memory status does line e =
+faulted a look input old new reported Memory status does line e =
     let known : status ≡ 6 = e in
     record {
       finished = λ h. absurd (omega arith);
@@ -51,7 +51,7 @@ faulted a look input old new told Memory status does line e =
       failed = λ h. absurd (omega arith);
       internal = λ h. absurd (omega arith);
     }
-faulted a look input old new told (NotStarted k) status does line e =
+faulted a look input old new reported (NotStarted k) status does line e =
     let known : status ≡ 7 = e in
     record {
       finished = λ h. absurd (omega arith);
@@ -61,7 +61,7 @@ faulted a look input old new told (NotStarted k) status does line e =
       failed = λ h. absurd (omega arith);
       internal = λ h. absurd (omega arith);
     }
-faulted a look input old new told Internal status does line e =
+faulted a look input old new reported Internal status does line e =
     let known : status ≡ 9 = e in
     record {
       finished = λ h. absurd (omega arith);

@@ -8,8 +8,8 @@ use Rattle.bsp_cli.specs.declared.fault.RunFault.TheVariants.{Text, Read, Write,
 -- the refusal of a command line
 pub refused_says : (status : ℕ) (old new : Option (List ℕ)) (f g : ℕ) → status ≡ 5 → Tells old new f g (codes "command line refused\n")
     → Says status old new f g
-refused_says status old new f g e told = record {
-  command_line = λ h. told;
+refused_says status old new f g e reported = record {
+  command_line = λ h. reported;
   memory = λ h. absurd (omega (arith, e));
   failure = λ h. absurd (omega (arith, e));
   internal = λ h. absurd (omega (arith, e));
@@ -24,10 +24,10 @@ nothing_says status old new f g small = record {
   internal = λ h. absurd (omega arith);
 }
 
--- a fault, which was told
+-- a fault, which was reported
 pub fault_says : (fault : RunFault) (status : ℕ) (old new : Option (List ℕ)) (f g : ℕ) → status ≡ fault_status fault
     → Tells old new f g (fault_text fault) → Says status old new f g
-fault_says (Text r) status old new f g e told =
+fault_says (Text r) status old new f g e reported =
     let known : status ≡ 4 = e in
     record {
       command_line = λ h. absurd (omega arith);
@@ -35,31 +35,31 @@ fault_says (Text r) status old new f g e told =
       failure = λ h. absurd (omega arith);
       internal = λ h. absurd (omega arith);
     }
-fault_says Read status old new f g e told =
+fault_says Read status old new f g e reported =
     let known : status ≡ 8 = e in
     record {
       command_line = λ h. absurd (omega arith);
       memory = λ h. absurd (omega arith);
-      failure = λ h. told;
+      failure = λ h. reported;
       internal = λ h. absurd (omega arith);
     }
-fault_says Write status old new f g e told =
+fault_says Write status old new f g e reported =
     let known : status ≡ 8 = e in
     record {
       command_line = λ h. absurd (omega arith);
       memory = λ h. absurd (omega arith);
-      failure = λ h. told;
+      failure = λ h. reported;
       internal = λ h. absurd (omega arith);
     }
-fault_says Memory status old new f g e told =
+fault_says Memory status old new f g e reported =
     let known : status ≡ 6 = e in
     record {
       command_line = λ h. absurd (omega arith);
-      memory = λ h. told;
+      memory = λ h. reported;
       failure = λ h. absurd (omega arith);
       internal = λ h. absurd (omega arith);
     }
-fault_says (NotStarted k) status old new f g e told =
+fault_says (NotStarted k) status old new f g e reported =
     let known : status ≡ 7 = e in
     record {
       command_line = λ h. absurd (omega arith);
@@ -67,13 +67,13 @@ fault_says (NotStarted k) status old new f g e told =
       failure = λ h. absurd (omega arith);
       internal = λ h. absurd (omega arith);
     }
-fault_says Internal status old new f g e told =
+fault_says Internal status old new f g e reported =
     let known : status ≡ 9 = e in
     record {
       command_line = λ h. absurd (omega arith);
       memory = λ h. absurd (omega arith);
       failure = λ h. absurd (omega arith);
-      internal = λ h. told;
+      internal = λ h. reported;
     }
 
 -- a text was written that isn't empty

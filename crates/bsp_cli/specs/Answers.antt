@@ -2,7 +2,7 @@
 use Rattle.std.specs.Prelude.{◌≡◌, ◌≢◌, ◌≤◌, ◌⊎◌, ℕ, true, List, [], ◌∷◌, Option, IsOk, IsErr}
 use Rattle.std.specs.Io.KnownBytes.{Appends}
 use Rattle.clap.specs.declared.error.kind.ErrorKind.TheVariants as kinds
-use Rattle.tier_shape.specs.Told.{shape_told}
+use Rattle.tier_shape.specs.InText.{shape_in_text}
 use Rattle.bsp_words.specs.CommandLine.{are_refused, asked_in, look_asked, refused_by, tree_asked, version_line}
 use Rattle.bsp_cli.specs.Did.{Did, ReadsNothing}
 use Rattle.bsp_cli.specs.Texts.{CountsFailures, Says, Tells, WritesSome}
@@ -26,9 +26,9 @@ IsSame d = d.after ≡ d.before
 pub record AnswersWords {R W E : Type 0} (words : List (List ℕ)) (reader : Around R) (writer : Around W) (errors : Around E) (status : ℕ) : Type 0 where
   pub did : refused_by words ≡ [] → Did (asked_in words) (look_asked words) (reader.bytes reader.before) (writer.bytes writer.before) (writer.bytes writer.after)
       (Tells (errors.bytes errors.before) (errors.bytes errors.after) (errors.failures errors.before) (errors.failures errors.after)) status
-  pub taken : refused_by words ≡ [] → IsOk (shape_told (tree_asked words)) → status ≢ 5
+  pub taken : refused_by words ≡ [] → IsOk (shape_in_text (tree_asked words)) → status ≢ 5
   pub reads_nothing : refused_by words ≡ [] → ReadsNothing (asked_in words) → IsSame reader
-  pub no_tree : refused_by words ≡ [] → IsErr (shape_told (tree_asked words)) → IsSame reader × IsSame writer × ((status ≡ 5) ⊎ (status ≡ 6))
+  pub no_tree : refused_by words ≡ [] → IsErr (shape_in_text (tree_asked words)) → IsSame reader × IsSame writer × ((status ≡ 5) ⊎ (status ≡ 6))
   pub helps : refused_by words ≡ kinds.DisplayHelp ∷ [] → IsSame reader × ((status ≡ 0) ⊎ (status ≡ 6) ⊎ (status ≡ 8))
   pub tells_version : refused_by words ≡ kinds.DisplayVersion ∷ [] → IsSame reader × ((status ≡ 0) ⊎ (status ≡ 6) ⊎ (status ≡ 8))
   pub helped : refused_by words ≡ kinds.DisplayHelp ∷ [] → status ≡ 0 → WritesSome (writer.bytes writer.before) (writer.bytes writer.after)

@@ -3,7 +3,7 @@ ghost use Rattle.std.specs.Prelude.{◌≡◌, ◌≢◌, ◌≤◌, ◌⊎◌, 
 ghost use Rattle.std.specs.Io.KnownBytes.{Appends};
 ghost use Rattle.clap.specs.Words.{kind_of};
 ghost use Rattle.clap.specs.declared.error.kind.ErrorKind.TheVariants as kinds;
-ghost use Rattle.tier_shape.specs.Told.{shape_told};
+ghost use Rattle.tier_shape.specs.InText.{shape_in_text};
 ghost use Rattle.bsp_cli.specs.Answers.{AnswersWords, around};
 ghost use Rattle.bsp_words.specs.CommandLine.{file_asked, refused_by, tree_asked, version_line};
 ghost use Rattle.bsp_words.specs.Ranges.{IsAsked};
@@ -205,7 +205,7 @@ fn run_asked<
 
 // Reads the text of a tree. Returns `None` if it is none.
 fn shape_of(alloc: Global, text: &str) -> Result<Option<Shape>, AllocError>
-    ensures { IfOk result (λ found. MatchOption found (IsErr (shape_told text.now)) (λ shape. shape_told text.now ≡ Ok shape)) }
+    ensures { IfOk result (λ found. MatchOption found (IsErr (shape_in_text text.now)) (λ shape. shape_in_text text.now ≡ Ok shape)) }
 {
     match Shape::from_widths(alloc, text) {
         Ok(shape) => Ok(Some(shape)),
@@ -220,8 +220,8 @@ fn shape_of(alloc: Global, text: &str) -> Result<Option<Shape>, AllocError>
 
 // Returns the file that a request names, if the text of its tree is one.
 fn file_of<'a>(alloc: Global, request: Request<'a>) -> Result<Option<&'a str>, AllocError>
-    ensures taken { IfOk result (λ file. IsOk (shape_told request.entry.tree.now) → option_map (λ s. s.now) file ≡ option_map (λ s. s.now) request.entry.file) }
-    ensures no_tree { IfOk result (λ file. IsErr (shape_told request.entry.tree.now) → file ≡ None) }
+    ensures taken { IfOk result (λ file. IsOk (shape_in_text request.entry.tree.now) → option_map (λ s. s.now) file ≡ option_map (λ s. s.now) request.entry.file) }
+    ensures no_tree { IfOk result (λ file. IsErr (shape_in_text request.entry.tree.now) → file ≡ None) }
 {
     match shape_of(alloc, request.tree) {
         Ok(Some(_)) => Ok(request.file),
@@ -247,10 +247,10 @@ pub fn file_named<'a, S: AsStr>(
     alloc: Global,
     words: &'a [S],
 ) -> Result<Option<&'a str>, AllocError>
-    ensures named { IfOk result (λ file. refused_by (map S.text words.entry.now) ≡ [] → IsOk (shape_told (tree_asked (map S.text words.entry.now)))
+    ensures named { IfOk result (λ file. refused_by (map S.text words.entry.now) ≡ [] → IsOk (shape_in_text (tree_asked (map S.text words.entry.now)))
         → option_map (λ s. s.now) file ≡ file_asked (map S.text words.entry.now)) }
     ensures refused { IfOk result (λ file. refused_by (map S.text words.entry.now) ≢ [] → file ≡ None) }
-    ensures no_tree { IfOk result (λ file. refused_by (map S.text words.entry.now) ≡ [] → IsErr (shape_told (tree_asked (map S.text words.entry.now)))
+    ensures no_tree { IfOk result (λ file. refused_by (map S.text words.entry.now) ≡ [] → IsErr (shape_in_text (tree_asked (map S.text words.entry.now)))
         → file ≡ None) }
 {
     match parse(alloc, words) {
@@ -284,8 +284,8 @@ fn run_request<
     ensures did { Did request.entry.asked (look_value request.entry.look) (R.remaining reader.old) (W.contents writer.old) (W.contents writer.new)
         (Tells (E.contents errors.old) (E.contents errors.new) (E.failures errors.old) (E.failures errors.new)) result }
     ensures reads_nothing { ReadsNothing request.entry.asked → reader.new ≡ reader.old }
-    ensures taken { IsOk (shape_told request.entry.tree.now) → result ≢ COMMAND_LINE_REFUSED }
-    ensures no_tree { IsErr (shape_told request.entry.tree.now)
+    ensures taken { IsOk (shape_in_text request.entry.tree.now) → result ≢ COMMAND_LINE_REFUSED }
+    ensures no_tree { IsErr (shape_in_text request.entry.tree.now)
         → (reader.new ≡ reader.old) × (writer.new ≡ writer.old) × ((result ≡ COMMAND_LINE_REFUSED) ⊎ (result ≡ OUT_OF_MEMORY)) }
     ensures status { result ≤ 9 }
     ensures silent { result ≤ 3 → errors.new ≡ errors.old }

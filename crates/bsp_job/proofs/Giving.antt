@@ -9,7 +9,7 @@ use Rattle.task_lang.specs.Views.{plans}
 use Rattle.job_reader.specs.Trees.{body_tree, job_tree}
 use Rattle.job_program.specs.Program.{Program, program_of}
 use Rattle.job_program.specs.JobMeaning.{report_of}
-use Rattle.bsp_job.specs.declared.Told.{Told}
+use Rattle.bsp_job.specs.declared.Reported.{Reported}
 use Rattle.bsp_job.specs.Given.{IsGiven}
 use Rattle.bsp_job.specs.Jobs.{GivesReport, plan_of, program_of_tree, status_number}
 
@@ -20,10 +20,10 @@ same_plans (b ∷ bs) = ap (λ (ps : List Plan). plan_of (body_tree b) ∷ ps) (
 same_program : (j : JobValue) → program_of_tree (job_tree j) ≡ program_of j
 same_program j = ap (λ (ps : List Plan). record { arrays = j.arrays; plans = ps; starts = j.starts }) (same_plans j.bodies)
 
-pub gives : (j : JobValue) (limit : ℕ) (r : ReportValue) (text out : List ℕ) (done status : ℤ) (told : Told)
-    → report_of (program_of j) limit ≡ Some r → text ≡ report_text r → done ≡ status_number r.status → told.bytes ≡ length text → IsGiven text out done status (length text)
-    → GivesReport (job_tree j) limit out status told
-gives j limit r text out done status told left is ends bytes given =
+pub gives : (j : JobValue) (limit : ℕ) (r : ReportValue) (text out : List ℕ) (done status : ℤ) (reported : Reported)
+    → report_of (program_of j) limit ≡ Some r → text ≡ report_text r → done ≡ status_number r.status → reported.bytes ≡ length text → IsGiven text out done status (length text)
+    → GivesReport (job_tree j) limit out status reported
+gives j limit r text out done status reported left is ends bytes given =
     let P : List ℕ → Type 0 = λ t. IsGiven t out done status (length t) in
     let Q : ℤ → Type 0 = λ d. IsGiven (report_text r) out d status (length (report_text r)) in
     let R : ℕ → Type 0 = λ n. IsGiven (report_text r) out (status_number r.status) status n in

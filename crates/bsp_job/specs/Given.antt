@@ -3,6 +3,6 @@ use Rattle.std.specs.Prelude.{◌≡◌, ◌≤◌, ◌<◌, ℕ, ℤ, pos, List
 
 -- the length of the text was given; if there is room for the text, it is at the front, else the status is 10
 pub record IsGiven (text out : List ℕ) (done status : ℤ) (bytes : ℕ) : Type 0 where
-  pub told : bytes ≡ length text
+  pub reported : bytes ≡ length text
   pub fits : length text ≤ length out → (status ≡ done) × (take (length text) out ≡ text)
   pub short : length out < length text → status ≡ pos 10

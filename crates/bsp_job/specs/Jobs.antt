@@ -13,7 +13,7 @@ use Rattle.job_reader.specs.Grammar.{canonical_text}
 use Rattle.job_reader.specs.Upgrade.{upgraded_tree}
 use Rattle.job_program.specs.Program.{Program}
 use Rattle.job_program.specs.JobMeaning.{report_of}
-use Rattle.bsp_job.specs.declared.Told.{Told}
+use Rattle.bsp_job.specs.declared.Reported.{Reported}
 use Rattle.bsp_job.specs.Given.{IsGiven}
 
 -- the status of a job that ended so: a fault is 2, the limit is 3
@@ -36,42 +36,42 @@ abbrev pub program_of_tree : JobTree → Program
 program_of_tree j = record { arrays = j.arrays; plans = map plan_of j.bodies; starts = j.starts }
 
 -- What a status says nothing of is 0: only a given or a too short text has a length, and only a refusal a line and a code.
-pub record IsQuiet (status : ℤ) (told : Told) : Type 0 where
-  pub length : (status ≡ pos 4) ⊎ ((status ≡ pos 5) ⊎ (status ≡ pos 6)) → told.bytes ≡ 0
-  pub refusal : status ≢ pos 4 → (told.line ≡ 0) × (told.code ≡ 0)
+pub record IsQuiet (status : ℤ) (reported : Reported) : Type 0 where
+  pub length : (status ≡ pos 4) ⊎ ((status ≡ pos 5) ⊎ (status ≡ pos 6)) → reported.bytes ≡ 0
+  pub refusal : status ≢ pos 4 → (reported.line ≡ 0) × (reported.code ≡ 0)
 
 -- nothing was given yet
-pub record IsNothing (told : Told) : Type 0 where
-  pub bytes : told.bytes ≡ 0
-  pub line : told.line ≡ 0
-  pub code : told.code ≡ 0
+pub record IsNothing (reported : Reported) : Type 0 where
+  pub bytes : reported.bytes ≡ 0
+  pub line : reported.line ≡ 0
+  pub code : reported.code ≡ 0
 
 -- status 4, the fault for which the text is refused, and its place
-pub record IsRefusedAs (refusal : Refusal) (status : ℤ) (told : Told) : Type 0 where
+pub record IsRefusedAs (refusal : Refusal) (status : ℤ) (reported : Reported) : Type 0 where
   pub four : status ≡ pos 4
-  pub line : told.line ≡ refusal.line
-  pub code : told.code ≡ code_number refusal.code
+  pub line : reported.line ≡ refusal.line
+  pub code : reported.code ≡ code_number refusal.code
 
 -- what a check gives for a text that is read so: its canonical text, or its first refusal
-abbrev pub TellsCheck : Result JobTree Refusal → List ℕ → ℤ → Told → Type 0
-TellsCheck (Ok job) out status told = IsGiven (canonical_text job) out (pos 0) status told.bytes
-TellsCheck (Err refusal) out status told = IsRefusedAs refusal status told
+abbrev pub TellsCheck : Result JobTree Refusal → List ℕ → ℤ → Reported → Type 0
+TellsCheck (Ok job) out status reported = IsGiven (canonical_text job) out (pos 0) status reported.bytes
+TellsCheck (Err refusal) out status reported = IsRefusedAs refusal status reported
 
 -- what an upgrade gives for it: the canonical text of that job in format 2, or its first refusal
-abbrev pub TellsUpgrade : Result JobTree Refusal → List ℕ → ℤ → Told → Type 0
-TellsUpgrade (Ok job) out status told = IsGiven (canonical_text (upgraded_tree job)) out (pos 0) status told.bytes
-TellsUpgrade (Err refusal) out status told = IsRefusedAs refusal status told
+abbrev pub TellsUpgrade : Result JobTree Refusal → List ℕ → ℤ → Reported → Type 0
+TellsUpgrade (Ok job) out status reported = IsGiven (canonical_text (upgraded_tree job)) out (pos 0) status reported.bytes
+TellsUpgrade (Err refusal) out status reported = IsRefusedAs refusal status reported
 
 -- what a job leaves within a limit was given as text, and the status says how it ended
-pub record GivesReport (job : JobTree) (limit : ℕ) (out : List ℕ) (status : ℤ) (told : Told) : Type 0 where
+pub record GivesReport (job : JobTree) (limit : ℕ) (out : List ℕ) (status : ℤ) (reported : Reported) : Type 0 where
   pub report : ReportValue
   pub leaves : report_of (program_of_tree job) limit ≡ Some report
-  pub given : IsGiven (report_text report) out (status_number report.status) status told.bytes
+  pub given : IsGiven (report_text report) out (status_number report.status) status reported.bytes
 
 -- what a run gives for it: the text of what the job leaves within the limit, or its first refusal
-abbrev pub TellsRun : ℕ → Result JobTree Refusal → List ℕ → ℤ → Told → Type 0
-TellsRun limit (Ok job) out status told = GivesReport job limit out status told
-TellsRun limit (Err refusal) out status told = IsRefusedAs refusal status told
+abbrev pub TellsRun : ℕ → Result JobTree Refusal → List ℕ → ℤ → Reported → Type 0
+TellsRun limit (Ok job) out status reported = GivesReport job limit out status reported
+TellsRun limit (Err refusal) out status reported = IsRefusedAs refusal status reported
 
 -- the text is a job's
 abbrev pub IsJob : List ℕ → Type 0
@@ -82,11 +82,11 @@ abbrev pub RunsOut : List ℕ → ℤ → Type 0
 RunsOut text status = status ≡ pos 6 → BeginsWell text ⊎ IsJob text
 
 -- Unless there was no memory, which is status 6, a check, an upgrade and a run give that for the text.
-abbrev pub Checks : List ℕ → List ℕ → ℤ → Told → Type 0
-Checks text out status told = (status ≡ pos 6) ⊎ TellsCheck (job_in text) out status told
+abbrev pub Checks : List ℕ → List ℕ → ℤ → Reported → Type 0
+Checks text out status reported = (status ≡ pos 6) ⊎ TellsCheck (job_in text) out status reported
 
-abbrev pub Upgrades : List ℕ → List ℕ → ℤ → Told → Type 0
-Upgrades text out status told = (status ≡ pos 6) ⊎ TellsUpgrade (job_in text) out status told
+abbrev pub Upgrades : List ℕ → List ℕ → ℤ → Reported → Type 0
+Upgrades text out status reported = (status ≡ pos 6) ⊎ TellsUpgrade (job_in text) out status reported
 
-abbrev pub Runs : ℕ → List ℕ → List ℕ → ℤ → Told → Type 0
-Runs limit text out status told = (status ≡ pos 6) ⊎ TellsRun limit (job_in text) out status told
+abbrev pub Runs : ℕ → List ℕ → List ℕ → ℤ → Reported → Type 0
+Runs limit text out status reported = (status ≡ pos 6) ⊎ TellsRun limit (job_in text) out status reported

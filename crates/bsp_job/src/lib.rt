@@ -31,7 +31,7 @@ const TOO_SHORT: i32 = 10;
 /// What a call returns beside its status. A field that the status doesn't need is 0.
 #[repr(C)]
 #[derive(Clone, Copy)]
-pub struct Told {
+pub struct Reported {
     /// The length of the text that was, or would have been, put into the caller's bytes.
     pub bytes: usize,
     /// The line of a refusal, from 1.
@@ -40,7 +40,7 @@ pub struct Told {
     pub code: u32,
 }
 
-const NOTHING: Told = Told {
+const NOTHING: Reported = Reported {
     bytes: 0,
     line: 0,
     code: 0,
@@ -59,12 +59,12 @@ fn give(text: &[u8], done: i32, out: &mut [u8]) -> i32
 }
 
 // Reports the fault for which a text is refused, and its place.
-fn refuse(refusal: Refusal, told: &mut Told) -> i32
-    ensures told { IsRefusedAs refusal result told.new }
-    ensures kept { told.new.bytes ≡ told.old.bytes }
+fn refuse(refusal: Refusal, reported: &mut Reported) -> i32
+    ensures reported { IsRefusedAs refusal result reported.new }
+    ensures kept { reported.new.bytes ≡ reported.old.bytes }
 {
-    told.line = refusal.line;
-    told.code = u32::from(refusal.code.number());
+    reported.line = refusal.line;
+    reported.code = u32::from(refusal.code.number());
     4
 }
 
@@ -80,14 +80,14 @@ fn status_of(status: &JobStatus) -> i32
 }
 
 // Puts the canonical text of a job into the caller's bytes.
-fn write_and_give(alloc: Global, job: &Job, out: &mut [u8], told: &mut Told) -> i32
-    requires nothing { IsNothing told.old }
-    ensures given { (result ≡ pos 6) ⊎ IsGiven (canonical_text (job_tree job.now)) out.new (pos 0) result told.new.bytes }
-    ensures quiet { IsQuiet result told.new }
+fn write_and_give(alloc: Global, job: &Job, out: &mut [u8], reported: &mut Reported) -> i32
+    requires nothing { IsNothing reported.old }
+    ensures given { (result ≡ pos 6) ⊎ IsGiven (canonical_text (job_tree job.now)) out.new (pos 0) result reported.new.bytes }
+    ensures quiet { IsQuiet result reported.new }
 {
     match canonical(alloc, job) {
         Ok(bytes) => {
-            told.bytes = bytes.len();
+            reported.bytes = bytes.len();
             give(&bytes, 0, out)
         }
         Err(AllocError) => NO_MEMORY,
@@ -98,15 +98,20 @@ fn write_and_give(alloc: Global, job: &Job, out: &mut [u8], told: &mut Told) -> 
 /// no text gets that is too long, has a byte that isn't allowed or lacks the header; 10 if `out` is too short, and then its
 /// bytes are unspecified.
 #[unsafe(no_mangle)]
-pub extern "C" fn bsp_check(alloc: Global, text: &[u8], out: &mut [u8], told: &mut Told) -> i32
-    ensures check { Checks text.now out.new result told.new }
+pub extern "C" fn bsp_check(
+    alloc: Global,
+    text: &[u8],
+    out: &mut [u8],
+    reported: &mut Reported,
+) -> i32
+    ensures check { Checks text.now out.new result reported.new }
     ensures memory { RunsOut text.now result }
-    ensures quiet { IsQuiet result told.new }
+    ensures quiet { IsQuiet result reported.new }
 {
-    *told = NOTHING;
+    *reported = NOTHING;
     match read_job(alloc, text) {
-        Ok(job) => write_and_give(alloc, &job, out, told),
-        Err(ReadJobFault::Text(refusal)) => refuse(refusal, told),
+        Ok(job) => write_and_give(alloc, &job, out, reported),
+        Err(ReadJobFault::Text(refusal)) => refuse(refusal, reported),
         Err(ReadJobFault::Memory) => NO_MEMORY,
     }
 }
@@ -114,25 +119,36 @@ pub extern "C" fn bsp_check(alloc: Global, text: &[u8], out: &mut [u8], told: &m
 /// Reads a job of either format and puts the canonical text of the same job in format 2 into `out`. The statuses are those
 /// of `bsp_check`.
 #[unsafe(no_mangle)]
-pub extern "C" fn bsp_upgrade(alloc: Global, text: &[u8], out: &mut [u8], told: &mut Told) -> i32
-    ensures upgrade { Upgrades text.now out.new result told.new }
+pub extern "C" fn bsp_upgrade(
+    alloc: Global,
+    text: &[u8],
+    out: &mut [u8],
+    reported: &mut Reported,
+) -> i32
+    ensures upgrade { Upgrades text.now out.new result reported.new }
     ensures memory { RunsOut text.now result }
-    ensures quiet { IsQuiet result told.new }
+    ensures quiet { IsQuiet result reported.new }
 {
-    *told = NOTHING;
+    *reported = NOTHING;
     match read_job(alloc, text) {
-        Ok(job) => write_and_give(alloc, &upgrade(job), out, told),
-        Err(ReadJobFault::Text(refusal)) => refuse(refusal, told),
+        Ok(job) => write_and_give(alloc, &upgrade(job), out, reported),
+        Err(ReadJobFault::Text(refusal)) => refuse(refusal, reported),
         Err(ReadJobFault::Memory) => NO_MEMORY,
     }
 }
 
 // Runs a job, and puts the text of its report into the caller's bytes.
-fn run_and_give(alloc: Global, job: &Job, limit: u32, out: &mut [u8], told: &mut Told) -> i32
+fn run_and_give(
+    alloc: Global,
+    job: &Job,
+    limit: u32,
+    out: &mut [u8],
+    reported: &mut Reported,
+) -> i32
     requires limit { 1 ≤ limit }
-    requires nothing { IsNothing told.old }
-    ensures given { (result ≡ pos 6) ⊎ GivesReport (job_tree job.now) limit out.new result told.new }
-    ensures quiet { IsQuiet result told.new }
+    requires nothing { IsNothing reported.old }
+    ensures given { (result ≡ pos 6) ⊎ GivesReport (job_tree job.now) limit out.new result reported.new }
+    ensures quiet { IsQuiet result reported.new }
 {
     let Ok(report) = run_alone(alloc, job, limit) else {
         return NO_MEMORY;
@@ -140,7 +156,7 @@ fn run_and_give(alloc: Global, job: &Job, limit: u32, out: &mut [u8], told: &mut
     let Ok(text) = text_of(alloc, &report) else {
         return NO_MEMORY;
     };
-    told.bytes = text.len();
+    reported.bytes = text.len();
     give(&text, status_of(&report.status), out)
 }
 
@@ -153,20 +169,20 @@ pub extern "C" fn bsp_run(
     text: &[u8],
     limit: u32,
     out: &mut [u8],
-    told: &mut Told,
+    reported: &mut Reported,
 ) -> i32
     ensures none { limit ≡ 0 → result ≡ pos 5 }
-    ensures run { 1 ≤ limit → Runs limit text.now out.new result told.new }
+    ensures run { 1 ≤ limit → Runs limit text.now out.new result reported.new }
     ensures memory { RunsOut text.now result }
-    ensures quiet { IsQuiet result told.new }
+    ensures quiet { IsQuiet result reported.new }
 {
-    *told = NOTHING;
+    *reported = NOTHING;
     if limit == 0 {
         return NO_LIMIT;
     }
     match read_job(alloc, text) {
-        Ok(job) => run_and_give(alloc, &job, limit, out, told),
-        Err(ReadJobFault::Text(refusal)) => refuse(refusal, told),
+        Ok(job) => run_and_give(alloc, &job, limit, out, reported),
+        Err(ReadJobFault::Text(refusal)) => refuse(refusal, reported),
         Err(ReadJobFault::Memory) => NO_MEMORY,
     }
 }

@@ -1,4 +1,4 @@
-pub mod Told
+pub mod Reported
 pub mod Stepping
 pub mod Running
 pub mod Passing

@@ -21,18 +21,18 @@ use Rattle.phaser_one.proofs.WordProofs.{alike_self, alike_words, asks_no_plan, 
 use Rattle.bsp_phaser.specs.Numbers.{IsWordOf, IsNoWord}
 use Rattle.bsp_phaser.specs.Steps.{IsStep, Stepped, status_of, answer_of, status_of_new, status_of_count}
 
-told_one : (r : Reply) → status_of r ≡ pos 1 → ⊥
-told_one (Number phase) e = (let wrong : pos 0 ≡ pos 1 = e in omega (arith, ints, wrong))
-told_one Waiting e = (let wrong : pos 2 ≡ pos 1 = e in omega (arith, ints, wrong))
-told_one (Refused TooMany) e = (let wrong : pos 3 ≡ pos 1 = e in omega (arith, ints, wrong))
-told_one (Refused Full) e = (let wrong : pos 4 ≡ pos 1 = e in omega (arith, ints, wrong))
-told_one (Refused NobodyUnarrived) e = (let wrong : pos 5 ≡ pos 1 = e in omega (arith, ints, wrong))
-told_one (Refused Negative) e = (let wrong : pos 6 ≡ pos 1 = e in omega (arith, ints, wrong))
+reported_one : (r : Reply) → status_of r ≡ pos 1 → ⊥
+reported_one (Number phase) e = (let wrong : pos 0 ≡ pos 1 = e in omega (arith, ints, wrong))
+reported_one Waiting e = (let wrong : pos 2 ≡ pos 1 = e in omega (arith, ints, wrong))
+reported_one (Refused TooMany) e = (let wrong : pos 3 ≡ pos 1 = e in omega (arith, ints, wrong))
+reported_one (Refused Full) e = (let wrong : pos 4 ≡ pos 1 = e in omega (arith, ints, wrong))
+reported_one (Refused NobodyUnarrived) e = (let wrong : pos 5 ≡ pos 1 = e in omega (arith, ints, wrong))
+reported_one (Refused Negative) e = (let wrong : pos 6 ≡ pos 1 = e in omega (arith, ints, wrong))
 
-told_none : (r : Reply) → status_of r ≢ pos 0 → (is_number r ≡ false) × (answer_of r ≡ pos 0)
-told_none (Number phase) h = absurd (h refl)
-told_none Waiting h = (refl, refl)
-told_none (Refused fault) h = (refl, refl)
+reported_none : (r : Reply) → status_of r ≢ pos 0 → (is_number r ≡ false) × (answer_of r ≡ pos 0)
+reported_none (Number phase) h = absurd (h refl)
+reported_none Waiting h = (refl, refl)
+reported_none (Refused fault) h = (refl, refl)
 
 -- what isn't done leaves the state as it was
 stays : (plan : CountPlan) (call : Call) (w v : Fields) (reply : Reply) → w.unarrived ≤ w.parties → v.unarrived ≤ v.parties
@@ -46,13 +46,13 @@ stays plan call w v reply h k follows r =
 pub stepped : (plan : CountPlan) (call : Call) (w v : Fields) (number next : ℕ) (status answer : ℤ) (reply : Reply)
     → IsWordOf w number → ((u : Fields) → IsWordOf u number → w ≡ u) → IsWordOf v next → Follows plan call w v reply → status ≡ status_of reply → answer ≡ answer_of reply
     → IsStep plan call number next status answer
-stepped plan call w v number next status answer reply word only new follows told shown = record {
+stepped plan call w v number next status answer reply word only new follows reported shown = record {
   done = λ u it.
       let P : Fields → Type 0 = λ x. Follows plan call x v reply in
-      record { new = v; reply = reply; packs = new; follows = subst P (only u it) follows; told = told; shown = shown };
-  none = (λ e. absurd (told_one reply (sym told ∙ e)), λ nobody. absurd (nobody w word));
+      record { new = v; reply = reply; packs = new; follows = subst P (only u it) follows; reported = reported; shown = shown };
+  none = (λ e. absurd (reported_one reply (sym reported ∙ e)), λ nobody. absurd (nobody w word));
   kept = λ other.
-      let none = told_none reply (λ e. other (told ∙ e)) in
+      let none = reported_none reply (λ e. other (reported ∙ e)) in
       (sym new.packs ∙ ap packed (sym (stays plan call w v reply word.counted new.counted follows none.0)) ∙ word.packs, shown ∙ none.1);
 }
 
@@ -75,7 +75,7 @@ any_plan p q call number next status answer quiet step = record {
         reply = s.reply;
         packs = s.packs;
         follows = λ f a. (subst P (asks_no_plan p q call f a.due quiet) ((s.follows f a).0), (s.follows f a).1);
-        told = s.told;
+        reported = s.reported;
         shown = s.shown;
       };
   none = step.none;

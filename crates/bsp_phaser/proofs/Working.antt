@@ -33,7 +33,7 @@ gives plan call w e number word counted leads n s a step =
     let it = step.done w word in
     let own = it.follows (flat_of w) (alike_self (flat_of w)) in
     let same : e ≡ it.new = alike_words e it.new counted it.packs.counted (meet leads own.0) in
-    (sym it.packs.packs ∙ ap packed (sym same), it.told ∙ ap status_of own.1, it.shown ∙ ap answer_of own.1)
+    (sym it.packs.packs ∙ ap packed (sym same), it.reported ∙ ap status_of own.1, it.shown ∙ ap answer_of own.1)
 
 reads : (of : Flat → ℤ) (w : Fields) (number : ℕ) → IsWordOf w number → Reads of number (of (flat_of w))
 reads of w number word s a reading = reading.done w word (flat_of w) (alike_self (flat_of w))

@@ -22,12 +22,12 @@ abbrev pub ended_in : Flat → ℤ
 ended_in f = if f.ended then pos 1 else pos 0
 
 -- the answer to a question about a phaser
-abbrev pub told_by : Reading → Flat → ℤ
-told_by Phase f = shown f
-told_by Parties f = parties_in f
-told_by Arrived f = arrived_in f
-told_by Unarrived f = unarrived_in f
-told_by Ended f = ended_in f
+abbrev pub reported_by : Reading → Flat → ℤ
+reported_by Phase f = shown f
+reported_by Parties f = parties_in f
+reported_by Arrived f = arrived_in f
+reported_by Unarrived f = unarrived_in f
+reported_by Ended f = ended_in f
 
 -- Status 1 means exactly that the number is the word of no phaser. Otherwise the status is 0, and the answer holds of
 -- every phaser that has this word.

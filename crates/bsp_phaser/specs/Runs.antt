@@ -33,7 +33,7 @@ pub record IsOneRun (plan : CountPlan) (first : Fields) (number : ℕ) (xs : Lis
   pub replies : List Reply
   pub packs : IsWordOf last (last_of number xs)
   pub follows : FollowsAll plan (map (λ x. x.call) xs) first last replies
-  pub told : map (λ x. x.status) xs ≡ map status_of replies
+  pub reported : map (λ x. x.status) xs ≡ map status_of replies
   pub shown : map (λ x. x.answer) xs ≡ map answer_of replies
 
 -- However many threads exchange the word, if each exchange puts what a call gives for the number found, the calls in

@@ -46,7 +46,7 @@ pub record Stepped (plan : CountPlan) (call : Call) (old : Fields) (next : ℕ) 
   pub reply : Reply
   pub packs : IsWordOf new next
   pub follows : Follows plan call old new reply
-  pub told : status ≡ status_of reply
+  pub reported : status ≡ status_of reply
   pub shown : answer ≡ answer_of reply
 
 -- A call on a number is the call on the phaser that has this word. Status 1 means exactly that no phaser has it. If a

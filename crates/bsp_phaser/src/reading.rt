@@ -3,7 +3,7 @@ ghost use Rattle.std.specs.Prelude.{◌≡◌, ◌≤◌, pos};
 ghost use Rattle.flat_phaser.specs.Flat.{Flat};
 ghost use Rattle.flat_phaser.specs.Alike.{IsAlike};
 ghost use Rattle.phaser_one.specs.Seen.{flat_of};
-ghost use Rattle.bsp_phaser.specs.Readings.{IsReading, told_by};
+ghost use Rattle.bsp_phaser.specs.Readings.{IsReading, reported_by};
 
 use crate::number::{NO_WORD, word_of};
 use phaser_word::Word;
@@ -24,9 +24,9 @@ pub(crate) enum Reading {
 }
 
 // Reads a word.
-fn told(word: Word, reading: Reading) -> i32
+fn reported(word: Word, reading: Reading) -> i32
     requires counted { word.unarrived ≤ word.parties }
-    ensures { (f : Flat) → IsAlike f (flat_of word) → result ≡ told_by reading f }
+    ensures { (f : Flat) → IsAlike f (flat_of word) → result ≡ reported_by reading f }
 {
     match reading {
         Reading::Phase => word.shown(),
@@ -39,11 +39,11 @@ fn told(word: Word, reading: Reading) -> i32
 
 // Stores what is read of a number in `answer`, or 0 if it holds no word, and returns the status.
 pub(crate) fn read(number: u64, reading: Reading, answer: &mut i32) -> i32
-    ensures { IsReading (told_by reading) number result answer.new }
+    ensures { IsReading (reported_by reading) number result answer.new }
 {
     match word_of(number) {
         Some(word) => {
-            *answer = told(word, reading);
+            *answer = reported(word, reading);
             0
         }
         None => {

@@ -2,7 +2,7 @@
 ghost use Rattle.std.specs.Prelude.{◌≡◌, ◌≤◌};
 ghost use Rattle.phaser_one.specs.Seen.{Follows};
 ghost use Rattle.bsp_phaser.specs.Numbers.{IsWordOf};
-ghost use Rattle.bsp_phaser.specs.Steps.{IsStep, status_of as status_told, answer_of as answer_told};
+ghost use Rattle.bsp_phaser.specs.Steps.{IsStep, status_of as status_reported, answer_of as answer_reported};
 
 use crate::number::{NO_WORD, word_of};
 use advance_rule::{CountPlan, StoredCount};
@@ -11,7 +11,7 @@ use phaser_word::Word;
 
 // Returns the status of a reply.
 fn status_of(reply: Reply) -> i32
-    ensures { result ≡ status_told reply }
+    ensures { result ≡ status_reported reply }
 {
     match reply {
         Reply::Number(_) => 0,
@@ -25,7 +25,7 @@ fn status_of(reply: Reply) -> i32
 
 // Returns the phase of a reply, or 0 if it has none.
 fn answer_of(reply: Reply) -> i32
-    ensures { result ≡ answer_told reply }
+    ensures { result ≡ answer_reported reply }
 {
     match reply {
         Reply::Number(phase) => phase,

@@ -1,12 +1,12 @@
--- What a task leaves of which something was told.
+-- What a task leaves for which something was given.
 use Rattle.std.proofs.Common.{◌≡◌, ◌<◌, ◌≤◌, ℕ, zero, suc, true, false, ltb, not, List, [], ◌∷◌, ◌++◌, length, get_or, Option, Some, None, refl, sym, ap, ◌∙◌, subst, arith, append-nil}
 use Rattle.std.specs.Prelude.{ℤ, slice_get}
 use Rattle.std.specs.List.{list_all}
 use Rattle.std.proofs.lemmas.Bool.Decides.{nat_tests}
 use Rattle.superstep_memory.specs.Cells.{is_cell}
 use Rattle.programs.specs.declared.work.Work.{Work}
-use Rattle.programs.specs.declared.work.Ending.{Ending as Ended}
-use Rattle.programs.specs.declared.work.Ending.TheVariants as ended
+use Rattle.programs.specs.declared.work.SegmentEnd.{SegmentEnd as Ended}
+use Rattle.programs.specs.declared.work.SegmentEnd.TheVariants as ended
 use Rattle.programs.specs.Lent.{IsLeft, HasLeft}
 use Rattle.task_bodies.specs.declared.body.Ending.TheVariants as ending
 use Rattle.task_bodies.specs.Bodies.{Left, path_of, member_frame, numbered, went, when, refused_spawns, refused, framed, left_so, nothing}
@@ -15,8 +15,8 @@ use Rattle.task_bodies.proofs.Framed.{same_of}
 use Rattle.task_bodies.proofs.WellFormed.{framed_formed}
 use Rattle.bsp_steps.specs.declared.given.Deed.{Deed}
 use Rattle.bsp_steps.specs.declared.given.Origin.{Origin}
-use Rattle.bsp_steps.specs.Given.{TaskValue, puts_given, all_spawned, written, told_of}
-use Rattle.bsp_steps.specs.Runs.{AsTold}
+use Rattle.bsp_steps.specs.Given.{TaskValue, puts_given, all_spawned, written, given_of}
+use Rattle.bsp_steps.specs.Runs.{AsGiven}
 use Rattle.bsp_steps.proofs.Numbered.{spawned_count}
 
 -- what it left, if its deed says that it left this
@@ -46,19 +46,19 @@ slice_none [] n le = refl
 slice_none (x ∷ ds) zero le = absurd (omega (arith, le))
 slice_none (x ∷ ds) (suc n) le = slice_none ds n (omega (arith, le))
 
--- nothing was told of it
-pub left_untold : (arrays : List (List ℕ × List ℤ)) (t : TaskValue) (work : Work TaskValue) → work.prints.items ≡ [] → work.spawns.items ≡ []
+-- nothing was given for it
+pub left_ungiven : (arrays : List (List ℕ × List ℤ)) (t : TaskValue) (work : Work TaskValue) → work.prints.items ≡ [] → work.spawns.items ≡ []
     → IsSo arrays t t ended.Stops work work (left_so ending.Stops t.kept nothing)
-left_untold arrays t work printed spawned =
+left_ungiven arrays t work printed spawned =
     (record { puts = sym (append-nil work.puts); prints = printed; spawns = same_of work.spawns.items ∙ spawned }, refl, refl)
 
--- what it left is what was told of it
+-- what it left is what was given for it
 pub has_left : (deeds : List Deed) (arrays : List (List ℕ × List ℤ)) (step : ℕ) (t u : TaskValue) (e : Ended) (old new : Work TaskValue)
-    → IsSo arrays t u e old new (told_of deeds t.kept) → HasLeft member_frame (AsTold deeds) (λ (x : TaskValue). x) path_of arrays step e t u old new
+    → IsSo arrays t u e old new (given_of deeds t.kept) → HasLeft member_frame (AsGiven deeds) (λ (x : TaskValue). x) path_of arrays step e t u old new
 has_left deeds arrays step t u e old new h = record {
-  left = framed arrays t (told_of deeds t.kept);
-  allowed = record { left = told_of deeds t.kept; allowed = refl; is = refl };
-  formed = framed_formed arrays t (told_of deeds t.kept);
+  left = framed arrays t (given_of deeds t.kept);
+  allowed = record { left = given_of deeds t.kept; allowed = refl; is = refl };
+  formed = framed_formed arrays t (given_of deeds t.kept);
   is = h;
 }
 

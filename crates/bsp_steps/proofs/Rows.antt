@@ -19,7 +19,7 @@ row_more array first (x ∷ vs) v =
     let e : suc first + length vs ≡ first + suc (length vs) = omega arith in
     ap (λ (ps : List Put). set_at array first x ∷ ps) (row_more array (suc first) vs v ∙ (λ i. row_puts array (suc first) vs ++ set_at array (e i) v ∷ []))
 
--- a put that is told to set
+-- a put that is to set
 pub sets_at : (p : PutGiven) (array index : ℕ) → p.adds ≡ 0 → p.array ≡ array → p.index ≡ index → put_given p ≡ set_at array index p.value
 sets_at p array index a b c = kind a ∙ (λ i. set_at (b i) (c i) p.value)
   where

@@ -5,10 +5,10 @@ use Rattle.std.specs.Option.{option_map}
 use Rattle.task_bodies.specs.Bodies.{MemberValue, framed}
 use Rattle.bsp_steps.specs.declared.given.Origin.{Origin}
 use Rattle.bsp_steps.specs.Given.{placed_at, placed_from}
-use Rattle.bsp_steps.specs.Laws.{TasksLeaveWhatWasTold, EachTaskHasItsPlace}
+use Rattle.bsp_steps.specs.Laws.{TasksLeaveWhatWasGiven, EachTaskHasItsPlace}
 
-pub leave_what_was_told : TasksLeaveWhatWasTold
-leave_what_was_told deeds t arrays step g h = h.is ∙ ap (framed arrays t) h.allowed
+pub leave_what_was_given : TasksLeaveWhatWasGiven
+leave_what_was_given deeds t arrays step g h = h.is ∙ ap (framed arrays t) h.allowed
 
 place_from : (base place : ℕ) (tasks : List (MemberValue Origin)) → slice_get (placed_from base tasks) place ≡ option_map (placed_at (base + place)) (slice_get tasks place)
 place_from base place [] = refl

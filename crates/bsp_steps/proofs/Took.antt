@@ -1,4 +1,4 @@
--- A superstep that was told was taken, or memory ran out.
+-- A superstep that was given was taken, or memory ran out.
 use Rattle.std.proofs.Common.{◌≡◌, ◌∙◌, ◌++◌, ℤ, [], List, Option, sym, ap, subst, inl, inr, append-nil}
 use Rattle.std.specs.Prelude.{Result, Ok, Err, OnOk, OnErr, IfOk, MatchResult, pos}
 use Rattle.std.specs.Option.{option_map}
@@ -10,10 +10,10 @@ use Rattle.programs.specs.Steps.{HasStepped, ended, state_in, as_kept, with_take
 use Rattle.programs.proofs.Stepped.{superstep_taken}
 use Rattle.task_bodies.specs.Bodies.{member_frame}
 use Rattle.bsp_steps.specs.declared.given.Deed.{Deed}
-use Rattle.bsp_steps.specs.Runs.{RunValue, AsTold, Takes, placed, closing, after_prints}
+use Rattle.bsp_steps.specs.Runs.{RunValue, AsGiven, Takes, placed, closing, after_prints}
 
 abbrev pub Stepped : List Deed → RunValue → RunValue → Type 0
-Stepped deeds v w = HasStepped member_frame (AsTold deeds) (λ t. t) v w
+Stepped deeds v w = HasStepped member_frame (AsGiven deeds) (λ t. t) v w
 
 -- a run that had printed something before takes the same superstep
 pub stepped_after : (deeds : List Deed) (ps : List PrintValue) (v w : RunValue) → Stepped deeds v w → Stepped deeds (after_prints ps v) (after_prints ps w)
@@ -43,6 +43,6 @@ module _ {E : Type 0} where
       → IfOk r (λ x. option_map status_seen x ≡ ended w)
       → MatchResult r (λ x. status ≡ closing (option_map status_seen x)) (λ e. status ≡ pos 6)
       → Takes v (after_prints qs w) deeds status
-  took v s w qs deeds status (Ok x) is stepped memory so told =
-      inl (told ∙ ap closing so, subst (λ (q : RunValue). Stepped deeds (placed q) (after_prints qs w)) is (stepped_after deeds qs (placed s) w stepped))
-  took v s w qs deeds status (Err e) is stepped memory so told = inr (told, ap (after_prints qs) memory ∙ is)
+  took v s w qs deeds status (Ok x) is stepped memory so reported =
+      inl (reported ∙ ap closing so, subst (λ (q : RunValue). Stepped deeds (placed q) (after_prints qs w)) is (stepped_after deeds qs (placed s) w stepped))
+  took v s w qs deeds status (Err e) is stepped memory so reported = inr (reported, ap (after_prints qs) memory ∙ is)

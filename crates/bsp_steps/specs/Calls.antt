@@ -28,8 +28,8 @@ use Rattle.bsp_steps.specs.declared.given.ArrayGiven.{ArrayGiven}
 use Rattle.bsp_steps.specs.declared.given.Deed.{Deed}
 use Rattle.bsp_steps.specs.declared.given.Look.{Look}
 use Rattle.bsp_steps.specs.declared.given.Origin.{Origin}
-use Rattle.bsp_steps.specs.declared.given.PrintTold.{PrintTold}
-use Rattle.bsp_steps.specs.declared.given.RecordTold.{RecordTold}
+use Rattle.bsp_steps.specs.declared.given.PrintReport.{PrintReport}
+use Rattle.bsp_steps.specs.declared.given.RecordReport.{RecordReport}
 use Rattle.bsp_steps.specs.declared.state.State.{State}
 use Rattle.bsp_steps.specs.Given.{MayFollow}
 use Rattle.bsp_steps.specs.Runs.{RunValue, IsClosed, fresh, refused_starts, text_by}
@@ -68,12 +68,12 @@ Looks None after before look status = (status ≡ pos 7) × (after ≡ None) × 
 Looks (Some s) after before look status = (status ≡ pos 0) × (after ≡ Some s) × (look ≡ look_at s.run)
 
 module _ {A : Type 0} where
-  -- told (0), or there is none (9), and what was there stays
+  -- reported (0), or there is none (9), and what was there stays
   abbrev pub Tells : Option A → A → A → ℤ → Type 0
   Tells None before after status = (status ≡ pos 9) × (after ≡ before)
   Tells (Some x) before after status = (status ≡ pos 0) × (after ≡ x)
 
-  -- nothing is open (7), or what is told of the run
+  -- nothing is open (7), or what is said of the run
   abbrev pub TellsOf : (RunValue → Option A) → Option State → A → A → ℤ → Type 0
   TellsOf of None before after status = (status ≡ pos 7) × (after ≡ before)
   TellsOf of (Some s) before after status = Tells (of s.run) before after status
@@ -95,25 +95,25 @@ ReadsOrigin state after task before origin status =
 abbrev pub ReadsFault : Option State → ℕ → ℕ → List ℕ → List ℕ → ℤ → Type 0
 ReadsFault state before code path_before path status = TellsOf (λ v. v.fault) state (before, path_before) (code, path) status
 
-abbrev pub print_told : PrintValue → PrintTold × List ℕ
-print_told p = (record { step = p.step; value = p.value }, p.path)
+abbrev pub print_report : PrintValue → PrintReport × List ℕ
+print_report p = (record { step = p.step; value = p.value }, p.path)
 
 -- a print, and the path of its task
-abbrev pub ReadsPrint : Option State → ℕ → PrintTold → PrintTold → List ℕ → List ℕ → ℤ → Type 0
-ReadsPrint state print before told path_before path status =
-    TellsOf (λ v. option_map print_told (slice_get v.prints print)) state (before, path_before) (told, path) status
+abbrev pub ReadsPrint : Option State → ℕ → PrintReport → PrintReport → List ℕ → List ℕ → ℤ → Type 0
+ReadsPrint state print before reported path_before path status =
+    TellsOf (λ v. option_map print_report (slice_get v.prints print)) state (before, path_before) (reported, path) status
 
-abbrev pub record_told : PhaseRecord → RecordTold
-record_told r = record { phase = r.phase; parties = r.parties; left = r.left; spawned = r.spawned }
+abbrev pub record_report : PhaseRecord → RecordReport
+record_report r = record { phase = r.phase; parties = r.parties; left = r.left; spawned = r.spawned }
 
 -- a record; the run stays
-abbrev pub ReadsRecord : Option State → Option State → ℕ → RecordTold → RecordTold → ℤ → Type 0
-ReadsRecord state after place before told status =
-    (after ≡ state) × TellsOf (λ v. option_map record_told (slice_get v.records place)) state before told status
+abbrev pub ReadsRecord : Option State → Option State → ℕ → RecordReport → RecordReport → ℤ → Type 0
+ReadsRecord state after place before reported status =
+    (after ≡ state) × TellsOf (λ v. option_map record_report (slice_get v.records place)) state before reported status
 
 -- The length of the text was given. If there is room for the text, it is at the front (0), else the status is 10.
 pub record IsGiven (text out : List ℕ) (bytes : ℕ) (status : ℤ) : Type 0 where
-  pub told : bytes ≡ length text
+  pub reported : bytes ≡ length text
   pub fits : length text ≤ length out → (status ≡ pos 0) × (take (length text) out ≡ text)
   pub short : length out < length text → status ≡ pos 10
 

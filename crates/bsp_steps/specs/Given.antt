@@ -68,13 +68,13 @@ left_by d k =
     else if nat_eq d.ending 1 then left_so ending.Stops k (written d k.place)
     else left_so (ending.Fails d.ending) k nothing
 
--- what was told of this task; one of which nothing was told stops
+-- what was given for this task; one for which nothing was given stops
 abbrev pub left_in : Option Deed → Origin → Left Origin
 left_in None k = left_so ending.Stops k nothing
 left_in (Some d) k = left_by d k
 
-abbrev pub told_of : List Deed → Origin → Left Origin
-told_of deeds k = left_in (slice_get deeds k.place) k
+abbrev pub given_of : List Deed → Origin → Left Origin
+given_of deeds k = left_in (slice_get deeds k.place) k
 
 -- a task with the place that it has now
 abbrev pub placed_at : ℕ → MemberValue Origin → MemberValue Origin

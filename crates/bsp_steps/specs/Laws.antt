@@ -5,16 +5,16 @@ use Rattle.programs.specs.Meaning.{Segment}
 use Rattle.task_bodies.specs.Bodies.{MemberValue, framed}
 use Rattle.bsp_steps.specs.declared.given.Deed.{Deed}
 use Rattle.bsp_steps.specs.declared.given.Origin.{Origin}
-use Rattle.bsp_steps.specs.Given.{placed_at, placed_from, told_of}
-use Rattle.bsp_steps.specs.Runs.{AsTold}
+use Rattle.bsp_steps.specs.Given.{placed_at, placed_from, given_of}
+use Rattle.bsp_steps.specs.Runs.{AsGiven}
 
--- what was told of a task says all that it leaves
-abbrev pub TasksLeaveWhatWasTold : Type 0
-TasksLeaveWhatWasTold =
+-- what was given for a task says all that it leaves
+abbrev pub TasksLeaveWhatWasGiven : Type 0
+TasksLeaveWhatWasGiven =
     (deeds : List Deed) (t : MemberValue Origin) (arrays : List (List ℕ × List ℤ)) (step : ℕ) (g : Segment (MemberValue Origin))
-    → AsTold deeds t arrays step g → g ≡ framed arrays t (told_of deeds t.kept)
+    → AsGiven deeds t arrays step g → g ≡ framed arrays t (given_of deeds t.kept)
 
--- each task is told of by the deed at its place
+-- each task has its deed at its place
 abbrev pub EachTaskHasItsPlace : Type 0
 EachTaskHasItsPlace =
     (tasks : List (MemberValue Origin)) (place : ℕ)

@@ -1,4 +1,4 @@
--- A run whose supersteps are told (own).
+-- A run whose supersteps are given (own).
 use Rattle.std.specs.Prelude.{◌≡◌, ◌⊎◌, ℕ, ℤ, pos, Bool, false, ◌||◌, nat_lt, List, [], ◌++◌, map, length, Option, Some, None, IsSome}
 use Rattle.phase_records.specs.PrintValue.{PrintValue}
 use Rattle.phase_records.specs.ReportText.{report_text}
@@ -9,7 +9,7 @@ use Rattle.task_bodies.specs.Bodies.{MemberValue, BodyMay, member_frame, numbere
 use Rattle.bsp_steps.specs.declared.given.ArrayGiven.{ArrayGiven}
 use Rattle.bsp_steps.specs.declared.given.Deed.{Deed}
 use Rattle.bsp_steps.specs.declared.given.Origin.{Origin}
-use Rattle.bsp_steps.specs.Given.{array_given, Fit, told_of, placed_from, start_origins}
+use Rattle.bsp_steps.specs.Given.{array_given, Fit, given_of, placed_from, start_origins}
 
 abbrev pub RunValue : Type 0
 RunValue = StepsValue (MemberValue Origin)
@@ -22,9 +22,9 @@ placed v = record v { tasks = placed_from 0 v.tasks }
 abbrev pub after_prints : List PrintValue → RunValue → RunValue
 after_prints before v = record v { prints = before ++ v.prints }
 
--- a task leaves exactly what was told of it
-abbrev pub AsTold : List Deed → MemberValue Origin → List (List ℕ × List ℤ) → ℕ → Segment (MemberValue Origin) → Type 0
-AsTold deeds t arrays step g = BodyMay (λ path seen n k o. o ≡ told_of deeds k) t arrays step g
+-- a task leaves exactly what was given for it
+abbrev pub AsGiven : List Deed → MemberValue Origin → List (List ℕ × List ℤ) → ℕ → Segment (MemberValue Origin) → Type 0
+AsGiven deeds t arrays step g = BodyMay (λ path seen n k o. o ≡ given_of deeds k) t arrays step g
 
 -- these may not be start tasks: more than may live, or than a path's first number counts; or more may live than 2147483647
 abbrev pub refused_starts : ℕ → ℕ → Bool
@@ -41,13 +41,13 @@ closing (Some (Ended steps)) = pos 1
 closing (Some (Fault code step path)) = pos 2
 closing (Some (Limit steps)) = pos 3
 
--- a superstep was taken, in which each task left what was told of it; or memory ran out (6), and nothing was changed
+-- a superstep was taken, in which each task left what was given for it; or memory ran out (6), and nothing was changed
 abbrev pub Takes : RunValue → RunValue → List Deed → ℤ → Type 0
 Takes v w deeds status =
-    ((status ≡ closing (ended w)) × HasStepped member_frame (AsTold deeds) (λ t. t) (placed v) w)
+    ((status ≡ closing (ended w)) × HasStepped member_frame (AsGiven deeds) (λ t. t) (placed v) w)
     ⊎ ((status ≡ pos 6) × (w ≡ v))
 
--- the run was over (12); what was told doesn't fit the live tasks (11); or a superstep was taken. No run is left that can't go on.
+-- the run was over (12); what was given doesn't fit the live tasks (11); or a superstep was taken. No run is left that can't go on.
 pub record IsClosed (v w : RunValue) (deeds : List Deed) (status : ℤ) : Type 0 where
   pub over : IsSome (ended v) → (status ≡ pos 12) × (w ≡ v)
   pub unfit : IsRunning v → (Fit deeds (length v.tasks) → ⊥) → (status ≡ pos 11) × (w ≡ v)

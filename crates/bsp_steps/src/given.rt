@@ -68,7 +68,7 @@ pub struct Look {
 /// A printed value, without the path of its task.
 #[repr(C)]
 #[derive(Clone, Copy)]
-pub struct PrintTold {
+pub struct PrintReport {
     /// The superstep, from 0.
     pub step: u32,
     /// The value.
@@ -78,7 +78,7 @@ pub struct PrintTold {
 /// The record of a superstep.
 #[repr(C)]
 #[derive(Clone, Copy)]
-pub struct RecordTold {
+pub struct RecordReport {
     /// The superstep, from 0.
     pub phase: u32,
     /// How many tasks lived as it began, and were spawned in it.

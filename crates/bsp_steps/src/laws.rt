@@ -1,9 +1,9 @@
 //! Laws on what a close means for each task.
-ghost use Rattle.bsp_steps.specs.Laws.{TasksLeaveWhatWasTold, EachTaskHasItsPlace};
+ghost use Rattle.bsp_steps.specs.Laws.{TasksLeaveWhatWasGiven, EachTaskHasItsPlace};
 
-/// What was told of a task says all that it leaves in the superstep.
-pub fn tasks_leave_what_was_told()
-    ensures { TasksLeaveWhatWasTold }
+/// What was given for a task says all that it leaves in the superstep.
+pub fn tasks_leave_what_was_given()
+    ensures { TasksLeaveWhatWasGiven }
 {}
 
 /// The deed at a task's place is that of the task.

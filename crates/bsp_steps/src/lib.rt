@@ -4,8 +4,8 @@
 //! # Where things are
 //!
 //! * `lib.rt`: the exported calls; `specs/Calls.antt`, `specs/Runs.antt`: what they give.
-//! * `given.rt`: what C gives (`specs/Given.antt`); `task.rt`: a live task; `told.rt`: the program of a superstep that was told;
-//!   `open.rt`: arrays; `run.rt`: a run whose supersteps are told; `laws.rt`: what a close means for each task.
+//! * `given.rt`: what C gives (`specs/Given.antt`); `task.rt`: a live task; `given_deeds.rt`: the program of a superstep that was given;
+//!   `open.rt`: arrays; `run.rt`: a run whose supersteps are given; `laws.rt`: what a close means for each task.
 //! * `state.rt`, `slot.rt`, `handle.rt`, `loose.rt`: what C holds. The unsafe code is in `handle/lend.rt` and `loose.rt`.
 #![tactic(auto)]
 
@@ -13,7 +13,7 @@ ghost use Rattle.std.specs.Prelude.{◌≡◌, None, false, length};
 ghost use Rattle.bsp_steps.specs.Runs.{refused_starts};
 ghost use Rattle.bsp_steps.specs.Calls.{Begins, Opens, Closes, Frees, IsGiven, Looks, ReadsCells, ReadsPath, ReadsOrigin, ReadsFault, ReadsPrint, ReadsRecord, Reports};
 
-use given::{ArrayGiven, Deed, Look, Origin, PrintTold, RecordTold};
+use given::{ArrayGiven, Deed, Look, Origin, PrintReport, RecordReport};
 use open::{OpenFault, open_arrays};
 use programs::program::OnPath;
 use run::{DONE, NO_MEMORY, Run};
@@ -22,6 +22,7 @@ use state::State;
 use std::alloc::Global;
 
 mod given;
+mod given_deeds;
 mod handle;
 mod laws;
 mod loose;
@@ -30,9 +31,8 @@ mod run;
 mod slot;
 mod state;
 mod task;
-mod told;
 
-pub use laws::{each_task_has_its_place, tasks_leave_what_was_told};
+pub use laws::{each_task_has_its_place, tasks_leave_what_was_given};
 
 /// An array has a name that is no text, or the name of another, or too many cells.
 const REFUSED: i32 = 4;
@@ -234,17 +234,17 @@ pub extern "C" fn bsp_steps_fault<'a>(
 pub extern "C" fn bsp_steps_print<'a>(
     slot: &'a mut Slot,
     place: usize,
-    told: &mut PrintTold,
+    reported: &mut PrintReport,
     path: &mut &'a [u16],
 ) -> i32
-    ensures { ReadsPrint slot.old.handle.state place told.old told.new path.old.now path.new.now result }
+    ensures { ReadsPrint slot.old.handle.state place reported.old reported.new path.old.now path.new.now result }
 {
     let Some(state) = slot.look() else {
         return CLOSED;
     };
     match state.run.print(place) {
         Some(found) => {
-            *told = PrintTold {
+            *reported = PrintReport {
                 step: found.step,
                 value: found.value,
             };
@@ -257,15 +257,19 @@ pub extern "C" fn bsp_steps_print<'a>(
 
 /// Tells a record by its place in the report. Returns 7 if nothing is open, 9 if there is no such record.
 #[unsafe(no_mangle)]
-pub extern "C" fn bsp_steps_record(slot: &mut Slot, place: usize, told: &mut RecordTold) -> i32
-    ensures { ReadsRecord slot.old.handle.state slot.new.handle.state place told.old told.new result }
+pub extern "C" fn bsp_steps_record(
+    slot: &mut Slot,
+    place: usize,
+    reported: &mut RecordReport,
+) -> i32
+    ensures { ReadsRecord slot.old.handle.state slot.new.handle.state place reported.old reported.new result }
 {
     let Some(state) = slot.look() else {
         return CLOSED;
     };
     match state.run.records().get(place) {
         Some(found) => {
-            *told = RecordTold {
+            *reported = RecordReport {
                 phase: found.phase,
                 parties: found.parties,
                 left: found.left,

@@ -1,4 +1,4 @@
-//! A run whose supersteps are told.
+//! A run whose supersteps are given.
 ghost use Rattle.std.specs.Prelude.{◌≡◌, ◌↔◌, ◌++◌, [], IsTrue, IfOk, OnOk, OnErr, MatchResult, FitsSigned, length, pos};
 ghost use Rattle.std.specs.Int.{w32};
 ghost use Rattle.std.specs.Option.{option_map};
@@ -8,11 +8,11 @@ ghost use Rattle.bsp_steps.specs.Given.{Fit, is_ending, placed_from};
 ghost use Rattle.programs.specs.Order.{AreOrdered};
 ghost use Rattle.programs.specs.Steps.{IsRunning, HasStepped, ended};
 ghost use Rattle.task_bodies.specs.Bodies.{member_frame};
-ghost use Rattle.bsp_steps.specs.Runs.{AsTold, closing, placed};
+ghost use Rattle.bsp_steps.specs.Runs.{AsGiven, closing, placed};
 
 use crate::given::Deed;
+use crate::given_deeds::GivenDeeds;
 use crate::task::{Task, start_tasks};
-use crate::told::Told;
 use phase_records::{JobStatus, PhaseRecord, Print, text_of_parts};
 use programs::blame::Blame;
 use programs::steps::Steps;
@@ -35,13 +35,13 @@ pub const LIMIT: i32 = 3;
 /// An allocation failed.
 pub const NO_MEMORY: i32 = 6;
 
-/// What was told doesn't fit the live tasks.
+/// What was given doesn't fit the live tasks.
 pub const UNFIT: i32 = 11;
 
 /// The run is over.
 pub const OVER: i32 = 12;
 
-/// A run whose supersteps are told.
+/// A run whose supersteps are given.
 #[derive(Drop)]
 pub struct Run {
     // What was printed in the last superstep, and the rest of the run.
@@ -49,7 +49,7 @@ pub struct Run {
     // What was printed before.
     printed: Vec<Print>,
     // Room for the tasks of a superstep. What it holds between two calls means nothing.
-    room: Vec<Task>,
+    spare: Vec<Task>,
 }
 
 impl Model for Run {
@@ -97,26 +97,26 @@ fn join_prints(steps: &mut Steps<Task>, printed: &mut Vec<Print>) -> Result<(), 
 
 // Takes a superstep in which each live task leaves what `deeds` report of it. If memory runs out, nothing is changed: the tasks
 // do their segments in copies.
-fn take_told(
+fn take_given(
     alloc: Global,
     deeds: &[Deed<'_>],
     steps: &mut Steps<Task>,
-    room: &mut Vec<Task>,
+    spare: &mut Vec<Task>,
 ) -> Result<Option<JobStatus>, AllocError>
     requires running { IsRunning steps.old }
     requires none_printed { steps.old.prints ≡ [] }
     requires ordered { AreOrdered member_frame steps.old.tasks }
-    ensures stepped { OnOk result (HasStepped member_frame (AsTold deeds.now) (λ t. t) (placed steps.old) steps.new) }
+    ensures stepped { OnOk result (HasStepped member_frame (AsGiven deeds.now) (λ t. t) (placed steps.old) steps.new) }
     ensures memory { OnErr result (steps.new ≡ steps.old) }
     ensures status { IfOk result (λ s. option_map status_seen s ≡ ended steps.new) }
     ensures ordered { AreOrdered member_frame steps.new.tasks }
 {
-    copy_placed(steps.tasks(), room)?;
-    steps.swap_tasks(room);
-    match steps.step(alloc, &Told { deeds }) {
+    copy_placed(steps.tasks(), spare)?;
+    steps.swap_tasks(spare);
+    match steps.step(alloc, &GivenDeeds { deeds }) {
         Ok(status) => Ok(status),
         Err(memory) => {
-            steps.resume(room);
+            steps.resume(spare);
             Err(memory)
         }
     }
@@ -164,7 +164,7 @@ fn number_of(status: &Option<JobStatus>) -> i32
 }
 
 // Returns the status of a superstep that was taken, or for which memory ran out.
-fn told_as(taken: Result<Option<JobStatus>, AllocError>) -> i32
+fn reported_as(taken: Result<Option<JobStatus>, AllocError>) -> i32
     ensures status { MatchResult taken (λ s. result ≡ closing (option_map status_seen s)) (λ _. result ≡ pos 6) }
     ensures fits { FitsSigned w32 result }
 {
@@ -192,7 +192,7 @@ impl Run {
         tasks: Vec<Task>,
         most: u32,
         limit: u32,
-        _program: &Told<'_>,
+        _program: &GivenDeeds<'_>,
     ) -> Run
         requires most { most < 2 ^ 31 }
         requires few { length tasks.items ≤ most }
@@ -200,9 +200,9 @@ impl Run {
         ensures { result ≡ begun arrays tasks.items most limit }
     {
         Run {
-            steps: Steps::new::<Told<'_>>(alloc, arrays, tasks, most, limit),
+            steps: Steps::new::<GivenDeeds<'_>>(alloc, arrays, tasks, most, limit),
             printed: Vec::new(alloc),
-            room: Vec::new(alloc),
+            spare: Vec::new(alloc),
         }
     }
 
@@ -218,8 +218,8 @@ impl Run {
         ensures { IfOk result (λ run. run ≡ begun arrays (numbered [] 0 (start_origins 0 count)) most limit) }
     {
         let tasks = start_tasks(alloc, count)?;
-        let told = Told { deeds: &[] };
-        Ok(Run::begin_with(alloc, arrays, tasks, most, limit, &told))
+        let reported = GivenDeeds { deeds: &[] };
+        Ok(Run::begin_with(alloc, arrays, tasks, most, limit, &reported))
     }
 
     // Takes a superstep.
@@ -230,7 +230,7 @@ impl Run {
         let Ok(()) = join_prints(&mut self.steps, &mut self.printed) else {
             return NO_MEMORY;
         };
-        told_as(take_told(alloc, deeds, &mut self.steps, &mut self.room))
+        reported_as(take_given(alloc, deeds, &mut self.steps, &mut self.spare))
     }
 
     /// Takes a superstep in which each live task leaves what `deeds` report of it.

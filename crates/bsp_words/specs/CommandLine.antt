@@ -240,7 +240,7 @@ asks_both rows = flag_in (codes "json") rows && flag_in (codes "stream") rows
 
 -- more than one of a code, a fault and a code of a trace; 0 is none
 abbrev pub are_two : ℕ → ℕ → ℕ → Bool
-are_two code fault told = (nat_lt 0 code && nat_lt 0 fault) || ((nat_lt 0 code || nat_lt 0 fault) && nat_lt 0 told)
+are_two code fault reported = (nat_lt 0 code && nat_lt 0 fault) || ((nat_lt 0 code || nat_lt 0 fault) && nat_lt 0 reported)
 
 abbrev pub asks_two : List Row → Bool
 asks_two rows =

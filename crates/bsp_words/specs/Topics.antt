@@ -7,9 +7,9 @@ use Rattle.bsp_words.specs.declared.asked.Topic.TheVariants.{All, Code, Fault, T
 -- fault before a code of a trace
 abbrev pub topic_by : ℕ → ℕ → ℕ → Topic
 topic_by zero zero zero = All
-topic_by zero zero (suc told) = TraceCode (suc told)
-topic_by zero (suc fault) told = Fault (suc fault)
-topic_by (suc code) fault told = Code (suc code)
+topic_by zero zero (suc reported) = TraceCode (suc reported)
+topic_by zero (suc fault) reported = Fault (suc fault)
+topic_by (suc code) fault reported = Code (suc code)
 
 -- how the text begins
 abbrev pub heading : Topic → List ℕ

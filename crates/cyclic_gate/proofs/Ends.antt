@@ -61,13 +61,13 @@ arrived_outcome a (Breaks callers) is = elim is [ ]
 arrived_outcome a Already is = elim is [ ]
 arrived_outcome a Absent is = elim is [ ]
 
-room_for : (o : Outcome) (m : Machine) (len room len' room' : ℕ) → len < room → (is_end_of_generation o ≡ true → m.waiting ≡ []) → (o ≡ GoesOn → (len' ≡ len) × (room' ≡ room)) → HasRoom m len' room'
-room_for GoesOn m len room len' room' less ended same = let e = same refl in has_room m len' room' (rw (e.0, e.1) less)
-room_for _ m len room len' room' less ended same = nobody_room m len' room' (ended refl)
+room_for : (o : Outcome) (m : Machine) (len capacity len' capacity' : ℕ) → len < capacity → (is_end_of_generation o ≡ true → m.waiting ≡ []) → (o ≡ GoesOn → (len' ≡ len) × (capacity' ≡ capacity)) → HasRoom m len' capacity'
+room_for GoesOn m len capacity len' capacity' less ended same = let e = same refl in has_room m len' capacity' (rw (e.0, e.1) less)
+room_for _ m len capacity len' capacity' less ended same = nobody_room m len' capacity' (ended refl)
 
 -- an arrival that found room leaves it if callers wait
-pub arrived_room : (fails : Option ℕ) (c : ℕ) (m m' : Machine) (a : Arrived) (len room len' room' : ℕ)
-    → IsArrived a (answer fails (Await c) m) → m' ≡ after fails (Await c) m → len < room → (outcome_for a ≡ GoesOn → (len' ≡ len) × (room' ≡ room)) → HasRoom m' len' room'
-arrived_room fails c m m' a len room len' room' is state less same =
+pub arrived_room : (fails : Option ℕ) (c : ℕ) (m m' : Machine) (a : Arrived) (len capacity len' capacity' : ℕ)
+    → IsArrived a (answer fails (Await c) m) → m' ≡ after fails (Await c) m → len < capacity → (outcome_for a ≡ GoesOn → (len' ≡ len) × (capacity' ≡ capacity)) → HasRoom m' len' capacity'
+arrived_room fails c m m' a len capacity len' capacity' is state less same =
     let o : outcome_for a ≡ outcome_of (answer fails (Await c) m) = arrived_outcome a (answer fails (Await c) m) is in
-    room_for (outcome_for a) m' len room len' room' less (λ e. rw state (end_nobody fails (Await c) m (rw o at e))) same
+    room_for (outcome_for a) m' len capacity len' capacity' less (λ e. rw state (end_nobody fails (Await c) m (rw o at e))) same

@@ -8,7 +8,7 @@ use Rattle.cyclic_gate.specs.Outcomes.{end_or}
 use Rattle.cyclic_gate.specs.History.{LedgerEntry, outcome_of, ledger_entry, calls_of, AreRight, first_end}
 use Rattle.cyclic_gate.specs.Ledger.{Book, book, kept_after, kept_end, end_of, read_by, is_end_of_generation, is_free}
 use Rattle.cyclic_gate.specs.Forgetting.{arrivals, calls_since, BarriersAreTheirArrivals}
-use Rattle.cyclic_gate.specs.Forgetting.{Waiter, waiter, Run, Event, Called, Wakes, is_made, noted, told_to_wait, waiter_at, without, after_reading, after_event, after_events, begun, FindTheirEnd, ForgettingChangesNoAnswer}
+use Rattle.cyclic_gate.specs.Forgetting.{Waiter, waiter, Run, Event, Called, Wakes, is_made, noted, answered_to_wait, waiter_at, without, after_reading, after_event, after_events, begun, FindTheirEnd, ForgettingChangesNoAnswer}
 use Rattle.cyclic_gate.proofs.Replay.{after_parties}
 use Rattle.cyclic_gate.specs.declared.call.Call.{Call}
 use Rattle.cyclic_gate.specs.declared.call.Call.TheVariants.{Await, Abandon, BreakOff, Reset}
@@ -387,7 +387,7 @@ ended parties call b whole unread a is nobody ends was =
 -- a call, by its answer
 called : (parties : ℕ) (call : Call) (b : Book) (whole : List LedgerEntry) (unread : List Waiter) (a : Answer) → answer b.fails call b.barrier ≡ a → Did call b (after b.fails call b.barrier) a → is_made call b ≡ true
     → Kept parties b.fails b.barrier b.ends whole unread
-    → Kept parties b.fails (after b.fails call b.barrier) (kept_after b.barrier.generation (outcome_of a) (length b.barrier.waiting) b.ends) (noted call a whole) (told_to_wait a b.barrier.generation whole unread)
+    → Kept parties b.fails (after b.fails call b.barrier) (kept_after b.barrier.generation (outcome_of a) (length b.barrier.waiting) b.ends) (noted call a whole) (answered_to_wait a b.barrier.generation whole unread)
 called parties call b whole unread (Waiting i) is what made was = waited parties call b whole unread i is what made was
 called parties call b whole unread (Trips all) is what made was = ended parties call b whole unread (Trips all) is what refl was
 called parties call b whole unread (Fails callers) is what made was = ended parties call b whole unread (Fails callers) is what refl was
@@ -452,7 +452,7 @@ step parties fails (Called call) r was =
     elim (is_made call r.book) as (λ x. is_made call r.book ≡ x → KeptIn parties fails (if x then record {
       book = book r.book.fails (after r.book.fails call r.book.barrier) (kept_after r.book.barrier.generation (outcome_of (answer r.book.fails call r.book.barrier)) (length r.book.barrier.waiting) r.book.ends);
       whole = noted call (answer r.book.fails call r.book.barrier) r.whole;
-      unread = told_to_wait (answer r.book.fails call r.book.barrier) r.book.barrier.generation r.whole r.unread;
+      unread = answered_to_wait (answer r.book.fails call r.book.barrier) r.book.barrier.generation r.whole r.unread;
     } else r)) [
       | true ↦ λ made. (was.0, called parties call r.book r.whole r.unread (answer r.book.fails call r.book.barrier) refl (did call r.book) made was.1)
       | false ↦ λ made. was

@@ -2,6 +2,6 @@ pub mod Indexed
 pub mod Replay
 pub mod Ends
 pub mod Trips
-pub mod Told
+pub mod Answered
 pub mod Waking
 pub mod Forgetting

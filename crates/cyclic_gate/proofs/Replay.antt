@@ -36,19 +36,19 @@ reached_more fails call m m' was state =
     let left : after_all fails all (fresh m.parties) ≡ after fails call m = left-append fails was.0 call (fresh m.parties) ∙ ap (after fails call) was.1 in
     rw state (all, subst (λ (p : ℕ). after_all fails all (fresh p) ≡ after fails call m) (sym same) left)
 
-pub has_room : (m : Machine) (len room : ℕ) → len < room → HasRoom m len room
-has_room m len room less =
-    let lt : nat_lt len room ≡ true = grind (arith, nat_tests) in
+pub has_room : (m : Machine) (len capacity : ℕ) → len < capacity → HasRoom m len capacity
+has_room m len capacity less =
+    let lt : nat_lt len capacity ≡ true = grind (arith, nat_tests) in
     rw lt (elim (length m.waiting == 0) as (λ b. (b || true) ≡ true) [ true ↦ refl | false ↦ refl ])
 
 -- if nobody waits no room is needed
-pub nobody_room : (m : Machine) (len room : ℕ) → m.waiting ≡ [] → HasRoom m len room
-nobody_room m len room nobody = rw nobody refl
+pub nobody_room : (m : Machine) (len capacity : ℕ) → m.waiting ≡ [] → HasRoom m len capacity
+nobody_room m len capacity nobody = rw nobody refl
 
-pub room_left : (m : Machine) (len room : ℕ) → HasRoom m len room → 0 < length m.waiting → len < room
-room_left m len room has some =
+pub room_left : (m : Machine) (len capacity : ℕ) → HasRoom m len capacity → 0 < length m.waiting → len < capacity
+room_left m len capacity has some =
     let waits : (length m.waiting == 0) ≡ false = grind (arith, nat_tests) in
-    let lt : nat_lt len room ≡ true = rw waits at has in grind (arith, nat_tests)
+    let lt : nat_lt len capacity ≡ true = rw waits at has in grind (arith, nat_tests)
 
 -- the barrier of a ledger is one that some list of calls leaves
 pub reached_by : (fails : Option ℕ) (m : Machine) (ends : List KeptEnd) (b : Book) → book fails m ends ≡ b → IsReached fails m → AfterSome b.barrier.parties b.fails (λ x. x ≡ b.barrier)

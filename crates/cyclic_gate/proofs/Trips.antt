@@ -39,7 +39,7 @@ indices_once p k (x ∷ xs) i e =
 
 -- what is kept of who waits
 pub record Good (p : ℕ) (ws : List ℕ) : Type 0 where
-  pub room : length ws < p
+  pub capacity : length ws < p
   pub apart : (c : ℕ) → times c ws ≤ 1
 
 pub record Kept (p : ℕ) (a : Answer) (m : Machine) : Type 0 where
@@ -48,7 +48,7 @@ pub record Kept (p : ℕ) (a : Answer) (m : Machine) : Type 0 where
   pub right : IsRightTrip p a
 
 nobody : (p : ℕ) → 0 < p → Good p []
-nobody p some = record { room = some; apart = λ c. omega arith }
+nobody p some = record { capacity = some; apart = λ c. omega arith }
 
 pub trip_gives : (p : ℕ) (ws : List ℕ) (c : ℕ) → Good p ws → is_in c ws ≡ false → length ws + 1 ≡ p → GivesEachOnce p (indexed p 0 (ws ++ c ∷ []))
 trip_gives p ws c good out full = record {
@@ -60,13 +60,13 @@ await_kept : (fails : Option ℕ) (c p g : ℕ) (ws : List ℕ) (b b2 b3 b4 : Bo
     → Kept p (answer fails (Await c) (machine p g ws b)) (after fails (Await c) (machine p g ws b))
 await_kept fails c p g ws true b2 b3 b4 good e2 e3 e4 = record { parties = refl; good = good; right = tt }
 await_kept fails c p g ws false true b3 b4 good e2 e3 e4 = rw e2 (record { parties = refl; good = good; right = tt })
-await_kept fails c p g ws false false true true good e2 e3 e4 = rw (e2, e3, e4) (record { parties = refl; good = nobody p (let r = good.room in omega arith); right = tt })
+await_kept fails c p g ws false false true true good e2 e3 e4 = rw (e2, e3, e4) (record { parties = refl; good = nobody p (let r = good.capacity in omega arith); right = tt })
 await_kept fails c p g ws false false true false good e2 e3 e4 =
-    rw (e2, e3, e4) (record { parties = refl; good = nobody p (let r = good.room in omega arith); right = trip_gives p ws c good e2 (grind (arith, nat_tests)) })
+    rw (e2, e3, e4) (record { parties = refl; good = nobody p (let r = good.capacity in omega arith); right = trip_gives p ws c good e2 (grind (arith, nat_tests)) })
 await_kept fails c p g ws false false false b4 good e2 e3 e4 =
     rw (e2, e3) (record {
       parties = refl;
-      good = record { room = let r = good.room in let ne = e3 in simp length-append (grind (arith, nat_tests)); apart = apart_more ws c e2 good.apart };
+      good = record { capacity = let r = good.capacity in let ne = e3 in simp length-append (grind (arith, nat_tests)); apart = apart_more ws c e2 good.apart };
       right = tt;
     })
 
@@ -74,11 +74,11 @@ pub step_kept : (fails : Option ℕ) (call : Call) (m : Machine) → Good m.part
 step_kept fails (Await c) m good = await_kept fails c m.parties m.generation m.waiting m.broken _ _ _ good refl refl refl
 step_kept fails (Abandon c) m good =
     elim (is_in c m.waiting) as (λ b. Kept m.parties (if b then Breaks (others c m.waiting) else Absent) (if b then machine m.parties m.generation [] true else m)) [
-      | true ↦ record { parties = refl; good = nobody m.parties (let r = good.room in omega arith); right = tt }
+      | true ↦ record { parties = refl; good = nobody m.parties (let r = good.capacity in omega arith); right = tt }
       | false ↦ record { parties = refl; good = good; right = tt }
     ]
-step_kept fails BreakOff m good = record { parties = refl; good = nobody m.parties (let r = good.room in omega arith); right = tt }
-step_kept fails Reset m good = record { parties = refl; good = nobody m.parties (let r = good.room in omega arith); right = tt }
+step_kept fails BreakOff m good = record { parties = refl; good = nobody m.parties (let r = good.capacity in omega arith); right = tt }
+step_kept fails Reset m good = record { parties = refl; good = nobody m.parties (let r = good.capacity in omega arith); right = tt }
 
 pub run_right : (fails : Option ℕ) (calls : List Call) (p : ℕ) (m : Machine) → m.parties ≡ p → Good p m.waiting → AllRight p (answers fails calls m)
 run_right fails [] p m same good = tt

@@ -9,7 +9,7 @@ use Rattle.cyclic_gate.specs.Steps.{Answer, Waiting, Trips, Fails, IsBroken, Bre
 use Rattle.cyclic_gate.specs.Runs.{after_all}
 use Rattle.cyclic_gate.specs.History.{LedgerEntry, outcome_of, ledger_entry, calls_of, AreRight, first_end}
 use Rattle.cyclic_gate.specs.Outcomes.{end_or}
-use Rattle.cyclic_gate.specs.Wakers.{is_end, End, end_among, IsTold, left_of, LateWakersAreTold}
+use Rattle.cyclic_gate.specs.Wakers.{is_end, End, end_among, IsAnswered, left_of, LateWakersAreAnswered}
 use Rattle.cyclic_gate.proofs.Indexed.{indexed-append}
 use Rattle.cyclic_gate.specs.declared.call.Call.{Call}
 use Rattle.cyclic_gate.specs.declared.call.Call.TheVariants.{Await, Abandon, BreakOff, Reset}
@@ -38,7 +38,7 @@ is_in-others c d (w ∷ ws) e = others_case w c d ws _ _ refl refl (is_in-others
 
 -- the caller waits, with its index, in its generation
 record Waits (caller index generation : ℕ) (m : Machine) : Type 0 where
-  pub told : Contains (indexed m.parties 0 m.waiting) (caller, index)
+  pub answered : Contains (indexed m.parties 0 m.waiting) (caller, index)
   pub here : is_in caller m.waiting ≡ true
   pub same : m.generation ≡ generation
 
@@ -53,17 +53,17 @@ AfterCall caller index generation call new Already = Waits caller index generati
 AfterCall caller index generation call new Absent = Waits caller index generation new
 
 -- one more caller after those with indices
-told-append : (p : ℕ) (ws : List ℕ) (d c i : ℕ) → Contains (indexed p 0 ws) (c, i) → Contains (indexed p 0 (ws ++ d ∷ [])) (c, i)
-told-append p ws d c i told = rw (indexed-append p 0 (length ws) ws d (omega arith)) (Contains-append_left (indexed p 0 ws) ((d, index_of p (length ws)) ∷ []) (c, i) told)
+answered-append : (p : ℕ) (ws : List ℕ) (d c i : ℕ) → Contains (indexed p 0 ws) (c, i) → Contains (indexed p 0 (ws ++ d ∷ [])) (c, i)
+answered-append p ws d c i answered = rw (indexed-append p 0 (length ws) ws d (omega arith)) (Contains-append_left (indexed p 0 ws) ((d, index_of p (length ws)) ∷ []) (c, i) answered)
 
 await_call : (fails : Option ℕ) (d c i q p g : ℕ) (ws : List ℕ) (b b2 b3 b4 : Bool) → Waits c i q (machine p g ws b) → is_in d ws ≡ b2 → (length ws + 1 == p) ≡ b3 → fails_at fails g ≡ b4
     → AfterCall c i q (Await d) (after fails (Await d) (machine p g ws b)) (answer fails (Await d) (machine p g ws b))
 await_call fails d c i q p g ws true b2 b3 b4 waits e2 e3 e4 = waits
 await_call fails d c i q p g ws false true b3 b4 waits e2 e3 e4 = rw e2 waits
 await_call fails d c i q p g ws false false true true waits e2 e3 e4 = rw (e2, e3, e4) waits.here
-await_call fails d c i q p g ws false false true false waits e2 e3 e4 = rw (e2, e3, e4) (told-append p ws d c i waits.told)
+await_call fails d c i q p g ws false false true false waits e2 e3 e4 = rw (e2, e3, e4) (answered-append p ws d c i waits.answered)
 await_call fails d c i q p g ws false false false b4 waits e2 e3 e4 =
-    rw (e2, e3) (record { told = told-append p ws d c i waits.told; here = is_in-append c ws d waits.here; same = waits.same })
+    rw (e2, e3) (record { answered = answered-append p ws d c i waits.answered; here = is_in-append c ws d waits.here; same = waits.same })
 
 named : (c d : ℕ) (ws : List ℕ) → is_in c ws ≡ true → (is_in c (others d ws) ≡ true) ⊎ (Abandon d ≡ Abandon c)
 named c d ws here = elim (is_in-others c d ws here) as (λ _. (is_in c (others d ws) ≡ true) ⊎ (Abandon d ≡ Abandon c)) [ inl e ↦ inl e | inr e ↦ inr (ap Abandon e) ]
@@ -80,8 +80,8 @@ one_call fails Reset m c i q waits = inl waits.here
 
 -- what is read, if the first note is that of this call
 read_on : (fails : Option ℕ) (c i q : ℕ) (call : Call) (m : Machine) (a : Answer) (o : Outcome) (end : Option End)
-    → answer fails call m ≡ a → m.generation ≡ q → AfterCall c i q call (after fails call m) a → (Waits c i q (after fails call m) → IsTold fails c i q o end)
-    → IsTold fails c i q (end_or (outcome_of a) o) (if is_end a then Some (record { call = call; found = m }) else end)
+    → answer fails call m ≡ a → m.generation ≡ q → AfterCall c i q call (after fails call m) a → (Waits c i q (after fails call m) → IsAnswered fails c i q o end)
+    → IsAnswered fails c i q (end_or (outcome_of a) o) (if is_end a then Some (record { call = call; found = m }) else end)
 read_on fails c i q call m (Waiting j) o end e same now rest = rest now
 read_on fails c i q call m (Trips all) o end e same now rest = (record { call = call; found = m }, refl, same, rw e now)
 read_on fails c i q call m (Fails broken) o end e same now rest = (record { call = call; found = m }, refl, same, rw e now)
@@ -90,11 +90,11 @@ read_on fails c i q call m (Breaks callers) o end e same now rest = (record { ca
 read_on fails c i q call m Already o end e same now rest = rest now
 read_on fails c i q call m Absent o end e same now rest = rest now
 
-told_later : (fails : Option ℕ) (ns : List LedgerEntry) (m : Machine) (c i q : ℕ) → Waits c i q m → AreRight fails ns m → IsTold fails c i q (first_end ns) (end_among fails ns m)
-told_later fails [] m c i q waits right = refl
-told_later fails (n ∷ ns) m c i q waits right =
+answered_later : (fails : Option ℕ) (ns : List LedgerEntry) (m : Machine) (c i q : ℕ) → Waits c i q m → AreRight fails ns m → IsAnswered fails c i q (first_end ns) (end_among fails ns m)
+answered_later fails [] m c i q waits right = refl
+answered_later fails (n ∷ ns) m c i q waits right =
     rw right.0 (read_on fails c i q n.call m (answer fails n.call m) (first_end ns) (end_among fails ns (after fails n.call m)) refl waits.same (one_call fails n.call m c i q waits)
-    (λ next. told_later fails ns (after fails n.call m) c i q next right.1))
+    (λ next. answered_later fails ns (after fails n.call m) c i q next right.1))
 
 abbrev index_in : Answer → ℕ
 index_in (Waiting i) = i
@@ -115,17 +115,17 @@ arrival fails c i p g ws false false false b4 e2 e3 e4 e =
     let index : index_of p (length ws) ≡ i = ap index_in (rw (e2, e3) at e) in
     let last : Contains (indexed p 0 (ws ++ c ∷ [])) (c, index_of p (length ws)) =
     rw (indexed-append p 0 (length ws) ws c (omega arith)) (Contains-push (indexed p 0 ws) (c, index_of p (length ws))) in
-    rw (e2, e3) (record { told = rw (sym index) last; here = is_in-push c ws; same = refl })
+    rw (e2, e3) (record { answered = rw (sym index) last; here = is_in-push c ws; same = refl })
 
 -- entries are right after those that are
 right-behind : (fails : Option ℕ) (ns later : List LedgerEntry) (m : Machine) → AreRight fails (ns ++ later) m → AreRight fails later (after_all fails (calls_of ns) m)
 right-behind fails [] later m right = right
 right-behind fails (n ∷ ns) later m right = right-behind fails ns later (after fails n.call m) right.1
 
-pub late_wakers_are_told : LateWakersAreTold
-late_wakers_are_told parties fails before later caller index right told =
+pub late_wakers_are_answered : LateWakersAreAnswered
+late_wakers_are_answered parties fails before later caller index right answered =
     let m = left_of parties fails before in
     let n = ledger_entry (Await caller) (Waiting index) in
     let behind = right-behind fails before (n ∷ later) (fresh parties) right in
-    let waits : Waits caller index m.generation (after fails (Await caller) m) = arrival fails caller index m.parties m.generation m.waiting m.broken _ _ _ refl refl refl told in
-    rw (drop-append-add before (n ∷ later) 1) (told_later fails later (after fails (Await caller) m) caller index m.generation waits behind.1)
+    let waits : Waits caller index m.generation (after fails (Await caller) m) = arrival fails caller index m.parties m.generation m.waiting m.broken _ _ _ refl refl refl answered in
+    rw (drop-append-add before (n ∷ later) 1) (answered_later fails later (after fails (Await caller) m) caller index m.generation waits behind.1)

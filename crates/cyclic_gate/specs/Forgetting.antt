@@ -37,16 +37,16 @@ is_made Reset b = true
 abbrev pub noted : Call → Answer → List LedgerEntry → List LedgerEntry
 noted call a whole = if is_change a then whole ++ ledger_entry call a ∷ [] else whole
 
-abbrev pub told_to_wait : Answer → ℕ → List LedgerEntry → List Waiter → List Waiter
-told_to_wait (Waiting i) generation whole unread = unread ++ waiter generation (length whole + 1) ∷ []
-told_to_wait _ generation whole unread = unread
+abbrev pub answered_to_wait : Answer → ℕ → List LedgerEntry → List Waiter → List Waiter
+answered_to_wait (Waiting i) generation whole unread = unread ++ waiter generation (length whole + 1) ∷ []
+answered_to_wait _ generation whole unread = unread
 
 abbrev pub after_call : Call → Run → Run
 after_call call r =
     if is_made call r.book then record {
       book = booked call r.book;
       whole = noted call (answer r.book.fails call r.book.barrier) r.whole;
-      unread = told_to_wait (answer r.book.fails call r.book.barrier) r.book.barrier.generation r.whole r.unread;
+      unread = answered_to_wait (answer r.book.fails call r.book.barrier) r.book.barrier.generation r.whole r.unread;
     } else r
 
 abbrev pub waiter_at : ℕ → List Waiter → Option Waiter

@@ -38,29 +38,29 @@ abbrev pub TripsGiveEachOnce : Type 0
 TripsGiveEachOnce = (parties : ℕ) (fails : Option ℕ) (calls : List Call) → 0 < parties → AllRight parties (answers fails calls (fresh parties))
 
 -- who has to wait in the generation, with the index given, after one more call
-abbrev pub told_after : List (ℕ × ℕ) → Call → Answer → List (ℕ × ℕ)
-told_after told (Await c) (Waiting index) = told ++ (c, index) ∷ []
-told_after told call (Trips all) = []
-told_after told call (Fails others) = []
-told_after told call (Breaks callers) = []
-told_after told call _ = told
+abbrev pub answered_after : List (ℕ × ℕ) → Call → Answer → List (ℕ × ℕ)
+answered_after answered (Await c) (Waiting index) = answered ++ (c, index) ∷ []
+answered_after answered call (Trips all) = []
+answered_after answered call (Fails others) = []
+answered_after answered call (Breaks callers) = []
+answered_after answered call _ = answered
 
 -- A call that ends a generation names just those who have to wait in it: a trip with the indices given, and the last
 -- caller with 0; an abandon all but its caller.
-abbrev pub EndsTold : List (ℕ × ℕ) → Call → Answer → Type 0
-EndsTold told (Await c) (Trips all) = all ≡ told ++ (c, 0) ∷ []
-EndsTold told call (Fails callers) = callers ≡ callers_of told
-EndsTold told (Abandon c) (Breaks callers) = callers ≡ others c (callers_of told)
-EndsTold told call (Breaks callers) = callers ≡ callers_of told
-EndsTold told _ _ = Unit {0}
+abbrev pub EndsOfAnswered : List (ℕ × ℕ) → Call → Answer → Type 0
+EndsOfAnswered answered (Await c) (Trips all) = all ≡ answered ++ (c, 0) ∷ []
+EndsOfAnswered answered call (Fails callers) = callers ≡ callers_of answered
+EndsOfAnswered answered (Abandon c) (Breaks callers) = callers ≡ others c (callers_of answered)
+EndsOfAnswered answered call (Breaks callers) = callers ≡ callers_of answered
+EndsOfAnswered answered _ _ = Unit {0}
 
-abbrev pub RunEndsTold : Option ℕ → List Call → List (ℕ × ℕ) → Machine → Type 0
-RunEndsTold fails [] told m = Unit {0}
-RunEndsTold fails (c ∷ cs) told m = EndsTold told c (answer fails c m) × RunEndsTold fails cs (told_after told c (answer fails c m)) (after fails c m)
+abbrev pub RunEndsOfAnswered : Option ℕ → List Call → List (ℕ × ℕ) → Machine → Type 0
+RunEndsOfAnswered fails [] answered m = Unit {0}
+RunEndsOfAnswered fails (c ∷ cs) answered m = EndsOfAnswered answered c (answer fails c m) × RunEndsOfAnswered fails cs (answered_after answered c (answer fails c m)) (after fails c m)
 
 -- In every run the one list that ends a generation names exactly those who have to wait in it.
-abbrev pub EndsNameTheTold : Type 0
-EndsNameTheTold = (parties : ℕ) (fails : Option ℕ) (calls : List Call) → 0 < parties → RunEndsTold fails calls [] (fresh parties)
+abbrev pub EndsNameTheAnswered : Type 0
+EndsNameTheAnswered = (parties : ℕ) (fails : Option ℕ) (calls : List Call) → 0 < parties → RunEndsOfAnswered fails calls [] (fresh parties)
 
 -- Each generation is followed by the next number, and the greatest of 64 bits by 0: about the half of them and at the end, worked out by hand.
 pub record GenerationsFollow : Type 0 where

@@ -26,7 +26,7 @@ IsReached fails barrier = AfterSome barrier.parties fails (λ m. m ≡ barrier)
 
 -- If callers wait, the end of their generation has room in the memory of the list.
 abbrev pub HasRoom : Machine → ℕ → ℕ → Type 0
-HasRoom barrier len room = (length barrier.waiting == 0 || nat_lt len room) ≡ true
+HasRoom barrier len capacity = (length barrier.waiting == 0 || nat_lt len capacity) ≡ true
 
 abbrev pub kept_end : ℕ → Outcome → ℕ → KeptEnd
 kept_end generation outcome unread = record { generation = generation; outcome = outcome; unread = unread }

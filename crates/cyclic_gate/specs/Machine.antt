@@ -19,5 +19,5 @@ fresh parties = machine parties 0 [] false
 pub record IsBarrier (m : Machine) : Type 0 where
   pub some : 0 < m.parties
   pub few : m.parties ≤ 65535
-  pub room : length m.waiting < m.parties
+  pub capacity : length m.waiting < m.parties
   pub nobody : m.broken ≡ true → m.waiting ≡ []

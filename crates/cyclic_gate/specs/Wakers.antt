@@ -42,11 +42,11 @@ GivesBroken caller call _ = ⊥
 
 -- What is read means for a caller that got an index in a generation: that this one goes on; that it tripped, and the
 -- caller has its index; or that the caller gets Broken.
-abbrev pub IsTold : Option ℕ → ℕ → ℕ → ℕ → Outcome → Option End → Type 0
-IsTold fails caller index generation GoesOn end = end ≡ None
-IsTold fails caller index generation Tripped end =
+abbrev pub IsAnswered : Option ℕ → ℕ → ℕ → ℕ → Outcome → Option End → Type 0
+IsAnswered fails caller index generation GoesOn end = end ≡ None
+IsAnswered fails caller index generation Tripped end =
     (e : End) × (end ≡ Some e) × (e.found.generation ≡ generation) × GivesIndex caller index (answer fails e.call e.found)
-IsTold fails caller index generation Broken end =
+IsAnswered fails caller index generation Broken end =
     (e : End) × (end ≡ Some e) × (e.found.generation ≡ generation) × GivesBroken caller e.call (answer fails e.call e.found)
 
 -- the barrier that these calls leave of a new one
@@ -55,11 +55,11 @@ left_of parties fails entries = after_all fails (calls_of entries) (fresh partie
 
 -- Whatever was noted before and later: the first end noted after the arrival of a caller that has to wait is the end of
 -- its generation, and gives it the index that it got.
-abbrev pub LateWakersAreTold : Type 0
-LateWakersAreTold =
+abbrev pub LateWakersAreAnswered : Type 0
+LateWakersAreAnswered =
     (parties : ℕ) (fails : Option ℕ) (before later : List LedgerEntry) (caller index : ℕ)
     → AreRight fails (before ++ ledger_entry (Await caller) (Waiting index) ∷ later) (fresh parties)
     → answer fails (Await caller) (left_of parties fails before) ≡ Waiting index
-    → IsTold fails caller index (left_of parties fails before).generation
+    → IsAnswered fails caller index (left_of parties fails before).generation
     (first_end (drop (length before + 1) (before ++ ledger_entry (Await caller) (Waiting index) ∷ later)))
     (end_among fails later (after fails (Await caller) (left_of parties fails before)))

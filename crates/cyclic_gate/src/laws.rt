@@ -1,6 +1,6 @@
 //! What a barrier promises over whole runs.
-ghost use Rattle.cyclic_gate.specs.Laws.{TripsGiveEachOnce, EndsNameTheTold, GenerationsFollow, EndsMoveOrKeep, FailuresAreAsPlanned};
-ghost use Rattle.cyclic_gate.specs.Wakers.{LateWakersAreTold};
+ghost use Rattle.cyclic_gate.specs.Laws.{TripsGiveEachOnce, EndsNameTheAnswered, GenerationsFollow, EndsMoveOrKeep, FailuresAreAsPlanned};
+ghost use Rattle.cyclic_gate.specs.Wakers.{LateWakersAreAnswered};
 ghost use Rattle.cyclic_gate.specs.Forgetting.{BarriersAreTheirArrivals, ForgettingChangesNoAnswer};
 
 /// In every run, each tripped generation gives each index below the number of parties exactly once, and gives no caller
@@ -12,16 +12,16 @@ pub fn trips_give_each_once()
 
 /// In every run, the list that ends a generation names exactly those whose arrival in it returned `Waits` (Java SE 21,
 /// `CyclicBarrier`: its "all-or-none breakage model").
-#[tactic(auto, using(crate::proofs::Told::ends_name_the_told))]
-pub fn ends_name_the_told()
-    ensures { EndsNameTheTold }
+#[tactic(auto, using(crate::proofs::Answered::ends_name_the_answered))]
+pub fn ends_name_the_answered()
+    ensures { EndsNameTheAnswered }
 {}
 
 /// The first end that is noted after a caller's arrival is the end of the generation in which it arrived, however late it
 /// is read. If that generation tripped, the caller has the index that its arrival returned. Else its wait failed.
-#[tactic(auto, using(crate::proofs::Waking::late_wakers_are_told))]
-pub fn late_wakers_are_told()
-    ensures { LateWakersAreTold }
+#[tactic(auto, using(crate::proofs::Waking::late_wakers_are_answered))]
+pub fn late_wakers_are_answered()
+    ensures { LateWakersAreAnswered }
 {}
 
 /// Whatever calls there were, the state of the barrier follows from the calls of the current generation alone: the

@@ -14,7 +14,7 @@
 //!
 //! * `call.rt`: calls and answers as data; `state.rt` and `barrier.rt`: the barrier as a value; `ledger.rt`: the
 //!   ends beside it; `gate_state.rt` and `gate.rt`: the lock; `laws.rt`: the laws.
-//! * `proofs/Indexed.antt`: callers with their indices; `Trips.antt`, `Told.antt`, `Waking.antt` and
+//! * `proofs/Indexed.antt`: callers with their indices; `Trips.antt`, `Answered.antt`, `Waking.antt` and
 //!   `Forgetting.antt`: the laws; `Replay.antt`: that some list of calls leaves the barrier; `Ends.antt`: the ends
 //!   that are kept.
 #![tactic(auto)]
@@ -32,8 +32,9 @@ pub use call::{Arrived, AwaitedStep, BarrierFault, Call, MOST_PARTIES};
 pub use gate::{CyclicGate, GateFault};
 pub use gate_state::GateState;
 pub use laws::{
-    barriers_are_their_arrivals, ends_move_or_keep, ends_name_the_told, failures_are_as_planned,
-    forgetting_changes_no_answer, generations_follow, late_wakers_are_told, trips_give_each_once,
+    barriers_are_their_arrivals, ends_move_or_keep, ends_name_the_answered,
+    failures_are_as_planned, forgetting_changes_no_answer, generations_follow,
+    late_wakers_are_answered, trips_give_each_once,
 };
 pub use ledger::{KeptEnd, Ledger, Outcome};
 pub use state::BarrierState;

@@ -131,7 +131,7 @@ impl BarrierState {
 
     // Lets one more caller wait.
     fn join(&mut self, caller: u32) -> Result<(), AllocError>
-        requires room { length self.old.waiting + 1 < self.old.parties }
+        requires capacity { length self.old.waiting + 1 < self.old.parties }
         requires whole { self.old.broken ≡ false }
         ensures ok { OnOk result (self.new ≡ joined caller self.old) }
         ensures err { OnErr result (self.new ≡ self.old) }

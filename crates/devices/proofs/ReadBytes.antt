@@ -20,18 +20,18 @@ came_all (Some o) (Some m) (Some n) xs (y ∷ ys) a b l e = absurd (omega arith)
 came_all (Some o) (Some m) (Some n) xs [] a b l e = sym (a ∙ ap (λ (z : List ℕ). xs ++ z) (b ∙ e) ∙ append-nil xs)
 
 -- there are more than this many, as more than that without what came are still to come
-pub more_left : (old new : Option (List ℕ)) (xs : List ℕ) (room most : ℕ) → Consumes old new xs → most ≤ length xs + room
-    → IfSome new (λ bytes. room < length bytes) → IfSome old (λ bytes. most < length bytes)
-more_left None new xs room most c l h = tt
-more_left (Some o) None xs room most c l h = absurd c
-more_left (Some o) (Some n) xs room most c l h = let e : length o ≡ length xs + length n = ap length c ∙ length-append xs n in omega arith
+pub more_left : (old new : Option (List ℕ)) (xs : List ℕ) (capacity most : ℕ) → Consumes old new xs → most ≤ length xs + capacity
+    → IfSome new (λ bytes. capacity < length bytes) → IfSome old (λ bytes. most < length bytes)
+more_left None new xs capacity most c l h = tt
+more_left (Some o) None xs capacity most c l h = absurd c
+more_left (Some o) (Some n) xs capacity most c l h = let e : length o ≡ length xs + length n = ap length c ∙ length-append xs n in omega arith
 
 -- and no more than this many, as no more than that are still to come
-pub no_more_left : (old new : Option (List ℕ)) (xs : List ℕ) (room most : ℕ) → Consumes old new xs → length xs + room ≤ most
-    → IfSome new (λ bytes. length bytes ≤ room) → IfSome old (λ bytes. length bytes ≤ most)
-no_more_left None new xs room most c l h = tt
-no_more_left (Some o) None xs room most c l h = absurd c
-no_more_left (Some o) (Some n) xs room most c l h = let e : length o ≡ length xs + length n = ap length c ∙ length-append xs n in omega arith
+pub no_more_left : (old new : Option (List ℕ)) (xs : List ℕ) (capacity most : ℕ) → Consumes old new xs → length xs + capacity ≤ most
+    → IfSome new (λ bytes. length bytes ≤ capacity) → IfSome old (λ bytes. length bytes ≤ most)
+no_more_left None new xs capacity most c l h = tt
+no_more_left (Some o) None xs capacity most c l h = absurd c
+no_more_left (Some o) (Some n) xs capacity most c l h = let e : length o ≡ length xs + length n = ap length c ∙ length-append xs n in omega arith
 
 -- there are more than this many, as more came
 pub more_came : (old new : Option (List ℕ)) (xs : List ℕ) (most : ℕ) → Consumes old new xs → most < length xs → IfSome old (λ bytes. most < length bytes)

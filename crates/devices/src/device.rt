@@ -82,7 +82,7 @@ impl<R: Read> CountedRead for Reader<R> {
 
     fn read_some(&mut self, buffer: &mut [u8]) -> Result<usize, DeviceFailed> {
         let answer = self.inner.read(buffer);
-        self.failures.told(answer)
+        self.failures.counting(answer)
     }
 }
 
@@ -116,7 +116,7 @@ impl<W: Write> CountedWrite for Writer<W> {
 
     fn write_some(&mut self, bytes: &[u8]) -> Result<usize, DeviceFailed> {
         let answer = self.inner.write(bytes);
-        self.failures.told_of_write(answer)
+        self.failures.counting_write(answer)
     }
 }
 
@@ -138,16 +138,16 @@ pub enum ReadFault {
 }
 
 // Reads on after an allocation failed, since `TooLong` comes before `Memory`. The rest of the text may have `room` bytes.
-fn without_memory<R: CountedRead>(reader: &mut R, room: usize) -> ReadFault
-    requires { room ≤ MOST_BYTES }
-    ensures too_long { result ≡ ReadFault.TooLong → IfSome (R.remaining reader.old) (λ bytes. room < length bytes) }
-    ensures memory { result ≡ ReadFault.Memory → IfSome (R.remaining reader.old) (λ bytes. length bytes ≤ room) }
-    ensures asks { R.asks reader.new ≤ R.asks reader.old + room + 1 }
+fn without_memory<R: CountedRead>(reader: &mut R, capacity: usize) -> ReadFault
+    requires { capacity ≤ MOST_BYTES }
+    ensures too_long { result ≡ ReadFault.TooLong → IfSome (R.remaining reader.old) (λ bytes. capacity < length bytes) }
+    ensures memory { result ≡ ReadFault.Memory → IfSome (R.remaining reader.old) (λ bytes. length bytes ≤ capacity) }
+    ensures asks { R.asks reader.new ≤ R.asks reader.old + capacity + 1 }
     ensures failures { BlamesReader (R.failures reader.old) (R.failures reader.new) result }
 {
     let mut buffer = [0u8; 8192];
-    let mut left = room;
-    for _ in 0..room + 1 {
+    let mut left = capacity;
+    for _ in 0..capacity + 1 {
         let n = match reader.read_some(&mut buffer) {
             Ok(n) => n,
             Err(DeviceFailed) => return ReadFault::Read,
@@ -189,8 +189,8 @@ pub fn read_all<R: CountedRead>(alloc: Global, reader: &mut R) -> Result<Vec<u8>
         match text.extend_from_slice(&buffer[..n]) {
             Ok(()) => {}
             Err(_) => {
-                let room = MOST_BYTES - text.len() - n;
-                return Err(without_memory(reader, room));
+                let capacity = MOST_BYTES - text.len() - n;
+                return Err(without_memory(reader, capacity));
             }
         }
     }

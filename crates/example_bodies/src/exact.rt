@@ -84,7 +84,7 @@ impl TaskBody for ExactRod {
         out: &mut Out<Piece>,
     ) -> Result<Ending, AllocError> {
         let cells = view.cells(0);
-        let mut values = out.room(alloc);
+        let mut values = out.buffer(alloc);
         let mut place = piece.first;
         while place < piece.end {
             values.push(mixed(cells, place))?;

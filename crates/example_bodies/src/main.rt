@@ -15,7 +15,7 @@ use phase_records::{JobStatus, Report};
 use std::alloc::{AllocError, Global};
 use superstep_memory::arrays::Arrays;
 use task_bodies::kernel::{Cells, Grid, Map, Reduce, Span, Stencil, Window};
-use task_bodies::run::{RunFault, run_bodies, run_bodies_watched, run_exactly};
+use task_bodies::run::{BodiesFault, run_bodies, run_bodies_watched, run_exactly};
 
 // Returns the number of supersteps that were taken.
 fn steps(report: &Report) -> u32 {
@@ -38,7 +38,7 @@ fn cell(report: &Report, array: u16, index: u32) -> i64 {
 }
 
 // Returns the rod after 1000 supersteps, by a closure.
-fn cool_by_closure(alloc: Global) -> Result<Report, RunFault> {
+fn cool_by_closure(alloc: Global) -> Result<Report, BodiesFault> {
     let start = start::rod(alloc)?;
     let mut spans = Vec::new(alloc);
     for block in start.tasks.iter() {
@@ -61,7 +61,7 @@ fn cool_by_closure(alloc: Global) -> Result<Report, RunFault> {
 }
 
 // Returns the rod after 1000 supersteps, by a body whose meaning is written down.
-fn cool_exactly(alloc: Global) -> Result<Report, RunFault> {
+fn cool_exactly(alloc: Global) -> Result<Report, BodiesFault> {
     let start = start::rod(alloc)?;
     let pieces = pieces(alloc)?;
     let ran = run_exactly(
@@ -77,7 +77,7 @@ fn cool_exactly(alloc: Global) -> Result<Report, RunFault> {
 
 // The rod after 1000 supersteps: how many were taken, the cells 10 and 70, and whether the closure leaves the same, and the exact
 // body.
-fn cool(alloc: Global) -> Result<(u32, i64, i64, bool, bool), RunFault> {
+fn cool(alloc: Global) -> Result<(u32, i64, i64, bool, bool), BodiesFault> {
     let start = start::rod(alloc)?;
     let rod = Rod { last: 999 };
     let report = run_bodies(alloc, &rod, start.arrays, start.tasks, 46, 1000)?.report;
@@ -93,7 +93,7 @@ fn cool(alloc: Global) -> Result<(u32, i64, i64, bool, bool), RunFault> {
 }
 
 // The rod as soon as cell 20 is warm: after how many supersteps, and how warm it is.
-fn warm(alloc: Global) -> Result<(u32, i64), RunFault> {
+fn warm(alloc: Global) -> Result<(u32, i64), BodiesFault> {
     let start = start::rod(alloc)?;
     let mut watch = UntilWarm {
         cell: 20,
@@ -105,7 +105,7 @@ fn warm(alloc: Global) -> Result<(u32, i64), RunFault> {
 }
 
 // A shop that is open for 1000 supersteps: how many were taken, who came, who went, and for how long they were there.
-fn serve(alloc: Global) -> Result<(u32, i64, i64, i64), RunFault> {
+fn serve(alloc: Global) -> Result<(u32, i64, i64, i64), BodiesFault> {
     let start = start::shop(alloc)?;
     let shop = Shop { open: 999 };
     let report = run_bodies(alloc, &shop, start.arrays, start.tasks, 1000, 10000)?.report;
@@ -119,7 +119,7 @@ fn serve(alloc: Global) -> Result<(u32, i64, i64, i64), RunFault> {
 
 // A search from node 0 in a graph of 100,000 nodes: how many supersteps were taken, how many nodes were reached, and the greatest
 // distance.
-fn find(alloc: Global) -> Result<(u32, usize, i64), RunFault> {
+fn find(alloc: Global) -> Result<(u32, usize, i64), BodiesFault> {
     let start = start::graph(alloc)?;
     let graph = Graph { nodes: 100_000 };
     let report = run_bodies(alloc, &graph, start.arrays, start.tasks, 20, 10000)?.report;
@@ -127,7 +127,7 @@ fn find(alloc: Global) -> Result<(u32, usize, i64), RunFault> {
 }
 
 // The ranks of the nodes 0, 1 and 7 of a graph of 1000 nodes after 20 rounds.
-fn ranked(alloc: Global) -> Result<(i64, i64, i64), RunFault> {
+fn ranked(alloc: Global) -> Result<(i64, i64, i64), BodiesFault> {
     let start = start::ranks(alloc)?;
     let graph = Graph { nodes: 1000 };
     let ranks = Ranks { graph, last: 39 };
@@ -140,7 +140,7 @@ fn ranked(alloc: Global) -> Result<(i64, i64, i64), RunFault> {
 }
 
 // The board after 30 supersteps: how many were taken, and how many cells live.
-fn live(alloc: Global) -> Result<(u32, usize), RunFault> {
+fn live(alloc: Global) -> Result<(u32, usize), BodiesFault> {
     let start = start::board(alloc)?;
     let life = Grid {
         array: 0,
@@ -180,7 +180,7 @@ fn numbers(alloc: Global) -> Result<Arrays, AllocError> {
 }
 
 // The sum of the squares of the numbers: ten tasks square them, and ten add them up.
-fn added_up(alloc: Global) -> Result<i64, RunFault> {
+fn added_up(alloc: Global) -> Result<i64, BodiesFault> {
     let square = Map {
         from: 0,
         into: 0,
@@ -216,7 +216,7 @@ fn count(report: &Report) -> usize {
 }
 
 // The lines that are printed, of all examples.
-fn lines(alloc: Global) -> Result<String, RunFault> {
+fn lines(alloc: Global) -> Result<String, BodiesFault> {
     let (steps, ten, seventy, closure, exact) = cool(alloc)?;
     let (warm_steps, twenty) = warm(alloc)?;
     let (shop_steps, came, went, time) = serve(alloc)?;

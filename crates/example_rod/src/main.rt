@@ -31,7 +31,7 @@ impl TaskBody for Rod {
         out: &mut Out<Block>,
     ) -> Result<Ending, AllocError> {
         let cells = view.cells(0);
-        let mut values = out.room(alloc);
+        let mut values = out.buffer(alloc);
         for place in block.first..block.end {
             let left = at(cells, place.wrapping_sub(1));
             values.push(left.wrapping_add(at(cells, place.wrapping_add(1))) / 2)?;

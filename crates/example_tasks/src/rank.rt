@@ -35,8 +35,8 @@ impl Ranks {
         sums: &[i64],
         out: &mut Out<Nodes>,
     ) -> Result<(), AllocError> {
-        let mut values = out.room(alloc);
-        let mut zeros = out.room(alloc);
+        let mut values = out.buffer(alloc);
+        let mut zeros = out.buffer(alloc);
         for node in nodes.first..nodes.end {
             let sum = sums.get(node as usize).copied().unwrap_or(0);
             values.push((sum / 100).wrapping_mul(85).wrapping_add(150_000_000))?;

@@ -40,7 +40,7 @@ impl TaskBody for Rod {
         out: &mut Out<Block>,
     ) -> Result<Ending, AllocError> {
         let cells = view.cells(0);
-        let mut values = out.room(alloc);
+        let mut values = out.buffer(alloc);
         for place in block.before..block.end {
             values.push(mixed(cells, place))?;
         }

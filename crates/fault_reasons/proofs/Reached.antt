@@ -7,7 +7,7 @@ use Rattle.phase_records.specs.Status.{Status, Ended, Fault, Limit}
 use Rattle.phase_records.specs.declared.record.PhaseRecord.{PhaseRecord}
 use Rattle.programs.specs.Meaning.{Segment, Says}
 use Rattle.programs.specs.Superstep.{State, superstep, closed, segments, fault_in}
-use Rattle.programs.specs.Supersteps.{so_far, status, status_of, unless_ended, told}
+use Rattle.programs.specs.Supersteps.{so_far, status, status_of, unless_ended, report_with}
 use Rattle.programs.specs.Steps.{ended, live_after}
 use Rattle.programs.proofs.Runs.{going_on, goes, stays, ends_in_time}
 use Rattle.programs.proofs.Stepped.{so_far_ended}
@@ -235,6 +235,6 @@ ends_reached j limit r h = by (status limit (job.so_far (program_of j) limit lim
     by : (o : Option Status) → status limit (job.so_far (program_of j) limit limit) ≡ o → IsReached j r.status
     by None e = absurd (ends_in_time (job_says (plans j.bodies)) j.arrays (job.starts (program_of j)) limit e)
     by (Some s) e =
-        let is : told (job.so_far (program_of j) limit limit) (Some s) ≡ Some r = ap (told (job.so_far (program_of j) limit limit)) (sym e) ∙ h in
+        let is : report_with (job.so_far (program_of j) limit limit) (Some s) ≡ Some r = ap (report_with (job.so_far (program_of j) limit limit)) (sym e) ∙ h in
         let same : s ≡ r.status = ap (left_status s) is in
         subst (IsReached j) same (reached_by j limit s e)

@@ -19,7 +19,7 @@ use Rattle.programs.specs.Meaning.{Stopped}
 use Rattle.task_lang.specs.declared.fault.Fault.{Fault}
 use Rattle.task_lang.specs.declared.fault.Fault.TheVariants.{Depth as Deep, Spawns as Many}
 use Rattle.task_lang.specs.declared.scene.Effect.{Effect as CodeEffect}
-use Rattle.task_lang.specs.declared.scene.Effect.TheVariants as told
+use Rattle.task_lang.specs.declared.scene.Effect.TheVariants as reported
 use Rattle.task_lang.specs.declared.scene.Move.TheVariants.{To as ToPlace}
 use Rattle.task_lang.proofs.Runs.{run-again, run-do, run-ends, run-if, run-spent, run-while}
 use Rattle.fault_reasons.specs.Done.{Done}
@@ -32,10 +32,10 @@ use Rattle.fault_reasons.specs.declared.walk.End.TheVariants as end
 
 -- an effect as a walk has it; after a fault all is as it was
 abbrev seen : Doing → Effect → CodeEffect × Done
-seen x (Goes y) = (told.Goes, done_of y)
-seen x (Syncs y) = (told.Syncs, done_of y)
-seen x (Stops y) = (told.Stops, done_of y)
-seen x (Fails f) = (told.Fails f, done_of x)
+seen x (Goes y) = (reported.Goes, done_of y)
+seen x (Syncs y) = (reported.Syncs, done_of y)
+seen x (Stops y) = (reported.Stops, done_of y)
+seen x (Fails f) = (reported.Fails f, done_of x)
 
 length-more : (ts : List Task) (t : Task) → length ts + 1 ≡ length (ts ++ t ∷ [])
 length-more [] t = refl
@@ -53,14 +53,14 @@ module _ (s : Setting) (x : Doing) where
       next : Task
       next = started s.plans (s.path ++ (s.begun + length x.spawns) ∷ []) body v
 
-      many : (b : Bool) → (if b then (told.Fails Many, done_of x) else (told.Goes, record (done_of x) { spawned = length x.spawns + 1 }))
+      many : (b : Bool) → (if b then (reported.Fails Many, done_of x) else (reported.Goes, record (done_of x) { spawned = length x.spawns + 1 }))
           ≡ seen x (if b then Fails Many else Goes (record x { spawns = x.spawns ++ next ∷ [] }))
       many true = refl
-      many false = ap (λ (n : ℕ). (told.Goes, record (done_of x) { spawned = n })) (length-more x.spawns next)
+      many false = ap (λ (n : ℕ). (reported.Goes, record (done_of x) { spawned = n })) (length-more x.spawns next)
 
-      deep : (b : Bool) → (if b then (told.Fails Deep, done_of x)
-          else if nat_le 8 (length x.spawns) || nat_le 65535 (s.begun + length x.spawns) then (told.Fails Many, done_of x)
-          else (told.Goes, record (done_of x) { spawned = length x.spawns + 1 }))
+      deep : (b : Bool) → (if b then (reported.Fails Deep, done_of x)
+          else if nat_le 8 (length x.spawns) || nat_le 65535 (s.begun + length x.spawns) then (reported.Fails Many, done_of x)
+          else (reported.Goes, record (done_of x) { spawned = length x.spawns + 1 }))
           ≡ seen x (if b then Fails Deep
           else if nat_le 8 (length x.spawns) || nat_le 65535 (s.begun + length x.spawns) then Fails Many
           else Goes (record x { spawns = x.spawns ++ next ∷ [] }))

@@ -26,9 +26,9 @@ pub none_faults : (p : Program) (st : State) (ts : List Task) → first_fault (s
 none_faults p st [] h = tt
 none_faults p st (t ∷ ts) h = none_here p st t ts (none_faults p st ts) h (segment_of p.plans t st.arrays st.step).after refl
 
-behind : (p : Program) (st : State) (t : Task) (ts : List Task) (told : ℕ × List ℕ) → HasNoFault (segment_of p.plans t st.arrays st.step).after
-    → IsFirstFault p st ts told → IsFirstFault p st (t ∷ ts) told
-behind p st t ts told fine r = record {
+behind : (p : Program) (st : State) (t : Task) (ts : List Task) (reported : ℕ × List ℕ) → HasNoFault (segment_of p.plans t st.arrays st.step).after
+    → IsFirstFault p st ts reported → IsFirstFault p st (t ∷ ts) reported
+behind p st t ts reported fine r = record {
   front = t ∷ r.front;
   here = r.here;
   back = r.back;
@@ -40,17 +40,17 @@ behind p st t ts told fine r = record {
   path = r.path;
 }
 
-first_here : (p : Program) (st : State) (t : Task) (ts : List Task) (told : ℕ × List ℕ)
-    → (first_fault (segments p st.arrays st.step ts) ≡ Some told → IsFirstFault p st ts told)
-    → first_fault (segments p st.arrays st.step (t ∷ ts)) ≡ Some told
-    → (a : After) → (segment_of p.plans t st.arrays st.step).after ≡ a → IsFirstFault p st (t ∷ ts) told
-first_here p st t ts told more h (Synced u) e =
-    behind p st t ts told (subst HasNoFault (sym e) tt) (more (sym (ap (or_later (first_fault (segments p st.arrays st.step ts)) t.path) e) ∙ h))
-first_here p st t ts told more h Stopped e =
-    behind p st t ts told (subst HasNoFault (sym e) tt) (more (sym (ap (or_later (first_fault (segments p st.arrays st.step ts)) t.path) e) ∙ h))
-first_here p st t ts told more h (Faulted f) e =
-    let same : Some (f, t.path) ≡ Some told = sym (ap (or_later (first_fault (segments p st.arrays st.step ts)) t.path) e) ∙ h in
-    let pair : (f, t.path) ≡ told = cc in
+first_here : (p : Program) (st : State) (t : Task) (ts : List Task) (reported : ℕ × List ℕ)
+    → (first_fault (segments p st.arrays st.step ts) ≡ Some reported → IsFirstFault p st ts reported)
+    → first_fault (segments p st.arrays st.step (t ∷ ts)) ≡ Some reported
+    → (a : After) → (segment_of p.plans t st.arrays st.step).after ≡ a → IsFirstFault p st (t ∷ ts) reported
+first_here p st t ts reported more h (Synced u) e =
+    behind p st t ts reported (subst HasNoFault (sym e) tt) (more (sym (ap (or_later (first_fault (segments p st.arrays st.step ts)) t.path) e) ∙ h))
+first_here p st t ts reported more h Stopped e =
+    behind p st t ts reported (subst HasNoFault (sym e) tt) (more (sym (ap (or_later (first_fault (segments p st.arrays st.step ts)) t.path) e) ∙ h))
+first_here p st t ts reported more h (Faulted f) e =
+    let same : Some (f, t.path) ≡ Some reported = sym (ap (or_later (first_fault (segments p st.arrays st.step ts)) t.path) e) ∙ h in
+    let pair : (f, t.path) ≡ reported = cc in
     let of = faults-have-codes p.plans t st.arrays st.step f e in
     record {
       front = [];
@@ -65,13 +65,13 @@ first_here p st t ts told more h (Faulted f) e =
     }
 
 -- the fault that is found is that of the first faulting task
-pub first_faults : (p : Program) (st : State) (ts : List Task) (told : ℕ × List ℕ) → first_fault (segments p st.arrays st.step ts) ≡ Some told
-    → IsFirstFault p st ts told
-first_faults p st [] told h = let bad : ◌≡◌ {A = Option (ℕ × List ℕ)} None (Some told) = h in absurd cc
-first_faults p st (t ∷ ts) told h = first_here p st t ts told (first_faults p st ts told) h (segment_of p.plans t st.arrays st.step).after refl
+pub first_faults : (p : Program) (st : State) (ts : List Task) (reported : ℕ × List ℕ) → first_fault (segments p st.arrays st.step ts) ≡ Some reported
+    → IsFirstFault p st ts reported
+first_faults p st [] reported h = let bad : ◌≡◌ {A = Option (ℕ × List ℕ)} None (Some reported) = h in absurd cc
+first_faults p st (t ∷ ts) reported h = first_here p st t ts reported (first_faults p st ts reported) h (segment_of p.plans t st.arrays st.step).after refl
 
 pub faults_tell : FaultsTellTheFirst
-faults_tell p st told h = by (first_fault (segments p st.arrays st.step st.live)) refl h
+faults_tell p st reported h = by (first_fault (segments p st.arrays st.step st.live)) refl h
   where
     ss : List (List ℕ × Segment)
     ss = segments p st.arrays st.step st.live
@@ -80,10 +80,10 @@ faults_tell p st told h = by (first_fault (segments p st.arrays st.step st.live)
     next = next_live ss
 
     overflows : (o : Option (List ℕ × ℕ)) → first_over st.arrays (map log_of ss) ≡ o → nat_lt 4096 (length next) ≡ false → first_fault ss ≡ None
-        → (closed st ss (option_map fault_eight o)).fault ≡ Some told → IsOverflow p st told
-    overflows None e b none k = let bad : ◌≡◌ {A = Option (ℕ × List ℕ)} None (Some told) = k in absurd cc
+        → (closed st ss (option_map fault_eight o)).fault ≡ Some reported → IsOverflow p st reported
+    overflows None e b none k = let bad : ◌≡◌ {A = Option (ℕ × List ℕ)} None (Some reported) = k in absurd cc
     overflows (Some x) e b none k =
-        let pair : (8, x.0) ≡ told = cc in
+        let pair : (8, x.0) ≡ reported = cc in
         record {
           none = none_faults p st st.live none;
           few = ltb-false _ _ b;
@@ -93,10 +93,10 @@ faults_tell p st told h = by (first_fault (segments p st.arrays st.step st.live)
         }
 
     late : (b : Bool) → nat_lt 4096 (length next) ≡ b → first_fault ss ≡ None
-        → (closed st ss (or_next (if b then Some (7, []) else None) (overflow st.arrays ss))).fault ≡ Some told
-        → IsTooMany p st told ⊎ IsOverflow p st told
+        → (closed st ss (or_next (if b then Some (7, []) else None) (overflow st.arrays ss))).fault ≡ Some reported
+        → IsTooMany p st reported ⊎ IsOverflow p st reported
     late true e none k =
-        let pair : (7, []) ≡ told = cc in
+        let pair : (7, []) ≡ reported = cc in
         inl record {
           none = none_faults p st st.live none;
           many = ltb-true _ _ e;
@@ -106,7 +106,7 @@ faults_tell p st told h = by (first_fault (segments p st.arrays st.step st.live)
     late false e none k = inr (overflows (first_over st.arrays (map log_of ss)) refl e none k)
 
     by : (o : Option (ℕ × List ℕ)) → first_fault ss ≡ o
-        → (closed st ss (or_next o (or_next (too_many next) (overflow st.arrays ss)))).fault ≡ Some told
-        → IsFirstFault p st st.live told ⊎ (IsTooMany p st told ⊎ IsOverflow p st told)
-    by (Some f) e k = let same : Some f ≡ Some told = k in inl (first_faults p st st.live told (e ∙ same))
+        → (closed st ss (or_next o (or_next (too_many next) (overflow st.arrays ss)))).fault ≡ Some reported
+        → IsFirstFault p st st.live reported ⊎ (IsTooMany p st reported ⊎ IsOverflow p st reported)
+    by (Some f) e k = let same : Some f ≡ Some reported = k in inl (first_faults p st st.live reported (e ∙ same))
     by None e k = inr (late (nat_lt 4096 (length next)) refl e k)

@@ -3,4 +3,4 @@ pub mod FirstFaults
 pub mod Operators
 pub mod Spawning
 pub mod Refused
-pub mod Told
+pub mod Accounted

@@ -18,7 +18,7 @@ use Rattle.step_core.specs.Program.{Program}
 use Rattle.step_core.specs.Superstep.{State, superstep, segments, fault_in, closed, next_live, job_says}
 use Rattle.programs.specs.Superstep.{ended_by, gone_on, prints_of, print_of, record_of, spawned, stopped, left}
 use Rattle.step_core.specs.JobMeaning.{initial, so_far, starts}
-use Rattle.programs.specs.Supersteps.{status, told}
+use Rattle.programs.specs.Supersteps.{status, report_with}
 use Rattle.step_core.specs.Laws.{deed}
 use Rattle.programs.proofs.Runs.{goes, stays, going_on}
 use Rattle.job_laws.specs.Reports.{IsBySuperstep, ReportsAreBySuperstep, TextsHaveEveryPrint, PrintsAreOfTheirSuperstep, has_stopped, Tells, TellFrom, RecordsTellSupersteps}
@@ -112,7 +112,7 @@ every_print p limit r h = by (status limit (so_far p limit limit)) h
     good : IsBySuperstep st
     good = by_superstep p limit limit
 
-    by : (o : Option Status) → told st o ≡ Some r
+    by : (o : Option Status) → report_with st o ≡ Some r
         → steps_text r.prints r.records ++ flat_map array_line r.arrays ++ status_line r.status
         ≡ each_step r.prints r.records ++ flat_map array_line r.arrays ++ status_line r.status
     by None e = let bad : ◌≡◌ {A = Option ReportValue} None (Some r) = e in absurd cc

@@ -13,7 +13,7 @@ less m n h = grind (arith, common_steps)
 
 pub numbered : SpawnsAreNumbered
 numbered = record {
-  goes_on = λ s d b v short few room. rw (less 8 (length s.path) short, less 8 (length d.spawns) few, less 65535 (s.begun + length d.spawns) room) refl;
+  goes_on = λ s d b v short few capacity. rw (less 8 (length s.path) short, less 8 (length d.spawns) few, less 65535 (s.begun + length d.spawns) capacity) refl;
   too_deep = λ s d b v deep. rw (at_least 8 (length s.path) deep) refl;
   too_many_now = λ s d b v short many. rw (less 8 (length s.path) short, at_least 8 (length d.spawns) many) refl;
   too_many = λ s d b v short many. by_now s d b v short many (nat_le 8 (length d.spawns)) refl;

@@ -69,7 +69,7 @@ NoneFaults p st [] = Unit {0}
 NoneFaults p st (t ∷ ts) = HasNoFault (deed p st t).after × NoneFaults p st ts
 
 -- the first of these tasks that faults, with its fault's code and its path
-pub record IsFirstFault (p : Program) (st : State) (tasks : List Task) (told : ℕ × List ℕ) : Type 0 where
+pub record IsFirstFault (p : Program) (st : State) (tasks : List Task) (reported : ℕ × List ℕ) : Type 0 where
   pub front : List Task
   pub here : Task
   pub back : List Task
@@ -77,27 +77,27 @@ pub record IsFirstFault (p : Program) (st : State) (tasks : List Task) (told : �
   pub whole : tasks ≡ front ++ here ∷ back
   pub before : NoneFaults p st front
   pub faults : (deed p st here).after ≡ Faulted (code_of fault)
-  pub code : told.0 ≡ code_of fault
-  pub path : told.1 ≡ here.path
+  pub code : reported.0 ≡ code_of fault
+  pub path : reported.1 ≡ here.path
 
 -- no task faults, and over 4096 would live on: fault 7, of no task
-pub record IsTooMany (p : Program) (st : State) (told : ℕ × List ℕ) : Type 0 where
+pub record IsTooMany (p : Program) (st : State) (reported : ℕ × List ℕ) : Type 0 where
   pub none : NoneFaults p st st.live
   pub many : 4096 < length (next_live (segments p st.arrays st.step st.live))
-  pub code : told.0 ≡ 7
-  pub path : told.1 ≡ []
+  pub code : reported.0 ≡ 7
+  pub path : reported.1 ≡ []
 
 -- no task faults, at most 4096 would live on, and a put overflows: fault 8, of the task that made the first of these
-pub record IsOverflow (p : Program) (st : State) (told : ℕ × List ℕ) : Type 0 where
+pub record IsOverflow (p : Program) (st : State) (reported : ℕ × List ℕ) : Type 0 where
   pub none : NoneFaults p st st.live
   pub few : length (next_live (segments p st.arrays st.step st.live)) ≤ 4096
   pub place : ℕ
-  pub over : first_over st.arrays (map log_of (segments p st.arrays st.step st.live)) ≡ Some (told.1, place)
-  pub code : told.0 ≡ 8
+  pub over : first_over st.arrays (map log_of (segments p st.arrays st.step st.live)) ≡ Some (reported.1, place)
+  pub code : reported.0 ≡ 8
 
 -- A superstep that ends the job by a fault reports the first faulting live task, or that too many would live on, or the first put
 -- that overflows.
 abbrev pub FaultsTellTheFirst : Type 0
 FaultsTellTheFirst =
-    (p : Program) (st : State) (told : ℕ × List ℕ) → (superstep p st).fault ≡ Some told
-    → IsFirstFault p st st.live told ⊎ (IsTooMany p st told ⊎ IsOverflow p st told)
+    (p : Program) (st : State) (reported : ℕ × List ℕ) → (superstep p st).fault ≡ Some reported
+    → IsFirstFault p st st.live reported ⊎ (IsTooMany p st reported ⊎ IsOverflow p st reported)

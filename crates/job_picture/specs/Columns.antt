@@ -15,19 +15,19 @@ begins step (p ∷ ps) = p.step == step
 -- a column for each superstep, beside whether tasks printed in it
 abbrev pub columns_of : List PrintValue → List PhaseRecord → List Column
 columns_of prints [] = []
-columns_of prints (r ∷ rs) = record { told = r; steps = 1; prints = begins r.phase prints } ∷ columns_of (rest_of r.phase prints) rs
+columns_of prints (r ∷ rs) = record { counts = r; steps = 1; prints = begins r.phase prints } ∷ columns_of (rest_of r.phase prints) rs
 
 abbrev pub no_superstep : Column
-no_superstep = record { told = record { phase = 0; parties = 0; left = 0; spawned = 0 }; steps = 0; prints = false }
+no_superstep = record { counts = record { phase = 0; parties = 0; left = 0; spawned = 0 }; steps = 0; prints = false }
 
 -- the greater of each count, from where the first begins on
 abbrev pub greater : Column → Column → Column
 greater a b = record {
-  told = record {
-    phase = a.told.phase;
-    parties = max a.told.parties b.told.parties;
-    left = max a.told.left b.told.left;
-    spawned = max a.told.spawned b.told.spawned;
+  counts = record {
+    phase = a.counts.phase;
+    parties = max a.counts.parties b.counts.parties;
+    left = max a.counts.left b.counts.left;
+    spawned = max a.counts.spawned b.counts.spawned;
   };
   steps = a.steps;
   prints = a.prints || b.prints;
@@ -53,9 +53,9 @@ bar class at steps up height =
 -- the parties of a column; before them those that left, from the bottom, and those that were spawned, from the top
 abbrev pub bars : Column → List ℕ
 bars c =
-    bar (codes "p") c.told.phase c.steps 0 c.told.parties ++ bar (codes "l") c.told.phase c.steps 0 c.told.left
-    ++ bar (codes "s") c.told.phase c.steps (c.told.parties - c.told.spawned) c.told.spawned
+    bar (codes "p") c.counts.phase c.steps 0 c.counts.parties ++ bar (codes "l") c.counts.phase c.steps 0 c.counts.left
+    ++ bar (codes "s") c.counts.phase c.steps (c.counts.parties - c.counts.spawned) c.counts.spawned
 
 -- a tick where tasks printed
 abbrev pub tick : Column → List ℕ
-tick c = if c.prints then bar (codes "d") c.told.phase c.steps 0 1 else []
+tick c = if c.prints then bar (codes "d") c.counts.phase c.steps 0 1 else []

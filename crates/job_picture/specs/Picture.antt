@@ -89,7 +89,7 @@ shown_columns r =
 
 -- the most parties of its supersteps
 abbrev pub most_parties : ReportValue → ℕ
-most_parties r = (greatest (columns_of r.prints r.records)).told.parties
+most_parties r = (greatest (columns_of r.prints r.records)).counts.parties
 
 -- `steps` supersteps, with at most `most` parties, as these columns
 abbrev pub supersteps : Option (List ℕ) → ℕ → ℕ → Status → List Column → List ℕ

@@ -63,14 +63,14 @@ faulted_picture =
 -- three supersteps as columns, and the first two and the last joined
 abbrev pub three_columns : List Column
 three_columns =
-    record { told = record { phase = 0; parties = 3; left = 1; spawned = 2 }; steps = 1; prints = false }
-    ∷ record { told = record { phase = 1; parties = 4; left = 0; spawned = 1 }; steps = 1; prints = true }
-    ∷ record { told = record { phase = 2; parties = 2; left = 2; spawned = 0 }; steps = 1; prints = false } ∷ []
+    record { counts = record { phase = 0; parties = 3; left = 1; spawned = 2 }; steps = 1; prints = false }
+    ∷ record { counts = record { phase = 1; parties = 4; left = 0; spawned = 1 }; steps = 1; prints = true }
+    ∷ record { counts = record { phase = 2; parties = 2; left = 2; spawned = 0 }; steps = 1; prints = false } ∷ []
 
 abbrev pub two_columns : List Column
 two_columns =
-    record { told = record { phase = 0; parties = 4; left = 1; spawned = 2 }; steps = 2; prints = true }
-    ∷ record { told = record { phase = 2; parties = 2; left = 2; spawned = 0 }; steps = 1; prints = false } ∷ []
+    record { counts = record { phase = 0; parties = 4; left = 1; spawned = 2 }; steps = 2; prints = true }
+    ∷ record { counts = record { phase = 2; parties = 2; left = 2; spawned = 0 }; steps = 1; prints = false } ∷ []
 
 pub record PicturesAreWorkedOut : Type 0 where
   pub faulted : picture faulted_report ≡ faulted_picture

@@ -4,7 +4,7 @@ ghost use Rattle.std.specs.List.{flat_map};
 ghost use Rattle.phase_records.specs.ReportText.{rest_of};
 ghost use Rattle.job_picture.specs.Columns.{
   begins,
-  columns_of as told_columns,
+  columns_of as drawn_columns,
   no_superstep,
   greater as greater_of,
   greatest as greatest_of,
@@ -22,7 +22,7 @@ use std::alloc::{AllocError, Global};
 #[derive(Clone, Copy)]
 pub struct Column {
     /// Where it begins, with its counts.
-    pub told: PhaseRecord,
+    pub counts: PhaseRecord,
     /// The number of supersteps that it shows.
     pub steps: usize,
     /// True if a task printed.
@@ -59,18 +59,18 @@ pub(crate) fn columns_of(
     prints: &[Print],
     records: &[PhaseRecord],
 ) -> Result<Vec<Column>, AllocError>
-    ensures { IfOk result (λ columns. columns.items ≡ told_columns prints.now records.now) }
+    ensures { IfOk result (λ columns. columns.items ≡ drawn_columns prints.now records.now) }
 {
     let mut columns = Vec::new(alloc);
     let mut prints = prints;
     let mut rest = records;
-    while let Some((told, after)) = rest.split_first() {
+    while let Some((counts, after)) = rest.split_first() {
         columns.push(Column {
-            told: *told,
+            counts: *counts,
             steps: 1,
-            prints: begins_in(prints, told.phase),
+            prints: begins_in(prints, counts.phase),
         })?;
-        prints = skip_prints(prints, told.phase);
+        prints = skip_prints(prints, counts.phase);
         rest = after;
     }
     Ok(columns)
@@ -81,11 +81,11 @@ fn greater(a: Column, b: Column) -> Column
     ensures { result ≡ greater_of a b }
 {
     Column {
-        told: PhaseRecord {
-            phase: a.told.phase,
-            parties: a.told.parties.max(b.told.parties),
-            left: a.told.left.max(b.told.left),
-            spawned: a.told.spawned.max(b.told.spawned),
+        counts: PhaseRecord {
+            phase: a.counts.phase,
+            parties: a.counts.parties.max(b.counts.parties),
+            left: a.counts.left.max(b.counts.left),
+            spawned: a.counts.spawned.max(b.counts.spawned),
         },
         steps: a.steps,
         prints: a.prints || b.prints,
@@ -96,14 +96,14 @@ fn greater(a: Column, b: Column) -> Column
 fn nothing() -> Column
     ensures { result ≡ no_superstep }
 {
-    let told = PhaseRecord {
+    let counts = PhaseRecord {
         phase: 0,
         parties: 0,
         left: 0,
         spawned: 0,
     };
     Column {
-        told,
+        counts,
         steps: 0,
         prints: false,
     }
@@ -168,11 +168,11 @@ fn push_bar(
     up: u32,
     height: u32,
 ) -> Result<(), AllocError>
-    ensures { OnOk result (out.new.items ≡ out.old.items ++ bar class.now column.told.phase column.steps up height) }
+    ensures { OnOk result (out.new.items ≡ out.old.items ++ bar class.now column.counts.phase column.steps up height) }
 {
     push_text(out, b"<rect class=\"")?;
     push_text(out, class)?;
-    push_field(out, b"\" x=\"", column.told.phase)?;
+    push_field(out, b"\" x=\"", column.counts.phase)?;
     push_field(out, b"\" width=\"", column.steps.saturating_sub(1))?;
     push_field(out, b".9\" y=\"", up)?;
     push_field(out, b"\" height=\"", height)?;
@@ -183,11 +183,11 @@ fn push_bar(
 fn push_bars(out: &mut Vec<u8>, column: Column) -> Result<(), AllocError>
     ensures { OnOk result (out.new.items ≡ out.old.items ++ bars column) }
 {
-    let told = column.told;
-    let up = told.parties.saturating_sub(told.spawned);
-    push_bar(out, b"p", column, 0, told.parties)?;
-    push_bar(out, b"l", column, 0, told.left)?;
-    push_bar(out, b"s", column, up, told.spawned)
+    let counts = column.counts;
+    let up = counts.parties.saturating_sub(counts.spawned);
+    push_bar(out, b"p", column, 0, counts.parties)?;
+    push_bar(out, b"l", column, 0, counts.left)?;
+    push_bar(out, b"s", column, up, counts.spawned)
 }
 
 /// Appends the bars of columns.

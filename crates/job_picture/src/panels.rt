@@ -2,25 +2,25 @@
 ghost use Rattle.std.specs.Prelude.{◌≡◌, ◌++◌, ◌+◌, ◌*◌, ◌<◌, ◌≤◌, OnOk, IfOk, length, drop, take};
 ghost use Rattle.job_picture.specs.Grids.{beside as beside_of, placed as placed_at};
 ghost use Rattle.job_picture.specs.Panels.{
-  across_of as told_across,
-  board as told_board,
-  board_count as told_count,
+  across_of as drawn_across,
+  board as drawn_board,
+  board_count as drawn_count,
   board_number,
-  boards as told_boards,
+  boards as drawn_boards,
   boards_from,
   distance,
   drawn,
-  height as told_height,
+  height as drawn_height,
   height_of,
   missing,
-  over_time as told_over_time,
+  over_time as drawn_over_time,
   panels_from,
   row_number,
   row_numbers,
   several,
   small_board,
   small_boards,
-  small_lines as told_lines,
+  small_lines as drawn_lines,
   spacing,
 };
 
@@ -159,7 +159,7 @@ fn cut(values: &[i64], count: usize) -> (&[i64], &[i64])
 
 // Returns how many boards there are.
 fn board_count(cells: usize, values: &[i64]) -> usize
-    ensures { result ≡ told_count cells values.now }
+    ensures { result ≡ drawn_count cells values.now }
 {
     values.len().div_ceil(cells.max(1))
 }
@@ -219,7 +219,7 @@ fn push_small_boards(
 
 // Returns how many cells a row has, at least one.
 fn across_of(across: usize) -> usize
-    ensures across { result ≡ told_across across }
+    ensures across { result ≡ drawn_across across }
     ensures some { 0 < result }
 {
     across.max(1)
@@ -246,7 +246,7 @@ fn push_board(
     across: usize,
 ) -> Result<(), AllocError>
     requires { 0 < across }
-    ensures { OnOk result (out.new.items ≡ out.old.items ++ told_board top name.now cells values.now across) }
+    ensures { OnOk result (out.new.items ≡ out.old.items ++ drawn_board top name.now cells values.now across) }
 {
     let extent = range_of(values);
     push_caption(out, top, name, cells, extent)?;
@@ -267,7 +267,7 @@ fn push_over_time(
     values: &[i64],
     every: u32,
 ) -> Result<(), AllocError>
-    ensures { OnOk result (out.new.items ≡ out.old.items ++ told_over_time top name.now cells values.now every) }
+    ensures { OnOk result (out.new.items ≡ out.old.items ++ drawn_over_time top name.now cells values.now every) }
 {
     let extent = range_of(values);
     let across = across_of(cells);
@@ -292,7 +292,7 @@ fn push_boards(
     every: u32,
 ) -> Result<(), AllocError>
     requires { 0 < across }
-    ensures { OnOk result (out.new.items ≡ out.old.items ++ told_boards top name.now cells values.now across every) }
+    ensures { OnOk result (out.new.items ≡ out.old.items ++ drawn_boards top name.now cells values.now across every) }
 {
     push_caption(out, top, name, cells, range_of(values))?;
     push_spacing(out, b"board", every)?;
@@ -334,7 +334,7 @@ fn push_panel(
 // Returns how high lines of small boards are.
 fn small_lines(across: usize, cells: usize, values: &[i64]) -> u128
     requires { 0 < across }
-    ensures { result ≡ told_lines across cells values.now }
+    ensures { result ≡ drawn_lines across cells values.now }
 {
     let frame = small_frame(across, cells);
     let count = u128::from(board_count(cells, values) as u64);
@@ -343,7 +343,7 @@ fn small_lines(across: usize, cells: usize, values: &[i64]) -> u128
 
 // Returns how high a panel is.
 fn height(panel: Panel<'_>) -> u128
-    ensures { result ≡ told_height panel.entry.cells panel.entry.values.now panel.entry.form }
+    ensures { result ≡ drawn_height panel.entry.cells panel.entry.values.now panel.entry.form }
 {
     let Panel { cells, values, .. } = panel;
     match panel.form {

@@ -7,7 +7,7 @@ ghost use Rattle.job_picture.specs.Picture.{
   ending,
   fault_ending,
   file,
-  group_of as told_group,
+  group_of as drawn_group,
   head,
   heights,
   legend,
@@ -16,11 +16,11 @@ ghost use Rattle.job_picture.specs.Picture.{
   named,
   part_head,
   picture,
-  picture_with as told_with,
+  picture_with as drawn_with,
   plain,
   shared_by,
   sharing,
-  shown_columns as told_shown,
+  shown_columns as drawn_shown,
   supersteps,
   title,
 };
@@ -40,7 +40,7 @@ const MOST_COLUMNS: usize = 4000;
 
 // Returns the number of supersteps that share a column.
 fn group_of(steps: usize) -> usize
-    ensures group { result ≡ told_group steps }
+    ensures group { result ≡ drawn_group steps }
     ensures some { 0 < result }
 {
     steps.div_ceil(MOST_COLUMNS).max(1)
@@ -233,11 +233,11 @@ fn push_supersteps(
 
 // Returns the columns of a report, and the most parties.
 fn shown_columns(alloc: Global, report: &Report) -> Result<(Vec<Column>, u32), AllocError>
-    ensures columns { IfOk result (λ shown. shown.0.items ≡ told_shown report.now) }
+    ensures columns { IfOk result (λ shown. shown.0.items ≡ drawn_shown report.now) }
     ensures most { IfOk result (λ shown. shown.1 ≡ most_parties report.now) }
 {
     let columns = columns_of(alloc, &report.prints, &report.records)?;
-    let most = greatest(&columns).told.parties;
+    let most = greatest(&columns).counts.parties;
     let steps = report.records.len();
     let group = group_of(steps);
     let shown = join(alloc, steps.div_ceil(group), group, &columns)?;
@@ -310,7 +310,7 @@ pub fn picture_with(
     name: Option<&str>,
     panels: &[Panel<'_>],
 ) -> Result<Vec<u8>, AllocError>
-    ensures panels { IfOk result (λ text. text.items ≡ told_with (option_map (λ s. s.now) name.entry) panels.now report.now) }
+    ensures panels { IfOk result (λ text. text.items ≡ drawn_with (option_map (λ s. s.now) name.entry) panels.now report.now) }
     ensures views { IfOk result (λ text. text.items ≡ viewed (option_map (λ s. s.now) name.entry) (views_of panels.now) report.now) }
 {
     let (columns, most) = shown_columns(alloc, report)?;

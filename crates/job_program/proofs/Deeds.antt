@@ -17,12 +17,12 @@ use Rattle.task_lang.specs.declared.task.After.TheVariants as after
 use Rattle.programs.specs.Superstep.{log_of, overflow, fault_eight, synced, living_on}
 use Rattle.job_program.specs.SlotValue.{SlotValue}
 use Rattle.job_program.specs.Slots.{slots_of, delivered}
-use Rattle.job_program.specs.SlotParts.{puts_in, puts_of, log_in, path_at, told_at, living_of, living_in, living_by, synced_in, path_in}
+use Rattle.job_program.specs.SlotParts.{puts_in, puts_of, log_in, path_at, overflow_at, living_of, living_in, living_by, synced_in, path_in}
 
 -- the log of what was delivered
-pub log_told : (ps : List Plan) (ss : List SlotValue) → joined (map log_of (delivered (slots_of ps ss))) ≡ log_in ss
-log_told ps [] = refl
-log_told ps (s ∷ ss) = by s.done (log_told ps ss)
+pub log_reported : (ps : List Plan) (ss : List SlotValue) → joined (map log_of (delivered (slots_of ps ss))) ≡ log_in ss
+log_reported ps [] = refl
+log_reported ps (s ∷ ss) = by s.done (log_reported ps ss)
   where
     by : (o : Option SegmentValue) → joined (map log_of (delivered (slots_of ps ss))) ≡ log_in ss
         → joined (map log_of (delivered (slots_of ps (record { task = s.task; done = o } ∷ ss)))) ≡ puts_of o ++ log_in ss
@@ -70,45 +70,45 @@ land_last (s ∷ ss) e h = cc
 -- ---- the first put that overflows
 
 -- the path of the put at this place
-path_located : (ps : List Plan) (ss : List SlotValue) (k : ℕ) → option_map fault_eight (located (map log_of (delivered (slots_of ps ss))) k) ≡ option_map told_at (path_at ss k)
+path_located : (ps : List Plan) (ss : List SlotValue) (k : ℕ) → option_map fault_eight (located (map log_of (delivered (slots_of ps ss))) k) ≡ option_map overflow_at (path_at ss k)
 path_located ps [] k = refl
 path_located ps (s ∷ ss) k = by s.done (λ n. path_located ps ss n)
   where
-    told : (b : Bool) (n : ℕ) → option_map fault_eight (located (map log_of (delivered (slots_of ps ss))) n) ≡ option_map told_at (path_at ss n)
+    reported : (b : Bool) (n : ℕ) → option_map fault_eight (located (map log_of (delivered (slots_of ps ss))) n) ≡ option_map overflow_at (path_at ss n)
         → option_map fault_eight (if b then Some (s.task.path, k) else located (map log_of (delivered (slots_of ps ss))) n)
-        ≡ option_map told_at (if b then Some s.task.path else path_at ss n)
-    told true n h = refl
-    told false n h = h
+        ≡ option_map overflow_at (if b then Some s.task.path else path_at ss n)
+    reported true n h = refl
+    reported false n h = h
 
-    by : (o : Option SegmentValue) → ((n : ℕ) → option_map fault_eight (located (map log_of (delivered (slots_of ps ss))) n) ≡ option_map told_at (path_at ss n))
+    by : (o : Option SegmentValue) → ((n : ℕ) → option_map fault_eight (located (map log_of (delivered (slots_of ps ss))) n) ≡ option_map overflow_at (path_at ss n))
         → option_map fault_eight (located (map log_of (delivered (slots_of ps (record { task = s.task; done = o } ∷ ss)))) k)
-        ≡ option_map told_at (if nat_lt k (length (puts_of o)) then Some s.task.path else path_at ss (k - length (puts_of o)))
+        ≡ option_map overflow_at (if nat_lt k (length (puts_of o)) then Some s.task.path else path_at ss (k - length (puts_of o)))
     by None h =
         let b : nat_lt k 0 ≡ false = grind arith in
         let z : k - 0 ≡ k = omega arith in
-        h k ∙ sym (ap (λ (n : ℕ). option_map told_at (path_at ss n)) z)
-        ∙ sym (ap (λ (x : Bool). option_map told_at (if x then Some s.task.path else path_at ss (k - 0))) b)
-    by (Some g) h = told (nat_lt k (length g.puts)) (k - length g.puts) (h (k - length g.puts))
+        h k ∙ sym (ap (λ (n : ℕ). option_map overflow_at (path_at ss n)) z)
+        ∙ sym (ap (λ (x : Bool). option_map overflow_at (if x then Some s.task.path else path_at ss (k - 0))) b)
+    by (Some g) h = reported (nat_lt k (length g.puts)) (k - length g.puts) (h (k - length g.puts))
 
 -- what the log of all puts says is what the round says
-pub over_told : (ps : List Plan) (ss : List SlotValue) (xs : List (List ℕ × List ℤ)) (o : Option ℕ) → o ≡ over_in xs [] 0 (log_in ss)
+pub over_reported : (ps : List Plan) (ss : List SlotValue) (xs : List (List ℕ × List ℤ)) (o : Option ℕ) → o ≡ over_in xs [] 0 (log_in ss)
     → overflow xs (delivered (slots_of ps ss)) ≡ option_map fault_eight (at_log (map log_of (delivered (slots_of ps ss))) o)
-over_told ps ss xs o e =
+over_reported ps ss xs o e =
     let logs = map log_of (delivered (slots_of ps ss)) in
-    ap (option_map fault_eight) (first_located xs logs ∙ ap (λ (qs : List Put). at_log logs (over_in xs [] 0 qs)) (log_told ps ss) ∙ ap (at_log logs) (sym e))
+    ap (option_map fault_eight) (first_located xs logs ∙ ap (λ (qs : List Put). at_log logs (over_in xs [] 0 qs)) (log_reported ps ss) ∙ ap (at_log logs) (sym e))
 
 pub none_over : (ps : List Plan) (ss : List SlotValue) (xs : List (List ℕ × List ℤ)) → None ≡ over_in xs [] 0 (log_in ss) → None ≡ overflow xs (delivered (slots_of ps ss))
-none_over ps ss xs e = sym (over_told ps ss xs None e)
+none_over ps ss xs e = sym (over_reported ps ss xs None e)
 
 pub one_over : (ps : List Plan) (ss : List SlotValue) (xs : List (List ℕ × List ℤ)) (k : ℕ) → Some k ≡ over_in xs [] 0 (log_in ss)
-    → option_map told_at (path_at ss k) ≡ overflow xs (delivered (slots_of ps ss))
-one_over ps ss xs k e = sym (over_told ps ss xs (Some k) e ∙ path_located ps ss k)
+    → option_map overflow_at (path_at ss k) ≡ overflow xs (delivered (slots_of ps ss))
+one_over ps ss xs k e = sym (over_reported ps ss xs (Some k) e ∙ path_located ps ss k)
 
 -- the put that overflows is that of a task
-pub over_path : (ss : List SlotValue) (xs : List (List ℕ × List ℤ)) (k : ℕ) → Some k ≡ over_in xs [] 0 (log_in ss) → option_map told_at (path_at ss k) ≡ None → ⊥
+pub over_path : (ss : List SlotValue) (xs : List (List ℕ × List ℤ)) (k : ℕ) → Some k ≡ over_in xs [] 0 (log_in ss) → option_map overflow_at (path_at ss k) ≡ None → ⊥
 over_path ss xs k e h =
     found_there (map log_of (delivered (slots_of [] ss))) k
-    (let m = over_inside xs [] 0 k (log_in ss) (sym e) in subst (λ (qs : List Put). k < length qs) (sym (log_told [] ss)) (omega (arith, m.1)))
+    (let m = over_inside xs [] 0 k (log_in ss) (sym e) in subst (λ (qs : List Put). k < length qs) (sym (log_reported [] ss)) (omega (arith, m.1)))
     (none_located (located (map log_of (delivered (slots_of [] ss))) k) (path_located [] ss k ∙ h))
   where
     none_located : (o : Option (List ℕ × ℕ)) → option_map fault_eight o ≡ None → o ≡ None

@@ -12,8 +12,8 @@ use Rattle.task_lang.specs.declared.scene.CodeEnd as code
 use Rattle.task_lang.specs.declared.scene.CodeEnd.TheVariants as ends
 use Rattle.job_program.specs.SlotParts.{path_in}
 use Rattle.programs.specs.declared.work.Work.{Work}
-use Rattle.programs.specs.declared.work.Ending.{Ending}
-use Rattle.programs.specs.declared.work.Ending.TheVariants as ending
+use Rattle.programs.specs.declared.work.SegmentEnd.{SegmentEnd}
+use Rattle.programs.specs.declared.work.SegmentEnd.TheVariants as ending
 use Rattle.programs.specs.Meaning.{children, IsFormed, NumbersItsSpawns, StaysTheSameTask}
 use Rattle.job_program.specs.Superstep.{job_frame, job_says}
 use Rattle.programs.specs.Lent.{IsLeft, HasLeft}
@@ -44,7 +44,7 @@ numbers plans t arrays step = (job_formed plans t arrays step).numbered
 pub stays : (plans : List job.Plan) → StaysTheSameTask (job_says plans)
 stays plans t u arrays step e = (job_formed plans t arrays step).same u e
 
-abbrev pub as_ending : code.CodeEnd → Ending
+abbrev pub as_ending : code.CodeEnd → SegmentEnd
 as_ending (ends.Synced place) = ending.Stays
 as_ending ends.Stopped = ending.Stops
 as_ending (ends.Fault f) = ending.Fails (code_of f)

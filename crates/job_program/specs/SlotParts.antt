@@ -27,8 +27,8 @@ path_at [] place = None
 path_at (s ∷ ss) place = if nat_lt place (length (puts_in s)) then Some s.task.path else path_at ss (place - length (puts_in s))
 
 -- fault 8 of a task
-abbrev pub told_at : List ℕ → ℕ × List ℕ
-told_at path = (8, path)
+abbrev pub overflow_at : List ℕ → ℕ × List ℕ
+overflow_at path = (8, path)
 
 abbrev pub synced_in : After → List TaskValue
 synced_in (after.Synced t) = t ∷ []

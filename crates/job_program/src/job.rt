@@ -13,7 +13,7 @@ use programs::blame::Blame;
 use programs::deeds::Deeds;
 use programs::in_place::{StepScene, do_range};
 use programs::program::{Program, TaskLoop};
-use programs::work::{Ending, Work};
+use programs::work::{SegmentEnd, Work};
 use smallvec::SmallVec;
 use std::alloc::{AllocError, Global};
 use superstep_memory::arrays::Arrays;
@@ -51,11 +51,11 @@ impl<'j> Program for JobProgram<'j> {
         arrays: &Arrays,
         step: u32,
         work: &mut Work<Task>,
-    ) -> Result<Ending, AllocError> {
+    ) -> Result<SegmentEnd, AllocError> {
         match segment_into(alloc, self.job, task, arrays, step, work)? {
-            scene::CodeEnd::Synced(_) => Ok(Ending::Stays),
-            scene::CodeEnd::Stopped => Ok(Ending::Stops),
-            scene::CodeEnd::Fault(fault) => Ok(Ending::Fails(fault.code())),
+            scene::CodeEnd::Synced(_) => Ok(SegmentEnd::Stays),
+            scene::CodeEnd::Stopped => Ok(SegmentEnd::Stops),
+            scene::CodeEnd::Fault(fault) => Ok(SegmentEnd::Fails(fault.code())),
         }
     }
 

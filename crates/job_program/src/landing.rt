@@ -7,7 +7,7 @@ ghost use Rattle.superstep_memory.specs.Landing.{landed, joined, is_set};
 ghost use Rattle.task_lang.specs.Meaning.{Plan};
 ghost use Rattle.programs.specs.Superstep.{overflow, fault_eight, log_of};
 ghost use Rattle.job_program.specs.Slots.{slots_of, delivered};
-ghost use Rattle.job_program.specs.SlotParts.{log_in, path_at, told_at};
+ghost use Rattle.job_program.specs.SlotParts.{log_in, path_at, overflow_at};
 
 use crate::slot::Slots;
 use programs::blame::{Blame, overflowed};
@@ -57,7 +57,7 @@ fn join(alloc: Global, slots: &Slots<'_>) -> Result<Puts, AllocError>
 
 // Returns the fault of the task whose put is at this place of all of them, if there is such a put.
 fn blame_at(slots: &Slots<'_>, place: usize) -> Option<Blame>
-    ensures { result ≡ option_map told_at (path_at slots.now place) }
+    ensures { result ≡ option_map overflow_at (path_at slots.now place) }
 {
     let mut left = place;
     let mut rest = slots.again();

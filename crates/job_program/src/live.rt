@@ -26,7 +26,7 @@ pub struct Live {
     tasks: Arc<Vec<Task>>,
     done: Vec<Option<Segment>>,
     // Room for the next tasks, kept from one closing to the next. What it holds means nothing.
-    room: Vec<Task>,
+    spare: Vec<Task>,
 }
 
 impl Model for Live {
@@ -80,15 +80,15 @@ fn finish(
 // it. If memory runs out, nothing that has a meaning changes.
 fn list_for(
     alloc: Global,
-    room: &mut Vec<Task>,
+    spare: &mut Vec<Task>,
     done: &mut Vec<Option<Segment>>,
     count: usize,
 ) -> Result<Arc<Vec<Task>>, AllocError>
-    ensures tasks { OnOk result ((room.new.items ≡ []) × (count ≤ vec_capacity room.new)) }
+    ensures tasks { OnOk result ((spare.new.items ≡ []) × (count ≤ vec_capacity spare.new)) }
     ensures places { OnOk result (count ≤ vec_capacity done.new) }
     ensures same { done.new.items ≡ done.old.items }
 {
-    make_room(room, done, count)?;
+    make_room(spare, done, count)?;
     match Arc::new(alloc, Vec::new(alloc)) {
         Ok(list) => Ok(list),
         Err(_) => Err(AllocError),
@@ -102,15 +102,15 @@ fn close_into(
     step: u32,
     tasks: &[Task],
     done: &mut Vec<Option<Segment>>,
-    room: &mut Vec<Task>,
+    spare: &mut Vec<Task>,
     next: &mut Arc<Vec<Task>>,
     start_arrays: &mut Arc<Arrays>,
     finished: &mut Vec<Finished>,
 ) -> Result<Option<Blame>, AllocError>
     requires few { length (beside tasks.now done.old.items) ≤ 4096 }
     requires small { AllSmall (beside tasks.now done.old.items) }
-    requires none_yet { room.old.items ≡ [] }
-    requires room { length (living_by done.old.items) ≤ vec_capacity room.old }
+    requires none_yet { spare.old.items ≡ [] }
+    requires capacity { length (living_by done.old.items) ≤ vec_capacity spare.old }
     requires places { length (living_by done.old.items) ≤ vec_capacity done.old }
     ensures fault { IfOk result (λ fault. (ps : List Plan)
         → fault ≡ overflow (arc_value start_arrays.old) (delivered (slots_of ps (beside tasks.now done.old.items)))) }
@@ -132,15 +132,15 @@ fn close_into(
     if let Some(blame) = finish(alloc, step, &Slots::of(tasks, done), start_arrays, finished)? {
         return Ok(Some(blame));
     }
-    list_next(done, room, list);
+    list_next(done, spare, list);
     Ok(None)
 }
 
 // Keeps the room of a list of tasks that nobody has any more.
-fn reuse(last: Arc<Vec<Task>>, room: &mut Vec<Task>) {
+fn reuse(last: Arc<Vec<Task>>, spare: &mut Vec<Task>) {
     if let Ok(mut tasks) = Arc::try_unwrap(last) {
         tasks.clear();
-        *room = tasks;
+        *spare = tasks;
     }
 }
 
@@ -165,7 +165,7 @@ impl Live {
             Ok(tasks) => Ok(Live {
                 tasks,
                 done,
-                room: Vec::new(alloc),
+                spare: Vec::new(alloc),
             }),
             Err(_) => Err(AllocError),
         }
@@ -234,13 +234,13 @@ impl Live {
         ensures same_arrays { OnErr result (arc_value start_arrays.new ≡ arc_value start_arrays.old) }
         ensures same_tales { OnErr result (finished.new.items ≡ finished.old.items) }
     {
-        let mut next = list_for(alloc, &mut self.room, &mut self.done, count)?;
+        let mut next = list_for(alloc, &mut self.spare, &mut self.done, count)?;
         let landed = close_into(
             alloc,
             step,
             &self.tasks,
             &mut self.done,
-            &mut self.room,
+            &mut self.spare,
             &mut next,
             start_arrays,
             finished,
@@ -249,7 +249,7 @@ impl Live {
             return Ok(Some(blame));
         }
         let last = std::mem::replace(&mut self.tasks, next);
-        reuse(last, &mut self.room);
+        reuse(last, &mut self.spare);
         Ok(None)
     }
 }

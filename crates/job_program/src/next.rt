@@ -29,10 +29,10 @@ pub fn count_living(slots: &Slots<'_>) -> usize
 
 /// Puts tasks in their places among those that live on, the last by path first. Doesn't allocate.
 pub fn put_tasks(living: &mut Vec<Task>, tasks: Vec<Task>)
-    requires room { vec_len living.old + length tasks.items ≤ vec_capacity living.old }
+    requires capacity { vec_len living.old + length tasks.items ≤ vec_capacity living.old }
     ensures items { living.new.items ≡ reverse (put_all path_in tasks.items (reverse living.old.items)) }
     ensures more { vec_len living.new ≡ vec_len living.old + length tasks.items }
-    ensures room { vec_capacity living.new ≡ vec_capacity living.old }
+    ensures capacity { vec_capacity living.new ≡ vec_capacity living.old }
 {
     let mut rest = tasks;
     while let Some(task) = rest.pop() {
@@ -42,10 +42,10 @@ pub fn put_tasks(living: &mut Vec<Task>, tasks: Vec<Task>)
 
 // Puts the tasks that live on after what was delivered for a task in their places.
 fn put_done(living: &mut Vec<Task>, done: Option<Segment>)
-    requires room { vec_len living.old + length (living_of done) ≤ vec_capacity living.old }
+    requires capacity { vec_len living.old + length (living_of done) ≤ vec_capacity living.old }
     ensures items { living.new.items ≡ reverse (put_all path_in (living_of done) (reverse living.old.items)) }
     ensures more { vec_len living.new ≡ vec_len living.old + length (living_of done) }
-    ensures room { vec_capacity living.new ≡ vec_capacity living.old }
+    ensures capacity { vec_capacity living.new ≡ vec_capacity living.old }
 {
     let Some(segment) = done else {
         return;
@@ -65,10 +65,10 @@ fn put_done(living: &mut Vec<Task>, done: Option<Segment>)
 // Collects the tasks that live on, the last by path first.
 fn collect_living(done: &mut Vec<Option<Segment>>, living: &mut Vec<Task>)
     requires none_yet { living.old.items ≡ [] }
-    requires room { length (living_by done.old.items) ≤ vec_capacity living.old }
+    requires capacity { length (living_by done.old.items) ≤ vec_capacity living.old }
     ensures living { living.new.items ≡ reverse (in_path_order path_in (living_by done.old.items)) }
     ensures done { done.new.items ≡ [] }
-    ensures room { vec_capacity done.new ≡ vec_capacity done.old }
+    ensures capacity { vec_capacity done.new ≡ vec_capacity done.old }
 {
     while let Some(one) = done.pop() {
         put_done(living, one);
@@ -94,7 +94,7 @@ pub(crate) fn make_room(
 /// Notes that nothing was delivered for these tasks.
 pub(crate) fn set_undone(done: &mut Vec<Option<Segment>>, tasks: &[Task])
     requires none_yet { done.old.items ≡ [] }
-    requires room { length tasks.now ≤ vec_capacity done.old }
+    requires capacity { length tasks.now ≤ vec_capacity done.old }
     ensures { done.new.items ≡ map no_segment tasks.now }
 {
     let mut rest = tasks;
@@ -111,7 +111,7 @@ pub(crate) fn list_next(
     list: &mut Vec<Task>,
 )
     requires none_yet { living.old.items ≡ [] }
-    requires room { length (living_by done.old.items) ≤ vec_capacity living.old }
+    requires capacity { length (living_by done.old.items) ≤ vec_capacity living.old }
     requires places { length (living_by done.old.items) ≤ vec_capacity done.old }
     ensures tasks { list.new.items ≡ in_path_order path_in (living_by done.old.items) }
     ensures none { done.new.items ≡ map no_segment list.new.items }

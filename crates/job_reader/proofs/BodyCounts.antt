@@ -13,7 +13,7 @@ use Rattle.job_words.proofs.SaidLemmas.{and-true}
 use Rattle.job_reader.specs.Above.{statements_behind}
 use Rattle.job_reader.specs.Kept.{open_behind, Counted}
 use Rattle.job_reader.proofs.StepCode.{step-map}
-use Rattle.job_reader.proofs.ToldInside.{all-mapped}
+use Rattle.job_reader.proofs.SpelledInside.{all-mapped}
 
 -- what a line does to the number of open lines
 data Change : Type 0 where

@@ -57,15 +57,15 @@ sound-append format arrays bodies (ABody b ∷ xs) ys h k = (h.0, sound-append f
 sound-append format arrays bodies (AStart s ∷ xs) ys h k = (h.0, sound-append format arrays bodies xs ys h.1 k)
 
 -- lines that are a job's, as items
-pub record Told (bodies : List Word) (lines : List Words) (j : JobTree) : Type 0 where
+pub record SpelledOut (bodies : List Word) (lines : List Words) (j : JobTree) : Type 0 where
   pub items : List Item
   pub written : lines ≡ items_lines j.format [] bodies items
   pub said : job_of j.format items ≡ j
   pub sound : AreSound j.format [] bodies items
 
-told-as : (bodies : List Word) (lines : List Words) (j : JobTree) (format : ℕ) (items : List Item) → format ≡ j.format → lines ≡ items_lines format [] bodies items
-    → job_of format items ≡ j → AreSound format [] bodies items → Told bodies lines j
-told-as bodies lines j format items same w s h = record {
+spelled-out-as : (bodies : List Word) (lines : List Words) (j : JobTree) (format : ℕ) (items : List Item) → format ≡ j.format → lines ≡ items_lines format [] bodies items
+    → job_of format items ≡ j → AreSound format [] bodies items → SpelledOut bodies lines j
+spelled-out-as bodies lines j format items same w s h = record {
   items = items;
   written = subst (λ (f : ℕ). lines ≡ items_lines f [] bodies items) same w;
   said = subst (λ (f : ℕ). job_of f items ≡ j) same s;
@@ -73,16 +73,16 @@ told-as bodies lines j format items same w s h = record {
 }
 
 -- an item more
-pub told-put : (bodies : List Word) (lines : List Words) (j : JobTree) (i : Item) → Told bodies lines j → AreSound j.format (array_names j) bodies (i ∷ [])
-    → Told bodies (lines ++ items_lines j.format (array_names j) bodies (i ∷ [])) (put i j)
-told-put bodies lines j i t s =
+pub spelled-out-put : (bodies : List Word) (lines : List Words) (j : JobTree) (i : Item) → SpelledOut bodies lines j → AreSound j.format (array_names j) bodies (i ∷ [])
+    → SpelledOut bodies (lines ++ items_lines j.format (array_names j) bodies (i ∷ [])) (put i j)
+spelled-out-put bodies lines j i t s =
     let names : array_names (job_of j.format t.items) ≡ array_names j = ap array_names t.said in
-    told-as bodies (lines ++ items_lines j.format (array_names j) bodies (i ∷ [])) (put i j) j.format (t.items ++ i ∷ []) (put-format i j)
+    spelled-out-as bodies (lines ++ items_lines j.format (array_names j) bodies (i ∷ [])) (put i j) j.format (t.items ++ i ∷ []) (put-format i j)
     (ap (λ (x : List Words). x ++ items_lines j.format (array_names j) bodies (i ∷ [])) t.written
     ∙ ap (λ (a : List Word). items_lines j.format [] bodies t.items ++ items_lines j.format a bodies (i ∷ [])) (sym names)
     ∙ sym (items-append j.format [] bodies t.items (i ∷ [])))
     (job-put j.format t.items i ∙ ap (put i) t.said)
     (sound-append j.format [] bodies t.items (i ∷ []) t.sound (subst (λ (a : List Word). AreSound j.format a bodies (i ∷ [])) (sym names) s))
 
-pub told-nothing : (format : ℕ) (bodies : List Word) → Told bodies [] (no_job format)
-told-nothing format bodies = record { items = []; written = refl; said = refl; sound = tt }
+pub spelled-out-nothing : (format : ℕ) (bodies : List Word) → SpelledOut bodies [] (no_job format)
+spelled-out-nothing format bodies = record { items = []; written = refl; said = refl; sound = tt }

@@ -38,7 +38,7 @@ use Rattle.job_reader.proofs.NotedNames.{names-put}
 use Rattle.job_reader.proofs.LocalsBehind.{locals-grow, names-behind}
 use Rattle.job_reader.proofs.Known.{said-known}
 use Rattle.job_reader.proofs.StepCode.{step-map}
-use Rattle.job_reader.proofs.ToldInside.{all-mapped}
+use Rattle.job_reader.proofs.SpelledInside.{all-mapped}
 use Rattle.job_reader.specs.Grammar.{locals_behind, is_in_format}
 use Rattle.std.proofs.lemmas.List.Folds.{list_all-append}
 
@@ -105,7 +105,7 @@ none-open (line.EndWhile x n) (f ∷ fs) b e t = absurd cc
 -- a job with a body more
 body-put : (j : JobTree) (b : BodyTree) → KeptJob j → KeptBody j.format b → is_among (body_names j) b.name ≡ false → length (body_names j) < 64
     → KeptJob (record j { bodies = j.bodies ++ b ∷ [] })
-body-put j b g h new room =
+body-put j b g h new capacity =
     let names : map (λ x. x.name) (j.bodies ++ b ∷ []) ≡ body_names j ++ b.name ∷ [] = map-append (λ x. x.name) j.bodies (b ∷ []) in
     record {
       format = g.format;
@@ -205,13 +205,13 @@ by-step : (j : JobTree) (o : Inside) (ls : List Word) (l : Line) (r : Option (Li
 by-step j o ls l None g h x e =
     let whole = whole-ended j o ls l h x e in
     let alone : in_line l ≡ [] = none-mentions l o.frames o.block e x.stands in
-    body-put j (ended (record o { locals = ls })) g (whole.body, λ f. first-ended o ls l (h.first f) whole.closed alone (x.order f)) h.new h.room
+    body-put j (ended (record o { locals = ls })) g (whole.body, λ f. first-ended o ls l (h.first f) whole.closed alone (x.order f)) h.new h.capacity
 by-step j o ls l (Some s) g h x e = (
   g,
   record {
     name = h.name;
     new = h.new;
-    room = h.room;
+    capacity = h.capacity;
     locals = x.names;
     few = x.few.1;
     mentions = below-step l o.frames o.block s (length ls) e (before-wider o ls (mentions (open_code o.frames o.block)) x.grown h.mentions) x.here;

@@ -53,8 +53,8 @@ use Rattle.job_reader.specs.Reading.{
   unless_bad,
   job_in,
 }
-use Rattle.job_reader.proofs.ToldOuter.{bind-ok, le-true}
-use Rattle.job_reader.proofs.ToldText.{finished-ok, next}
+use Rattle.job_reader.proofs.SpelledOuter.{bind-ok, le-true}
+use Rattle.job_reader.proofs.SpelledText.{finished-ok, next}
 use Rattle.job_reader.proofs.ReadWords.{free-named, number-fits}
 use Rattle.job_reader.proofs.BodyCounts.{counted-none}
 use Rattle.job_reader.specs.Grammar.{listed_in}
@@ -137,7 +137,7 @@ array-read (name ∷ len ∷ values) x e =
 array-put : (j : JobTree) (x : Word × List ℤ) → KeptJob j → is_array x ≡ true → is_free x.0 ≡ true → list_all fits_i64 x.1 ≡ true
     → is_among (array_names j) x.0 ≡ false → length (array_names j) < 16 → length (array_names j) ≡ length j.arrays
     → KeptJob (record j { arrays = j.arrays ++ x ∷ [] })
-array-put j x g a free fits new room many = record {
+array-put j x g a free fits new capacity many = record {
   format = g.format;
   few_arrays = omega (arith, length-append j.arrays (x ∷ []));
   few_bodies = g.few_bodies;
@@ -182,7 +182,7 @@ body-kept j o (name ∷ ws) e =
     (record {
       name = ap (λ (h : Word × List Word). is_free h.0) (sym m.same) ∙ free-named name tt m.name_said;
       new = or-left twice (not (are_apart a.0.1)) p.0;
-      room = below (length (body_names j)) 64 (or-left many (nat_lt 32 (length a.0.1)) p.1);
+      capacity = below (length (body_names j)) 64 (or-left many (nat_lt 32 (length a.0.1)) p.1);
       locals = apart-names a.0.1 free apart;
       few = at-most (length a.0.1) 32 (or-right many (nat_lt 32 (length a.0.1)) p.1);
       mentions = refl;
@@ -206,7 +206,7 @@ start-kept : (bodies : List Word) (j j' : JobTree) (ws : Words) → KeptJob j �
 start-kept bodies j j' ws g e =
     let a = bind-ok (start_of bodies ws) (with_start j) j' e in
     let p = one-passed (nat_le 4096 (length j.starts)) TooMany (Ok (record j { starts = j.starts ++ a.0 ∷ [] })) j' a.2 in
-    let room : length j.starts < 4096 = below (length j.starts) 4096 p.0 in
+    let capacity : length j.starts < 4096 = below (length j.starts) 4096 p.0 in
     let same : (record j { starts = j.starts ++ a.0 ∷ [] }) ≡ j' = cc in
     subst KeptJob same
     (record {

@@ -7,11 +7,11 @@ pub mod CodeLemmas
 pub mod TextLemmas
 pub mod ItemLemmas
 pub mod StepCode
-pub mod ToldInside
-pub mod ToldOuter
-pub mod ToldText
-pub mod ToldNames
-pub mod ToldWhole
+pub mod SpelledInside
+pub mod SpelledOuter
+pub mod SpelledText
+pub mod SpelledNames
+pub mod SpelledWhole
 pub mod NotedNames
 pub mod ReadWords
 pub mod MentionsSaid

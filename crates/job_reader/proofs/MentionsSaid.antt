@@ -178,8 +178,8 @@ line-order s ns fits k ws l all names e =
     let more = noted-grows ns (mentions_behind k ws) in
     let whole : s.locals ≡ ns ++ more.0 = all ∙ more.1 in
     let front : take (length ns) s.locals ≡ ns = ap (take (length ns)) whole ∙ take-front ns more.0 in
-    let room : length ns ≤ length s.locals = omega (arith, ap (λ (t : List Word). length t) whole, length-append ns more.0) in
-    firsts-noted s.locals (mentions.in_line l) names x.1 (length ns) room
+    let capacity : length ns ≤ length s.locals = omega (arith, ap (λ (t : List Word). length t) whole, length-append ns more.0) in
+    firsts-noted s.locals (mentions.in_line l) names x.1 (length ns) capacity
     (ap (λ (t : List Word). noted t (map (name_at s.locals) (mentions.in_line l))) front ∙ ap (noted ns) x.0 ∙ sym all)
 
 mentioned-cases : (a b : Bool) (x y x' y' : Option ℕ) (m : ℕ) (r : Option ℕ) → (x ≡ Some m → x' ≡ r) → (y ≡ Some m → y' ≡ r)

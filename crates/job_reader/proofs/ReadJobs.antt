@@ -15,7 +15,7 @@ use Rattle.job_words.proofs.SaidLemmas.{and-true}
 use Rattle.job_words.specs.Trees.{BodyTree, JobTree, body_tree, job_tree, array_names, body_names}
 use Rattle.job_words.specs.Legal.{flat_body, flat_job, IsJobTree}
 use Rattle.job_reader.specs.Grammar.{job_of}
-use Rattle.job_reader.proofs.ToldWhole.{text-told}
+use Rattle.job_reader.proofs.SpelledWhole.{text-spelled-out}
 use Rattle.job_reader.specs.Kept.{AreKept, KeptJob, SaysJobs}
 use Rattle.job_reader.specs.Reading.{refused, unless_bad, declared, read_lines, read_from, job_in}
 use Rattle.job_reader.specs.Above.{nothing}
@@ -49,7 +49,7 @@ record Whole (bodies : List Word) (j : JobTree) : Type 0 where
 
 pub read-jobs : (text : List ℕ) (j : JobTree) → job_in text ≡ Ok j → IsJobTree j
 read-jobs text j e =
-    let t = text-told text j e in
+    let t = text-spelled-out text j e in
     let k : KeptJob j = text-kept text j e in
     let w : Whole (body_names j) j =
     subst (Whole (body_names j)) t.said

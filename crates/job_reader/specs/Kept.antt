@@ -64,7 +64,7 @@ pub record KeptFirst (locals : List Word) (code : List Line) : Type 0 where
 pub record KeptOpen (j : JobTree) (o : Inside) : Type 0 where
   pub name : is_free o.name ≡ true
   pub new : is_among (body_names j) o.name ≡ false
-  pub room : length (body_names j) < 64
+  pub capacity : length (body_names j) < 64
   pub locals : are_names o.locals ≡ true
   pub few : length o.locals ≤ 32
   pub mentions : are_below (length o.locals) (mentions (open_code o.frames o.block)) ≡ true

@@ -187,7 +187,7 @@ fn split_header(text: &[u8]) -> Result<(u32, usize, &[u8]), Refusal>
 /// assert!(rt; job.bodies().len() == 1);
 /// assert!(rt; read_job(rt.alloc(), b"bsp 3\n").is_err());
 /// ```
-#[tactic(auto, using(crate::proofs::ToldWhole::text_steps), unfolding(crate::specs::Reading::job_in))]
+#[tactic(auto, using(crate::proofs::SpelledWhole::text_steps), unfolding(crate::specs::Reading::job_in))]
 pub fn read_job(alloc: Global, text: &[u8]) -> Result<Job, ReadJobFault>
     ensures read { Gives job_tree result (spec.job_in text.now) }
     ensures grammar { IfOk result (λ job. IsTextOf (job_tree job) (kept (lines_of text.now))) }

@@ -12,7 +12,7 @@ use Rattle.tier_core.specs.declared.call.Call.TheVariants as call
 use Rattle.tier_core.specs.Run.{after, answer_to}
 use Rattle.tier_core.proofs.Turns.{not_both}
 use Rattle.step_core.specs.Superstep.{superstep}
-use Rattle.programs.specs.Supersteps.{status, unless_ended, told, report_in}
+use Rattle.programs.specs.Supersteps.{status, unless_ended, report_with, report_in}
 use Rattle.job_participants.specs.declared.stage.Mode.{Mode}
 use Rattle.job_participants.specs.declared.stage.Mode.TheVariants as mode
 use Rattle.job_participants.specs.declared.stage.Move.{Move}
@@ -121,7 +121,7 @@ from_mode w worker token h = by (nat_lt worker 64) h
 pub one_superstep : (w : World) → report_in w.limit (next_job w) ≡ None → (next_job w ≡ superstep w.program w.job) × (is_some (status w.limit w.job) ≡ false)
 one_superstep w h = by (status w.limit w.job) refl h
   where
-    ended : (o : Option Status) (s : Status) → o ≡ Some s → told w.job o ≡ None → (w.job ≡ superstep w.program w.job) × (true ≡ false)
+    ended : (o : Option Status) (s : Status) → o ≡ Some s → report_with w.job o ≡ None → (w.job ≡ superstep w.program w.job) × (true ≡ false)
     ended None s e k = cc
     ended (Some t) s e k = cc
 
@@ -212,7 +212,7 @@ pub record ClosesBy (w : World) (x : JobStep) (made : AnswerValue × World) : Ty
   pub token : ℕ
   pub by : x ≡ Close (worker_of x)
   pub move : move_of w (worker_of x) ≡ Some (Closes token)
-  pub told : made ≡ done_by w (worker_of x) (Closes token)
+  pub reported : made ≡ done_by w (worker_of x) (Closes token)
 
 pub closes_by : (w : World) (x : JobStep) → closes_round (answer_of w x) ≡ true → ClosesBy w x (step_of w x)
 closes_by w x h = whole (move_of w (worker_of x)) refl h
@@ -226,7 +226,7 @@ closes_by w x h = whole (move_of w (worker_of x)) refl h
           token = t.0;
           by = is_close x t.0 (ap (λ (n : Move). kind_of x == kind_for n) (sym t.1) ∙ k);
           move = e ∙ ap (λ (n : Move). Some n) t.1;
-          told = ap (done_by w (worker_of x)) t.1;
+          reported = ap (done_by w (worker_of x)) t.1;
         }
     if_so m false e k c = cc
 
@@ -245,7 +245,7 @@ is_finishing w x report h =
       by = c.by;
       from = ⊎_elim (λ q. inl q) (λ q. inr ((c.token, q.0), q.1)) (from_mode w (worker_of x) c.token c.move);
       step =
-          ap (λ (r : AnswerValue × World). r.1.job) c.told
+          ap (λ (r : AnswerValue × World). r.1.job) c.reported
           ∙ closed_job w (worker_of x) c.token (report_in w.limit (next_job w));
     }
 

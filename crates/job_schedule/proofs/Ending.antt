@@ -20,7 +20,7 @@ use Rattle.task_lang.specs.Meaning.{Task}
 use Rattle.step_core.specs.Program.{Program}
 use Rattle.step_core.specs.Superstep.{State, superstep, live_paths}
 use Rattle.step_core.specs.JobMeaning.{initial}
-use Rattle.programs.specs.Supersteps.{status, status_of, unless_ended, told, report_in}
+use Rattle.programs.specs.Supersteps.{status, status_of, unless_ended, report_with, report_in}
 use Rattle.step_core.specs.OrderValue.{has_synced, spawned_paths}
 use Rattle.job_participants.specs.declared.stage.Mode.{Mode}
 use Rattle.job_participants.specs.declared.stage.Mode.TheVariants as mode
@@ -56,9 +56,9 @@ begins w closer token can =
     ap (λ (b : Bool). b && (is_idle (call_at w.tree.calls token) && true)) (lt-ltb token (length w.tree.views) can.known)
     ∙ ap (λ (p : Progress). is_idle p && true) can.idle
 
-force_told : (w : World) (closer token : ℕ) → CanEnd w closer token
+force_reported : (w : World) (closer token : ℕ) → CanEnd w closer token
     → answer_to (after w.tree (Begin token call.Force)) (Go token) ≡ answer.Played (end_of w.tree)
-force_told w closer token can =
+force_reported w closer token can =
     let now : call_at (begun w.tree token call.Force).calls token ≡ Begun call.Force =
     get_or-set_same w.tree.calls token (Begun call.Force) Idle can.listed in
     let goes : may_go (begun w.tree token call.Force) token ≡ true =
@@ -74,7 +74,7 @@ forced w token = record w { tree = after (after w.tree (Begin token call.Force))
 pub force_done : (w : World) (worker closer token : ℕ) → CanEnd w closer token
     → done_by w worker (Ends token) ≡ (Stepped (end_of w.tree), forced w token)
 force_done w worker closer token can =
-    ap (ended_by w (after (after w.tree (Begin token call.Force)) (Go token))) (force_told w closer token can)
+    ap (ended_by w (after (after w.tree (Begin token call.Force)) (Go token))) (force_reported w closer token can)
 
 -- After the end.
 
@@ -89,7 +89,7 @@ behind_over : (w : World) (closer : ℕ) (end : Played) (ys : List JobStep) → 
 behind_over w closer end [] e = refl
 behind_over w closer end (y ∷ ys) e =
     ap (λ (r : AnswerValue × World). r.0 ∷ answers r.1 ys) (over_step w y e)
-    ∙ ap (λ (told : List AnswerValue). NotNow ∷ told) (behind_over w closer end ys e)
+    ∙ ap (λ (reported : List AnswerValue). NotNow ∷ reported) (behind_over w closer end ys e)
 
 -- one step, if the worker that has closed may end the tree
 abbrev when_due : World → ℕ → Bool → AnswerValue × World
@@ -135,8 +135,8 @@ behind_due w closer token (y ∷ ys) e can =
   where
     by : (b : Bool) → answers w ys ≡ behind_the_end closer (end_of w.tree) true ys → (when_due w token b).0 ∷ answers (when_due w token b).1 ys
         ≡ (if b then Stepped (end_of w.tree) ∷ behind_the_end closer (end_of w.tree) false ys else NotNow ∷ behind_the_end closer (end_of w.tree) true ys)
-    by true rest = ap (λ (told : List AnswerValue). Stepped (end_of w.tree) ∷ told) (behind_over (forced w token) closer (end_of w.tree) ys refl)
-    by false rest = ap (λ (told : List AnswerValue). NotNow ∷ told) rest
+    by true rest = ap (λ (reported : List AnswerValue). Stepped (end_of w.tree) ∷ reported) (behind_over (forced w token) closer (end_of w.tree) ys refl)
+    by false rest = ap (λ (reported : List AnswerValue). NotNow ∷ reported) rest
 
 -- A round that is closed.
 
@@ -149,18 +149,18 @@ unfaulted limit step (t ∷ ts) s e = by _ e
     by false k = cc
 
 -- what a job that is over leaves says its status
-over_told : (w : World) (report : ReportValue) → w.job.fault ≡ None → is_some (status w.limit w.job) ≡ true
+over_reported : (w : World) (report : ReportValue) → w.job.fault ≡ None → is_some (status w.limit w.job) ≡ true
     → report_in w.limit (next_job w) ≡ Some report → has_faulted report.status ≡ false
-over_told w report none over h = by (status w.limit w.job) refl over h
+over_reported w report none over h = by (status w.limit w.job) refl over h
   where
-    same : (s : Status) → told w.job (Some s) ≡ Some report → s ≡ report.status
+    same : (s : Status) → report_with w.job (Some s) ≡ Some report → s ≡ report.status
     same s k = cc
 
     by : (o : Option Status) → status w.limit w.job ≡ o → is_some o ≡ true
         → report_in w.limit (unless_ended o w.job (superstep w.program w.job)) ≡ Some report → has_faulted report.status ≡ false
     by None e k r = cc
     by (Some s) e k r =
-        ap has_faulted (sym (same s (ap (told w.job) (sym e) ∙ r)))
+        ap has_faulted (sym (same s (ap (report_with w.job) (sym e) ∙ r)))
         ∙ unfaulted w.limit w.job.step w.job.live s (ap (λ (f : Option (ℕ × List ℕ)). status_of w.limit w.job.step f w.job.live) (sym none) ∙ e)
 
 abbrev IsReadyBy : World → ℕ → ℕ → Type 0
@@ -194,8 +194,8 @@ ready_by w worker token mode.Over e ready h = by (nat_lt worker 64) (ap (λ (m :
 
 fault_can_end : (w : World) (worker token : ℕ) (report : ReportValue) → IsReadyBy w worker token → report_in w.limit (next_job w) ≡ Some report
     → has_faulted report.status ≡ true → CanEnd w worker token
-fault_can_end w worker token report ready told faulted =
-    ⊎_elim (λ q. not_both (has_faulted report.status) faulted (over_told w report q.0 q.1 told)) (λ q. q) ready
+fault_can_end w worker token report ready reported faulted =
+    ⊎_elim (λ q. not_both (has_faulted report.status) faulted (over_reported w report q.0 q.1 reported)) (λ q. q) ready
 
 same_tree : (w v : World) (closer token : ℕ) → v.tree ≡ w.tree → CanEnd w closer token → CanEnd v closer token
 same_tree w v closer token e can = record {
@@ -306,7 +306,7 @@ advanced_ready w worker place within runs none = by (may_finish w.tree token) re
 no_fault : (limit : ℕ) (st : State) → report_in limit st ≡ None → st.fault ≡ None
 no_fault limit st e = by st.fault (status limit st) refl e
   where
-    by : (f : Option (ℕ × List ℕ)) (o : Option Status) → status_of limit st.step f st.live ≡ o → told st o ≡ None → f ≡ None
+    by : (f : Option (ℕ × List ℕ)) (o : Option Status) → status_of limit st.step f st.live ≡ o → report_with st o ≡ None → f ≡ None
     by None o k r = refl
     by (Some g) None k r = cc
     by (Some g) (Some s) k r = cc
@@ -416,8 +416,8 @@ is_behind : (w : World) (x : JobStep) (report : ReportValue) (ys : List JobStep)
 is_behind w x report ys ready h =
     let c = closes_by w x (ap closes_round h) in
     let by_token = ready_by w (worker_of x) c.token w.mode refl ready c.move in
-    ap (λ (r : AnswerValue × World). answers r.1 ys) c.told
-    ∙ by c.token by_token (report_in w.limit (next_job w)) refl (ap (λ (r : AnswerValue × World). r.0) (sym c.told) ∙ h)
+    ap (λ (r : AnswerValue × World). answers r.1 ys) c.reported
+    ∙ by c.token by_token (report_in w.limit (next_job w)) refl (ap (λ (r : AnswerValue × World). r.0) (sym c.reported) ∙ h)
   where
     by : (token : ℕ) → IsReadyBy w (worker_of x) token → (o : Option ReportValue) → report_in w.limit (next_job w) ≡ o
         → (closed_as w (worker_of x) token (next_job w) o).0 ≡ Finished report

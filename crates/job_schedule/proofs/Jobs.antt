@@ -14,7 +14,7 @@ use Rattle.step_core.specs.Program.{Program}
 use Rattle.step_core.specs.OrderValue.{has_synced, spawned_paths}
 use Rattle.step_core.specs.Superstep.{State, superstep, live_paths, job_says}
 use Rattle.step_core.specs.JobMeaning.{initial, so_far, report_of, starts}
-use Rattle.programs.specs.Supersteps.{status, unless_ended, told, report_in}
+use Rattle.programs.specs.Supersteps.{status, unless_ended, report_with, report_in}
 use Rattle.programs.proofs.Runs.{ended_is_last}
 use Rattle.job_participants.specs.declared.stage.Move.{Move}
 use Rattle.job_participants.specs.declared.stage.Move.TheVariants.{Takes, Delivers, Calls, Advances, Closes, Ends}
@@ -178,7 +178,7 @@ reports : (p : Program) (limit n : ℕ) (report : ReportValue) → report_in lim
 reports p limit n report h = by (status limit (so_far p limit n)) refl
   where
     by : (o : Option Status) → status limit (so_far p limit n) ≡ o → report_of p limit ≡ Some report
-    by None e = let bad : told (so_far p limit n) None ≡ Some report = ap (told (so_far p limit n)) (sym e) ∙ h in cc
+    by None e = let bad : report_with (so_far p limit n) None ≡ Some report = ap (report_with (so_far p limit n)) (sym e) ∙ h in cc
     by (Some s) e = ap (report_in limit) (sym (ended_is_last (job_says p.plans) p.arrays (starts p) limit n s e)) ∙ h
 
 finishes : (p : Program) (limit : ℕ) (w : World) (x : JobStep) (report : ReportValue) → IsOf p limit w → answer_of w x ≡ Finished report
@@ -199,9 +199,9 @@ listed p limit w (x ∷ xs) zero report is h e = finishes p limit w x report is 
 listed p limit w (x ∷ xs) (suc k) report is h e =
     listed p limit (world_after w x) xs k report (step_is_of p limit w (world_after w x) is (step_goes w x)) (omega arith) e
 
-pub answers_report : (p : Program) (parents : List ℕ) (limit : ℕ) (xs : List JobStep) (told : List AnswerValue) (report : ReportValue)
-    → told ≡ answers (initial_world p parents limit) xs → Contains told (Finished report) → report_of p limit ≡ Some report
-answers_report p parents limit xs told report e h =
+pub answers_report : (p : Program) (parents : List ℕ) (limit : ℕ) (xs : List JobStep) (reported : List AnswerValue) (report : ReportValue)
+    → reported ≡ answers (initial_world p parents limit) xs → Contains reported (Finished report) → report_of p limit ≡ Some report
+answers_report p parents limit xs reported report e h =
     let here : Contains (answers (initial_world p parents limit) xs) (Finished report) = subst (λ (xs : List AnswerValue). Contains xs (Finished report)) e h in
     listed p limit (initial_world p parents limit) xs here.0 report (initial_is_of p parents limit) here.1 here.2
 

@@ -22,7 +22,7 @@ use Rattle.tier_core.specs.Machine.{State as Tree}
 use Rattle.step_core.specs.Program.{program_of}
 use Rattle.step_core.specs.Superstep.{State, live_paths}
 use Rattle.step_core.specs.JobMeaning.{initial}
-use Rattle.programs.specs.Supersteps.{status, status_of, told, report_in}
+use Rattle.programs.specs.Supersteps.{status, status_of, report_with, report_in}
 use Rattle.step_core.specs.SlotValue.{SlotValue}
 use Rattle.step_core.specs.Slots.{slots_of, with_segment, first_missing, or_missing}
 use Rattle.step_core.specs.RoundValue.{RoundValue, AllFresh, IsRound, Opens, state_of, slots_in, status_in}
@@ -331,11 +331,11 @@ fresh_undone [] q a = refl
 fresh_undone (s ∷ ss) zero a = ap is_some a.0
 fresh_undone (s ∷ ss) (suc q) a = fresh_undone ss q a.1
 
-no_report : (st : State) (o : Option Status) → told st o ≡ None → o ≡ None
+no_report : (st : State) (o : Option Status) → report_with st o ≡ None → o ≡ None
 no_report st None h = refl
 no_report st (Some s) h = cc
 
-a_report : (st : State) (o : Option Status) (report : ReportValue) → told st o ≡ Some report → o ≡ None → ⊥
+a_report : (st : State) (o : Option Status) (report : ReportValue) → report_with st o ≡ Some report → o ≡ None → ⊥
 a_report st None report h e = cc
 a_report st (Some s) report h e = cc
 

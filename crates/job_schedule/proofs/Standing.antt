@@ -17,7 +17,7 @@ use Rattle.task_lang.specs.Meaning.{Segment}
 use Rattle.step_core.specs.Program.{Program}
 use Rattle.step_core.specs.Superstep.{State, segments, superstep, live_paths}
 use Rattle.step_core.specs.JobMeaning.{initial}
-use Rattle.programs.specs.Supersteps.{status, told, report_in}
+use Rattle.programs.specs.Supersteps.{status, report_with, report_in}
 use Rattle.step_core.specs.OrderValue.{has_synced, spawned_paths}
 use Rattle.step_core.proofs.Apart.{live-paths-rise}
 use Rattle.step_core.proofs.LawProofs.{next-live-synced-or-spawned}
@@ -282,7 +282,7 @@ handed_stands w place h =
     }))
 
 -- The round is closed, and the job goes on.
-no_status : (o : Option Status) (st : State) → told st o ≡ None → is_some o ≡ false
+no_status : (o : Option Status) (st : State) → report_with st o ≡ None → is_some o ≡ false
 no_status None st h = refl
 no_status (Some s) st h = cc
 
@@ -319,7 +319,7 @@ closed_stands p limit w worker token None is on m h = λ run.
     }
 closed_stands p limit w worker token (Some r) is on m h = λ run. by (status w.limit (next_job w)) run on
   where
-    by : (s : Option Status) → is_some s ≡ false → told (next_job w) s ≡ Some r → Stands (closed_as w worker token (next_job w) (Some r)).1
+    by : (s : Option Status) → is_some s ≡ false → report_with (next_job w) s ≡ Some r → Stands (closed_as w worker token (next_job w) (Some r)).1
     by None e k = cc
     by (Some s) e k = cc
 

@@ -48,7 +48,7 @@ module _ (p : Program) (limit : ℕ) (history : List (List (Entry job.Task))) (l
         history = history;
         entered = λ k lt. subst (λ (x : State). IsEntered job_frame (JobMay p.plans) x (get_or history k [])) (sym (shorter k (omega (arith, lt)))) (entered k lt);
         ended = e;
-        report = ap (gm.told st) e;
+        report = ap (gm.report_with st) e;
         at_end = refl;
       } in
       sym (shorter m lm)

@@ -10,7 +10,7 @@ use Rattle.task_code.specs.JobValue.{JobValue}
 use Rattle.task_lang.specs.Views.{plans, task_of}
 use Rattle.programs.specs.Supersteps.{status}
 use Rattle.programs.specs.Steps.{ended, left_by}
-use Rattle.programs.proofs.Stepped.{prints_taken, records_taken, so_far_ended, so_far_told}
+use Rattle.programs.proofs.Stepped.{prints_taken, records_taken, so_far_ended, so_far_reported}
 use Rattle.programs.proofs.Runs.{ends_in_time}
 use Rattle.job_program.specs.Program.{Program, program_of}
 use Rattle.job_program.specs.Superstep.{State, job_says}
@@ -81,7 +81,7 @@ module _ (j : JobValue) (limit n : ℕ) (r : JobRunValue) (w : IsWritten j limit
     whole = record { prints = w.prints ++ r.run.prints; records = w.records ++ r.run.records; arrays = r.run.arrays; status = end };
     report =
         sym (λ i. report_of (program_of (w.job i)) (w.limit_is i))
-        ∙ so_far_told (job_says (plans r.job.bodies)) r.job.arrays (starts (program_of r.job)) (task_of (plans r.job.bodies)) end w.after e;
+        ∙ so_far_reported (job_says (plans r.job.bodies)) r.job.arrays (starts (program_of r.job)) (task_of (plans r.job.bodies)) end w.after e;
     prints = ap (λ (xs : List PrintValue). xs ++ r.run.prints) prints_are;
     records = ap (λ (xs : List PhaseRecord). xs ++ r.run.records) records_are;
     arrays = refl;
@@ -91,7 +91,7 @@ module _ (j : JobValue) (limit n : ℕ) (r : JobRunValue) (w : IsWritten j limit
   -- the same of the report that the run leaves
   pub rest_of_report : is_some (status limit (so_far (program_of j) limit n)) ≡ true → (report : ReportValue) → IfSome (ended r.run) (λ end. report ≡ left_by r.run end)
       → IsRest (program_of j) limit n report
-  rest_of_report some report told = by (ended r.run) refl
+  rest_of_report some report reported = by (ended r.run) refl
     where
       none : false ≡ true → ⊥
       none e = cc
@@ -99,7 +99,7 @@ module _ (j : JobValue) (limit n : ℕ) (r : JobRunValue) (w : IsWritten j limit
       by : (o : Option Status) → ended r.run ≡ o → IsRest (program_of j) limit n report
       by None e = absurd (none (ap is_some (sym (status_is ∙ e)) ∙ some))
       by (Some end) e =
-          let is : report ≡ left_by r.run end = subst (λ (o : Option Status). IfSome o (λ x. report ≡ left_by r.run x)) e told in
+          let is : report ≡ left_by r.run end = subst (λ (o : Option Status). IfSome o (λ x. report ≡ left_by r.run x)) e reported in
           subst (IsRest (program_of j) limit n) (sym is) (rest_is end e)
 
 -- within the limit's supersteps a job ends

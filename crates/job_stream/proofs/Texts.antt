@@ -15,7 +15,7 @@ use Rattle.job_program.specs.Program.{Program}
 use Rattle.job_program.specs.Superstep.{State, superstep, segments, fault_in, closed, job_says}
 use Rattle.programs.specs.Superstep.{prints_of, print_of, record_of}
 use Rattle.job_program.specs.JobMeaning.{so_far, report_of, starts}
-use Rattle.programs.specs.Supersteps.{status, unless_ended, told}
+use Rattle.programs.specs.Supersteps.{status, unless_ended, report_with}
 use Rattle.programs.proofs.Runs.{ended_stays, ends_in_time}
 use Rattle.job_stream.specs.Streamed.{lines_of, IsRest}
 
@@ -244,7 +244,7 @@ some_rest p limit n = by (status limit (so_far p limit limit)) refl
         let arrays = flat_map array_line last.arrays in
         record {
           report = record { prints = last.prints; records = last.records; arrays = last.arrays; status = s };
-          is = ap (told last) e;
+          is = ap (report_with last) e;
           rest = (middle ++ arrays) ++ status_line s;
           text =
               ap (λ (t : List ℕ). (t ++ arrays) ++ status_line s) lines
@@ -260,7 +260,7 @@ rest_text p limit n rest h = by (status limit (so_far p limit limit)) h.report
     last : State
     last = so_far p limit limit
 
-    by : (o : Option Status) → told last o ≡ Some h.whole → report_text h.whole ≡ lines_of p limit n ++ report_text rest
+    by : (o : Option Status) → report_with last o ≡ Some h.whole → report_text h.whole ≡ lines_of p limit n ++ report_text rest
     by None e = absurd cc
     by (Some s) e =
         let made : ReportValue = record { prints = last.prints; records = last.records; arrays = last.arrays; status = s } in

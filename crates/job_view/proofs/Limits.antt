@@ -5,7 +5,7 @@ use Rattle.phase_records.specs.ReportValue.{ReportValue}
 use Rattle.phase_records.specs.Status.{Status, Limit}
 use Rattle.programs.specs.Meaning.{Segment, Says}
 use Rattle.programs.specs.Superstep.{State, superstep, closed, segments, fault_in}
-use Rattle.programs.specs.Supersteps.{so_far, status, status_of, unless_ended, told}
+use Rattle.programs.specs.Supersteps.{so_far, status, status_of, unless_ended, report_with}
 use Rattle.job_program.specs.JobMeaning as job
 use Rattle.job_program.specs.Superstep.{job_says}
 use Rattle.job_view.specs.Look.{named}
@@ -59,12 +59,12 @@ abbrev arrays_of : List (List ℕ × List ℤ) → Option ReportValue → List (
 arrays_of other None = other
 arrays_of other (Some r) = r.arrays
 
-told_arrays : {T : Type 0} (st : State T) (o : Option Status) (r : ReportValue) → told st o ≡ Some r → st.arrays ≡ r.arrays
-told_arrays st None r e = absurd cc
-told_arrays st (Some s) r e = ap (arrays_of st.arrays) e
+reported_arrays : {T : Type 0} (st : State T) (o : Option Status) (r : ReportValue) → report_with st o ≡ Some r → st.arrays ≡ r.arrays
+reported_arrays st None r e = absurd cc
+reported_arrays st (Some s) r e = ap (arrays_of st.arrays) e
 
 pub rows_are_of_runs : RowsAreOfRuns
 rows_are_of_runs p limit step name r le e =
     let same = same_within (job_says p.plans) p.arrays (job.starts p) limit step step le (omega arith) in
     ap (λ (all : List (List ℕ × List ℤ)). cells_or_none (named name all))
-    (ap (λ st. st.arrays) (sym same.state) ∙ told_arrays (job.so_far p step step) (status step (job.so_far p step step)) r e)
+    (ap (λ st. st.arrays) (sym same.state) ∙ reported_arrays (job.so_far p step step) (status step (job.so_far p step step)) r e)

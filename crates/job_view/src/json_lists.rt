@@ -63,25 +63,25 @@ pub(crate) fn write_cells(out: &mut Writer, cells: &[i64]) -> Result<(), AllocEr
 }
 
 // Writes how many tasks left in a superstep, and how many were spawned.
-fn write_changes(out: &mut Writer, told: PhaseRecord) -> Result<(), AllocError>
+fn write_changes(out: &mut Writer, counts: PhaseRecord) -> Result<(), AllocError>
     ensures tokens { OnOk result (out.new.tokens
-        ≡ out.old.tokens ++ key (codes "left") ∷ number (decimal told.left) ∷ key (codes "spawned") ∷ number (decimal told.spawned) ∷ []) }
+        ≡ out.old.tokens ++ key (codes "left") ∷ number (decimal counts.left) ∷ key (codes "spawned") ∷ number (decimal counts.spawned) ∷ []) }
     ensures before { out.new.before ≡ out.old.before }
 {
-    write_field(out, "left", told.left)?;
-    write_field(out, "spawned", told.spawned)?;
+    write_field(out, "left", counts.left)?;
+    write_field(out, "spawned", counts.spawned)?;
     Ok(())
 }
 
 // Writes a superstep.
-fn write_superstep(out: &mut Writer, told: PhaseRecord) -> Result<(), AllocError>
-    ensures tokens { OnOk result (out.new.tokens ≡ out.old.tokens ++ json_tokens (superstep_json told)) }
+fn write_superstep(out: &mut Writer, counts: PhaseRecord) -> Result<(), AllocError>
+    ensures tokens { OnOk result (out.new.tokens ≡ out.old.tokens ++ json_tokens (superstep_json counts)) }
     ensures before { out.new.before ≡ out.old.before }
 {
     out.begin_object()?;
-    write_field(out, "phase", told.phase)?;
-    write_field(out, "parties", told.parties)?;
-    write_changes(out, told)?;
+    write_field(out, "phase", counts.phase)?;
+    write_field(out, "parties", counts.parties)?;
+    write_changes(out, counts)?;
     out.end_object()?;
     Ok(())
 }
@@ -92,8 +92,8 @@ fn write_records(out: &mut Writer, records: &[PhaseRecord]) -> Result<(), AllocE
     ensures before { out.new.before ≡ out.old.before }
 {
     let mut rest = records;
-    while let Some((told, after)) = rest.split_first() {
-        write_superstep(out, *told)?;
+    while let Some((counts, after)) = rest.split_first() {
+        write_superstep(out, *counts)?;
         rest = after;
     }
     out.end_array()

@@ -12,6 +12,6 @@ pub use Rattle.step_core.specs.JobMeaning
 pub use Rattle.step_core.specs.Program
 pub use Rattle.step_core.specs.RoundView
 pub use Rattle.tier_shape.specs.Faults
-pub use Rattle.tier_shape.specs.Told
+pub use Rattle.tier_shape.specs.InText
 pub use Rattle.worker_pool.specs.JobPlan
 pub use Rattle.worker_pool.specs.Refusals

@@ -93,13 +93,13 @@ fn push_prints<'a, S: Sink>(out: &mut S, prints: &'a [Print], step: u32) -> &'a 
 }
 
 // Appends the line of a record.
-fn push_record<S: Sink>(out: &mut S, told: PhaseRecord)
-    ensures { Took (S.seen out.old) (S.seen out.new) (record_line told) }
+fn push_record<S: Sink>(out: &mut S, counts: PhaseRecord)
+    ensures { Took (S.seen out.old) (S.seen out.new) (record_line counts) }
 {
-    push_field(out, b"phase ", told.phase);
-    push_field(out, b" parties ", told.parties);
-    push_field(out, b" left ", told.left);
-    push_field(out, b" spawned ", told.spawned);
+    push_field(out, b"phase ", counts.phase);
+    push_field(out, b" parties ", counts.parties);
+    push_field(out, b" left ", counts.left);
+    push_field(out, b" spawned ", counts.spawned);
     out.put(b"\n")
 }
 
@@ -108,12 +108,12 @@ fn push_steps<S: Sink>(out: &mut S, mut prints: &[Print], records: &[PhaseRecord
     ensures { Took (S.seen out.old) (S.seen out.new) (steps_text prints.now records.now) }
 {
     let mut rest = records;
-    while let Some((told, after)) = rest.split_first() {
+    while let Some((counts, after)) = rest.split_first() {
         if out.has_failed() {
             return;
         }
-        prints = push_prints(out, prints, told.phase);
-        push_record(out, *told);
+        prints = push_prints(out, prints, counts.phase);
+        push_record(out, *counts);
         rest = after;
     }
 }

@@ -72,8 +72,8 @@ room_answer : (f : Flat) (w : Fields) (count : ℕ) → w.unarrived ≤ w.partie
 room_answer f w count h a e few =
     let open' : f.ended ≡ false = a.ended ∙ e in
     let many : registered f ≡ w.parties = registered_is f w h a in
-    let room : nat_lt 65535 (registered f + count) ≡ false = grind (arith, common_steps) in
-    rw (open', room) refl
+    let capacity : nat_lt 65535 (registered f + count) ≡ false = grind (arith, common_steps) in
+    rw (open', capacity) refl
 
 someone_answer : (f : Flat) (w : Fields) → w.unarrived ≤ w.parties → IsAlike f (flat_of w) → w.ended ≡ false → 0 < w.unarrived → someone_in f ≡ Number (pos f.phase)
 someone_answer f w h a e some =
@@ -95,8 +95,8 @@ number_is f w v a e shown = ap Number (shown ∙ ap (shown_of w.phase) e ∙ ap 
 pub joined_follows : (plan : CountPlan) (w v : Fields) (count : ℕ) (z : ℤ) → w.unarrived ≤ w.parties → w.ended ≡ false → w.parties + count ≤ 65535 → z ≡ shown_of w.phase w.ended
     → v.phase ≡ w.phase → v.parties ≡ w.parties + count → v.unarrived ≡ w.unarrived + count → v.ended ≡ false
     → Follows plan (Bulk (pos count)) w v (Number z)
-joined_follows plan w v count z h e room shown phase parties unarrived ended f a =
-    let reply = room_answer f w count h a e room in
+joined_follows plan w v count z h e capacity shown phase parties unarrived ended f a =
+    let reply = room_answer f w count h a e capacity in
     let open' : f.ended ≡ false = a.ended ∙ e in
     let g : Flat = taken (flat.Join 0 count) f in
     let same : called (Bulk (pos count)) f ≡ g = called_by (Bulk (pos count)) f (pos f.phase) reply ∙ open_step (flat.Join 0 count) f open' in

@@ -203,9 +203,9 @@ advances_here plan call f q e = ⊎_elim
     (either f.ended)
 
 -- the advance, as the words before and after a call show it
-pub advance_told : (plan : CountPlan) (call : Call) (f : Flat) (w v : Fields) → v.unarrived ≤ v.parties → IsAlike f (flat_of w) → IsAlike (after plan call f) (flat_of v)
+pub advance_reported : (plan : CountPlan) (call : Call) (f : Flat) (w v : Fields) → v.unarrived ≤ v.parties → IsAlike f (flat_of w) → IsAlike (after plan call f) (flat_of v)
     → cond {A = Option Advance} (nat_eq w.phase v.phase) None (Some (record { phase = w.phase; parties = v.parties })) ≡ advance_of call f
-advance_told plan call f w v h a b = ⊎_elim
+advance_reported plan call f w v h a b = ⊎_elim
     (λ (e : (called call f).due ≡ true).
     let moved = advances_here plan call f a.due e in
     let next : v.phase ≡ next_phase_of w.phase = sym b.phase ∙ moved.next ∙ ap next_phase_of a.phase in

@@ -13,10 +13,10 @@ pub record RunsOn (plan : CountPlan) (calls rest : List Call) (replies : List Re
   pub current : Flat
   pub seen : IsAlike current (flat_of w)
   pub left : after_all plan calls f ≡ after_all plan rest current
-  pub told : answers plan calls f ≡ replies ++ answers plan rest current
+  pub reported : answers plan calls f ≡ replies ++ answers plan rest current
 
 pub runs_begin : (plan : CountPlan) (calls : List Call) (f : Flat) (w : Fields) → IsAlike f (flat_of w) → RunsOn plan calls calls [] f w
-runs_begin plan calls f w a = record { current = f; seen = a; left = refl; told = refl }
+runs_begin plan calls f w a = record { current = f; seen = a; left = refl; reported = refl }
 
 pub runs_more : (plan : CountPlan) (calls rest more : List Call) (call : Call) (replies : List Reply) (reply : Reply) (f : Flat) (w v : Fields)
     → rest ≡ call ∷ more → Follows plan call w v reply → RunsOn plan calls rest replies f w → RunsOn plan calls more (replies ++ reply ∷ []) f v
@@ -26,8 +26,8 @@ runs_more plan calls rest more call replies reply f w v e follows r =
       current = after plan call r.current;
       seen = step.0;
       left = r.left ∙ ap (λ (cs : List Call). after_all plan cs r.current) e;
-      told =
-          r.told ∙ ap (λ (cs : List Call). replies ++ answers plan cs r.current) e
+      reported =
+          r.reported ∙ ap (λ (cs : List Call). replies ++ answers plan cs r.current) e
           ∙ ap (λ (p : Reply). replies ++ p ∷ answers plan more (after plan call r.current)) (sym step.1)
           ∙ sym (append_assoc replies (reply ∷ []) (answers plan more (after plan call r.current)));
     }
@@ -36,5 +36,5 @@ pub runs_whole : (plan : CountPlan) (calls rest : List Call) (replies : List Rep
     → IsAlike (after_all plan calls f) (flat_of w) × (replies ≡ answers plan calls f)
 runs_whole plan calls rest replies f w e r =
     let left : after_all plan calls f ≡ r.current = r.left ∙ ap (λ (cs : List Call). after_all plan cs r.current) e in
-    let told : answers plan calls f ≡ replies = r.told ∙ ap (λ (cs : List Call). replies ++ answers plan cs r.current) e ∙ append-nil replies in
-    (rw left r.seen, sym told)
+    let reported : answers plan calls f ≡ replies = r.reported ∙ ap (λ (cs : List Call). replies ++ answers plan cs r.current) e ∙ append-nil replies in
+    (rw left r.seen, sym reported)

@@ -52,8 +52,8 @@ pub record AwaitTells (f : Flat) : Type 0 where
   pub other : f.ended ≡ false → (phase : ℕ) → phase ≢ f.phase → answer (Await (pos phase)) f ≡ Number (pos f.phase)
   pub current : f.ended ≡ false → answer (Await (pos f.phase)) f ≡ Waiting
 
-abbrev pub AwaitsAreTold : Type 0
-AwaitsAreTold = (f : Flat) → AwaitTells f
+abbrev pub AwaitsAreReported : Type 0
+AwaitsAreReported = (f : Flat) → AwaitTells f
 
 -- Registering below zero is refused, also after the end, and changes nothing; no room is a refusal only before the end.
 pub record BulkTells (plan : CountPlan) (f : Flat) : Type 0 where
@@ -61,10 +61,10 @@ pub record BulkTells (plan : CountPlan) (f : Flat) : Type 0 where
   pub kept : (n : ℕ) → f.due ≡ false → after plan (Bulk (negsuc n)) f ≡ f
   pub ended : f.ended ≡ true → (count : ℕ) → answer (Bulk (pos count)) f ≡ Number (shown_of f.phase true)
   pub full : f.ended ≡ false → (count : ℕ) → 65535 < registered f + count → answer (Bulk (pos count)) f ≡ Refused Full
-  pub room : f.ended ≡ false → (count : ℕ) → registered f + count ≤ 65535 → answer (Bulk (pos count)) f ≡ Number (pos f.phase)
+  pub capacity : f.ended ≡ false → (count : ℕ) → registered f + count ≤ 65535 → answer (Bulk (pos count)) f ≡ Number (pos f.phase)
 
-abbrev pub RegistrationsAreTold : Type 0
-RegistrationsAreTold = (plan : CountPlan) (f : Flat) → BulkTells plan f
+abbrev pub RegistrationsAreReported : Type 0
+RegistrationsAreReported = (plan : CountPlan) (f : Flat) → BulkTells plan f
 
 -- Arriving and leaving answer the phase if somebody hasn't arrived, and are refused if nobody is left; after the end
 -- they answer it.
@@ -73,8 +73,8 @@ pub record ArriveTells (call : Call) (f : Flat) : Type 0 where
   pub nobody : f.ended ≡ false → unarrived f ≡ 0 → answer call f ≡ Refused NobodyUnarrived
   pub somebody : f.ended ≡ false → 0 < unarrived f → answer call f ≡ Number (pos f.phase)
 
-abbrev pub ArrivalsAreTold : Type 0
-ArrivalsAreTold = (f : Flat) → ArriveTells Arrive f × ArriveTells Leave f
+abbrev pub ArrivalsAreReported : Type 0
+ArrivalsAreReported = (f : Flat) → ArriveTells Arrive f × ArriveTells Leave f
 
 -- Two words that represent alike phasers are one.
 abbrev pub AlikeWordsAreOne : Type 0

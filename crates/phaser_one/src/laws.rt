@@ -1,14 +1,14 @@
 //! Laws of a single phaser in its user's terms. Each law is the contract of a function without parameters that does
 //! nothing.
-ghost use Rattle.phaser_one.specs.Plans.{PlansAreTold};
+ghost use Rattle.phaser_one.specs.Plans.{PlansAreSpelledOut};
 ghost use Rattle.phaser_one.specs.Laws.{
   PhaseMovesByOne,
   EndedStays,
   NotAllArrived,
   WordsAreSeen,
-  AwaitsAreTold,
-  RegistrationsAreTold,
-  ArrivalsAreTold,
+  AwaitsAreReported,
+  RegistrationsAreReported,
+  ArrivalsAreReported,
   AlikeWordsAreOne,
   OnlyArrivalsAskThePlan,
   RefusalsLeaveAll,
@@ -36,18 +36,18 @@ pub fn words_are_seen()
 {}
 
 /// What `poll_await` answers for a negative number, after the end, for another phase and for the current one.
-pub fn awaits_are_told()
-    ensures { AwaitsAreTold }
+pub fn awaits_are_reported()
+    ensures { AwaitsAreReported }
 {}
 
 /// When a registration fails, and what it returns otherwise.
-pub fn registrations_are_told()
-    ensures { RegistrationsAreTold }
+pub fn registrations_are_reported()
+    ensures { RegistrationsAreReported }
 {}
 
 /// When an arrival or a departure fails, and what it returns otherwise.
-pub fn arrivals_are_told()
-    ensures { ArrivalsAreTold }
+pub fn arrivals_are_reported()
+    ensures { ArrivalsAreReported }
 {}
 
 /// Two words of alike flat phasers are equal.
@@ -68,6 +68,6 @@ pub fn refusals_leave_all()
 
 /// What a plan says, as an equivalence with its fields: when a phaser ends by the count of its parties or in one phase, and
 /// when a tree ends, empty or in one phase. Cases beside each bound are worked out.
-pub fn plans_are_told()
-    ensures { PlansAreTold }
+pub fn plans_are_spelled_out()
+    ensures { PlansAreSpelledOut }
 {}

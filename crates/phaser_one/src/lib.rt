@@ -18,8 +18,8 @@ mod step;
 
 pub use call::{Advance, Awaited, Call, OneFault, Reply};
 pub use laws::{
-    alike_words_are_one, arrivals_are_told, awaits_are_told, ended_stays, not_all_arrived,
-    only_arrivals_ask_the_plan, phase_moves_by_one, plans_are_told, refusals_leave_all,
-    registrations_are_told, words_are_seen,
+    alike_words_are_one, arrivals_are_reported, awaits_are_reported, ended_stays, not_all_arrived,
+    only_arrivals_ask_the_plan, phase_moves_by_one, plans_are_spelled_out, refusals_leave_all,
+    registrations_are_reported, words_are_seen,
 };
 pub use phaser::PhaserOne;

@@ -261,7 +261,7 @@ impl<F: Fn(u32, u32) -> bool> PhaserOne<F> {
     }
 
     /// Makes a call that is given as data, and returns its answer and the advance that it took, if any.
-    pub fn call_told(&mut self, call: Call) -> (Reply, Option<Advance>)
+    pub fn call_reported(&mut self, call: Call) -> (Reply, Option<Advance>)
         requires rule { Answers (F.pre self.old.rule.closure) (F.post self.old.rule.closure) (count_ends self.old.rule.plan) }
         ensures flat { Follows self.old.rule.plan call self.old.word self.new.word result.0 }
         ensures advance { (f : Flat) → IsAlike f (flat_of self.old.word) → result.1 ≡ advance_of call f }

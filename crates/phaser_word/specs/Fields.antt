@@ -17,6 +17,6 @@ pub record IsLegal (w : Fields) : Type 0 where
   pub unarrived : w.unarrived ≤ most_unarrived w.parties
 
 -- Which words there are, in numbers: of a tier with parties at most these are unarrived; of one without exactly the marks 0, 1 and 2 are.
-pub record WordsAreTold : Type 0 where
+pub record WordsAreSpelledOut : Type 0 where
   pub with_parties : (w : Fields) → w.phase < 2147483648 → 0 < w.parties → w.parties < 65536 → IsLegal w ↔ (w.unarrived ≤ w.parties)
   pub empty : (w : Fields) → w.phase < 2147483648 → w.parties ≡ 0 → IsLegal w ↔ (w.unarrived < 3)

@@ -5,7 +5,7 @@
 #![tactic(auto)]
 
 ghost use Rattle.std.specs.Prelude.{◌≡◌, ◌≤◌, IfSome};
-ghost use Rattle.phaser_word.specs.Fields.{Fields, IsLegal, WordsAreTold};
+ghost use Rattle.phaser_word.specs.Fields.{Fields, IsLegal, WordsAreSpelledOut};
 ghost use Rattle.phaser_word.specs.Packed.{packed};
 ghost use Rattle.phaser_word.specs.Phase.{next_phase_of, shown_of};
 
@@ -102,6 +102,6 @@ pub fn next_phase(phase: u32) -> u32
 
 /// Which words there are, in numbers: of a tier without parties exactly the marks 0, 1 and 2. The function does nothing,
 /// and its contract is a law.
-pub fn words_are_told()
-    ensures { WordsAreTold }
+pub fn words_are_spelled_out()
+    ensures { WordsAreSpelledOut }
 {}

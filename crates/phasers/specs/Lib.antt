@@ -22,7 +22,7 @@ pub use Rattle.tier_calls.specs.Watches
 pub use Rattle.tier_shape.specs.Faults
 pub use Rattle.tier_shape.specs.Leaves
 pub use Rattle.tier_shape.specs.Preferred
-pub use Rattle.tier_shape.specs.Told
+pub use Rattle.tier_shape.specs.InText
 pub use Rattle.tier_table.specs.AtLast
 pub use Rattle.tier_table.specs.Ruled
 pub use Rattle.tier_calls.specs.Groups

@@ -63,7 +63,7 @@ pub record BeginsIn (n : Named) (counts : List ℕ) (guest : Holding) (parties :
   pub sat : IsSat n new
   pub split : OnlySplit new guest
   pub leaves : length counts ≤ length (leaves_of n.key.shape)
-  pub room : HaveRoom counts
+  pub capacity : HaveRoom counts
   pub members : AreAtLeaves n guest.view.phase (leaves_of n.key.shape) counts parties
 
 -- why some members have not joined in the phase of such a guest

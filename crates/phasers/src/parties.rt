@@ -210,7 +210,7 @@ impl<'a, A: OnAdvance> Guest<'a, A> {
         counts: &[u32],
     ) -> Result<Vec<Parties<'a, A>>, Unjoined<'a, A>>
         ensures same { OnlySplit self.old self.new }
-        ensures room { IfOk result (λ all. (length counts.now ≤ length (leaves_of self.old.tree.key.shape)) × HaveRoom counts.now) }
+        ensures capacity { IfOk result (λ all. (length counts.now ≤ length (leaves_of self.old.tree.key.shape)) × HaveRoom counts.now) }
         ensures joined { IfOk result (λ all. AreAtLeaves self.old.tree self.old.view.phase (leaves_of self.old.tree.key.shape) counts.now all.items) }
         ensures refused { IfErr result (λ fault. JoinsNot TRIES self.old.tree self.old.view.phase counts.now fault) }
     {
@@ -291,7 +291,7 @@ fn parties_of<'a, A: OnAdvance>(
     requires own { door.old.tree ≡ shared.now }
     requires groups { All (λ group. group.tree ≡ shared.now) groups.items }
     requires empty { parties.items ≡ [] }
-    requires room { length groups.items ≤ vec_capacity parties }
+    requires capacity { length groups.items ≤ vec_capacity parties }
     ensures door { OnlySplit door.old door.new }
     ensures same { result.items ≡ groups.items }
 {

@@ -17,7 +17,7 @@ ghost use Rattle.tier_table.specs.AtLast as at_last;
 ghost use Rattle.tier_shape.specs.Leaves.{leaves_of};
 ghost use Rattle.tier_shape.specs.Preferred.{leaf_at};
 ghost use Rattle.tier_shape.specs.Faults.{fault_number};
-ghost use Rattle.tier_shape.specs.Told.{shape_told};
+ghost use Rattle.tier_shape.specs.InText.{shape_in_text};
 ghost use Rattle.phasers.specs.Thin.{IsFirst, admitted_of, awaited_of, counted_of, Meets, Brings, Leaves, HasEndedBringing, LeavesWords};
 
 pub use crate::answers::{BringError, Departed, JoinError, MeetError, TreeEnded};
@@ -130,10 +130,10 @@ impl PhaserTree {
     /// the root alone, and `2x3` is a root with two children that have three children each. Fails with the fault of
     /// `Shape::from_widths`.
     pub fn from_widths(alloc: Global, widths: &str, plan: EndPlan) -> Result<PhaserTree, ShapeFault>
-        ensures shape { IfOk result (λ t. shape_told widths.now ≡ Ok t.tree.key.shape) }
+        ensures shape { IfOk result (λ t. shape_in_text widths.now ≡ Ok t.tree.key.shape) }
         ensures same { IfOk result (λ t. (t.tree.key.phase ≡ 0) × (t.tree.key.plan ≡ plan)) }
         ensures first { IfOk result (IsFirst 0) }
-        ensures refused { IfErr result (λ fault. (fault_number fault ≡ None → ⊥) → shape_told widths.now ≡ Err fault) }
+        ensures refused { IfErr result (λ fault. (fault_number fault ≡ None → ⊥) → shape_in_text widths.now ≡ Err fault) }
     {
         let shape = match Shape::from_widths(alloc, widths) {
             Ok(shape) => shape,

@@ -21,7 +21,7 @@ use Rattle.programs.specs.DeedValue.{DeedValue}
 use Rattle.programs.specs.Superstep.{State, ended_by}
 use Rattle.programs.specs.Supersteps.{so_far, status, status_of}
 use Rattle.programs.specs.Regroup.{AreNumbered}
-use Rattle.programs.specs.InPlace.{living_with, left_in, spawned_in, told_in, told_at, maker}
+use Rattle.programs.specs.InPlace.{living_with, left_in, spawned_in, record_in, overflow_at, maker}
 use Rattle.programs.proofs.Reached.{starts_read}
 use Rattle.program_stretches.specs.declared.fault.Outcome.{Outcome}
 use Rattle.program_stretches.specs.declared.fault.Outcome.TheVariants.{Landed, Faulted, TooMany, Overflowed}
@@ -86,7 +86,7 @@ module _ {Q S T : Type 0} (m : Q → Reading S T) (v : StretchesValue Q S) (law 
         pub step : IsStepTo (m v.program).frame (m v.program).may v.most (state_of o) (ended_by (state_of o) cause) Overflowed
 
       pub ends_over : (place : ℕ) (blame : Option (ℕ × List ℕ)) → length ds + spawned_in ds ≤ v.most + left_in ds → Some place ≡ over_in v.arrays [] 0 puts
-          → blame ≡ option_map told_at (maker (m v.program).path us ds place) → EndsOver blame
+          → blame ≡ option_map overflow_at (maker (m v.program).path us ds place) → EndsOver blame
       ends_over place blame le there made =
           let l = fit.living in
           let e = over (m v.program) law v.most begun.begun.first.arrays (map (m v.program).meant (live_of begun.begun.first)) v.limit v.given start_paths (state_of o) begun.reached going (live_of o) refl few_tasks
@@ -94,19 +94,19 @@ module _ {Q S T : Type 0} (m : Q → Reading S T) (v : StretchesValue Q S) (law 
           record { cause = e.cause; is = e.is; step = e.step }
 
       -- or it goes on
-      pub goes : (told : PhaseRecord) → length ds + spawned_in ds ≤ v.most + left_in ds → told ≡ told_in v.step ds → None ≡ over_in v.arrays [] 0 puts
+      pub goes : (reported : PhaseRecord) → length ds + spawned_in ds ≤ v.most + left_in ds → reported ≡ record_in v.step ds → None ≡ over_in v.arrays [] 0 puts
           → IsStepTo (m v.program).frame (m v.program).may v.most (state_of o) (record {
             step = v.step + 1;
             arrays = landed puts v.arrays;
             live = map (m v.program).meant (in_path_order (m v.program).path (living_with us ds));
             prints = v.prints ++ after;
-            records = v.records ++ told ∷ [];
+            records = v.records ++ reported ∷ [];
             fault = None;
           }) Landed
-      goes told le e none =
+      goes reported le e none =
           let l = fit.living in
           goes_on (m v.program) law v.most begun.begun.first.arrays (map (m v.program).meant (live_of begun.begun.first)) v.limit v.given start_paths (state_of o) begun.reached going (live_of o) refl few_tasks
-          None puts us ds after d refl told (omega (arith, l, le)) e none
+          None puts us ds after d refl reported (omega (arith, l, le)) e none
 
   -- a fault is how it ends
   pub closed_end : (o : SuperstepStartValue Q S) (older : List (SuperstepStartValue Q S)) → v.log ≡ o ∷ older → (f : ℕ × List ℕ) (w : StretchesValue Q S) → w ≡ record v { fault = Some f }
@@ -124,25 +124,25 @@ module _ {Q S T : Type 0} (m : Q → Reading S T) (v : StretchesValue Q S) (law 
 
 -- how many tasks live after a superstep, by its record
 pub moved_count : {Q S T : Type 0} (m : Q → Reading S T) (v : StretchesValue Q S) (law : (t : S) → (m v.program).frame.path ((m v.program).meant t) ≡ (m v.program).path t) (run : status_in v ≡ None)
-    (puts : List Put) (us : List S) (ds : List (DeedValue S)) (after : List PrintValue) (h : HaveRun m v puts us ds after) (told : PhaseRecord) → told ≡ told_in v.step ds
-    → told.parties - told.left ≡ length (in_path_order (m v.program).path (living_with us ds))
-moved_count m v law run puts us ds after h told is_told =
+    (puts : List Put) (us : List S) (ds : List (DeedValue S)) (after : List PrintValue) (h : HaveRun m v puts us ds after) (reported : PhaseRecord) → reported ≡ record_in v.step ds
+    → reported.parties - reported.left ≡ length (in_path_order (m v.program).path (living_with us ds))
+moved_count m v law run puts us ds after h reported is_reported =
     let f = fit m v law run h.start h.begun puts us ds after h.did in
     let living = f.living in
     let n = count_in_order (m v.program).path (living_with us ds) in
-    let e = ap (λ (r : PhaseRecord). r.left) is_told in
-    let p = ap (λ (r : PhaseRecord). r.parties) is_told in
+    let e = ap (λ (r : PhaseRecord). r.left) is_reported in
+    let p = ap (λ (r : PhaseRecord). r.parties) is_reported in
     omega (arith, living, n, e, p)
 
 -- the run after a superstep whose puts have landed, before the next is opened
 abbrev pub landed_with : {Q S : Type 0} → StretchesValue Q S → List Put → PhaseRecord → List PrintValue → ℕ → StretchesValue Q S
-landed_with v puts told after count = record v { step = v.step + 1; arrays = landed puts v.arrays; count = count; prints = v.prints ++ after; records = v.records ++ told ∷ [] }
+landed_with v puts reported after count = record v { step = v.step + 1; arrays = landed puts v.arrays; count = count; prints = v.prints ++ after; records = v.records ++ reported ∷ [] }
 
 module _ {Q S T : Type 0} (m : Q → Reading S T) (v : StretchesValue Q S) (law : (t : S) → (m v.program).frame.path ((m v.program).meant t) ≡ (m v.program).path t) (run : status_in v ≡ None)
     (puts : List Put) (us : List S) (ds : List (DeedValue S)) (after : List PrintValue) (h : HaveRun m v puts us ds after)
-    (le : length ds + spawned_in ds ≤ v.most + left_in ds) (told : PhaseRecord) (is_told : told ≡ told_in v.step ds) (none : None ≡ over_in v.arrays [] 0 puts)
+    (le : length ds + spawned_in ds ≤ v.most + left_in ds) (reported : PhaseRecord) (is_reported : reported ≡ record_in v.step ds) (none : None ≡ over_in v.arrays [] 0 puts)
     (next : List S) (is_next : next ≡ in_path_order (m v.program).path (living_with us ds)) where
-  step_landed : IsStepTo (m v.program).frame (m v.program).may v.most (state_of m v law run h.start) (state_with (landed_with v puts told after (length next)) (map (m v.program).meant next)) Landed
+  step_landed : IsStepTo (m v.program).frame (m v.program).may v.most (state_of m v law run h.start) (state_with (landed_with v puts reported after (length next)) (map (m v.program).meant next)) Landed
   step_landed =
       subst (λ (st : State T). IsStepTo (m v.program).frame (m v.program).may v.most (state_of m v law run h.start) st Landed)
       (λ i. record {
@@ -150,21 +150,21 @@ module _ {Q S T : Type 0} (m : Q → Reading S T) (v : StretchesValue Q S) (law 
         arrays = landed puts v.arrays;
         live = map (m v.program).meant (sym is_next i);
         prints = v.prints ++ after;
-        records = v.records ++ told ∷ [];
+        records = v.records ++ reported ∷ [];
         fault = sym (unfaulted m v run) i;
       })
-      (goes m v law run h.start h.begun puts us ds after h.did told le is_told none)
+      (goes m v law run h.start h.begun puts us ds after h.did reported le is_reported none)
 
-  pub after_landed : IsAfter m (landed_with v puts told after (length next)) (map (m v.program).meant next)
+  pub after_landed : IsAfter m (landed_with v puts reported after (length next)) (map (m v.program).meant next)
   after_landed =
       let f = fit m v law run h.start h.begun puts us ds after h.did in
       let living = f.living in
       let n = ap length is_next ∙ count_in_order (m v.program).path (living_with us ds) in
       let l = length-map next (m v.program).meant in
-      after_next m v (landed_with v puts told after (length next)) (map (m v.program).meant (live_of h.start)) (map (m v.program).meant next) law h.begun run h.count step_landed.step refl refl refl refl refl (sym l)
+      after_next m v (landed_with v puts reported after (length next)) (map (m v.program).meant (live_of h.start)) (map (m v.program).meant next) law h.begun run h.count step_landed.step refl refl refl refl refl (sym l)
       (omega (arith, l, n, living, le))
 
-  pub closed_landed : (parts : List (Option (PartValue S))) → AreFresh 0 parts → tasks_in parts ≡ next → (w : StretchesValue Q S) → w ≡ opened_with (landed_with v puts told after (length next)) parts → IsClosed m v w Landed
+  pub closed_landed : (parts : List (Option (PartValue S))) → AreFresh 0 parts → tasks_in parts ≡ next → (w : StretchesValue Q S) → w ≡ opened_with (landed_with v puts reported after (length next)) parts → IsClosed m v w Landed
   closed_landed parts fresh tasks w e =
       subst (λ (x : StretchesValue Q S). IsClosed m v x Landed) (sym e) (record {
         start = h.start;
@@ -313,7 +313,7 @@ module _ {S T : Type 0} (r : Reading S T) (arrays : List (List ℕ × List ℤ))
       let b = both (part.first == at) (not part.done) a.0 in
       let first = at_number part.first at b.0 in
       let p = own.0 in
-      let t = subst (λ (d : Bool). HasDone r arrays step d p.olds part) (not_done part.done b.1) p.told in
+      let t = subst (λ (d : Bool). HasDone r arrays step d p.olds part) (not_done part.done b.1) p.reported in
       let tasks = ap (λ (x : PartValue S). x.tasks) t in
       let from = ap (λ (k : ℕ). drop k live) (sym first) ∙ p.live_from in
       (λ i. tasks i ++ live_still end (at + length part.tasks) ss own.1 a.1 e i)

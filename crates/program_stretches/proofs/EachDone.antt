@@ -11,7 +11,7 @@ use Rattle.programs.specs.Regroup.{AreNumbered}
 use Rattle.programs.specs.Superstep.{State, or_next}
 use Rattle.programs.specs.InPlace.{AllDone, deeds_of, kept, living_with, left_in, spawned_in}
 use Rattle.programs.specs.History.{AreOf, says_in}
-use Rattle.programs.proofs.Course.{deeds_told, fits_in}
+use Rattle.programs.proofs.RunState.{deeds_reported, fits_in}
 use Rattle.programs.proofs.History.{agrees, all_formed, entries_rise, numbers_in, rising_front, stays_in}
 use Rattle.programs.proofs.InPlace.{all_stay, counted, paths_kept}
 use Rattle.programs.proofs.Reached.{starts_read}
@@ -64,7 +64,7 @@ module _ {S T : Type 0} (r : Reading S T) (law : (t : S) → r.frame.path (r.mea
         let rises = entries_rise r.frame (map r.meant olds) d.entries are (ap is_rising (paths_read olds) ∙ rise) in
         record {
           says = says_in r.frame 0 d.entries;
-          done = (d.told (says_in r.frame 0 d.entries) (agrees r.frame 0 arrays step d.entries rises)).done;
+          done = (d.reported (says_in r.frame 0 d.entries) (agrees r.frame 0 arrays step d.entries rises)).done;
         }
 
     pub deeds_each : (olds us : List S) (ds : List (DeedValue S)) → DidEach olds us ds → length us ≡ length ds
@@ -101,7 +101,7 @@ module _ {S T : Type 0} (r : Reading S T) (law : (t : S) → r.frame.path (r.mea
         let stays = stays_in r.frame most d.entries formed in
         let p = reads says r.meant r.path in
         let st : State T = record { step = step; arrays = arrays; live = map r.meant olds; prints = []; records = []; fault = None } in
-        let done = subst (AllDone p part.tasks part.deeds) (deeds_told p law numbers stays arrays step olds) (d.told says (agrees r.frame most arrays step d.entries rises)).done in
+        let done = subst (AllDone p part.tasks part.deeds) (deeds_reported p law numbers stays arrays step olds) (d.reported says (agrees r.frame most arrays step d.entries rises)).done in
         let l = length-map olds r.meant in
         let f = fits_in p law numbers stays st part.tasks part.deeds done (omega (arith, l)) (ap is_rising (paths_read olds) ∙ rise) in
         record { same = f.same; rising = f.rising; numbered = f.numbered }
@@ -110,13 +110,13 @@ module _ {S T : Type 0} (r : Reading S T) (law : (t : S) → r.frame.path (r.mea
       -- those of a stretch that has run have their deeds
       pub part_did : (part : PartValue S) → IsPartOf r arrays live step part → part.done ≡ true → part.fault ≡ None → length part.tasks ≡ length part.deeds
       part_did part p done none =
-          let t = subst (λ b. HasDone r arrays step b p.olds part) done p.told in
+          let t = subst (λ b. HasDone r arrays step b p.olds part) done p.reported in
           deeds_each p.olds part.tasks part.deeds (did_each p.olds part (olds_rise live p.olds p.back part.first p.live_from rise) t.0 t.1 none)
 
       -- and number those that they spawned
       pub part_settles : (part : PartValue S) → IsPartOf r arrays live step part → part.done ≡ true → part.fault ≡ None → CanSettle r.path part
       part_settles part p done none =
-          let t = subst (λ b. HasDone r arrays step b p.olds part) done p.told in
+          let t = subst (λ b. HasDone r arrays step b p.olds part) done p.reported in
           let rises = olds_rise live p.olds p.back part.first p.live_from rise in
           let f = each_fits p.olds part rises t.0 t.1 none in
           record { done = done; same = f.same; rising = f.rising; numbered = f.numbered }
@@ -130,7 +130,7 @@ module _ {S T : Type 0} (r : Reading S T) (law : (t : S) → r.frame.path (r.mea
       pub run_keeps : {X E : Type 0} (answer : Result X E) (old new : PartValue S) → IsPartOf r arrays live step old → old.done ≡ false
           → OnOk answer (HasRun r arrays step old.tasks new) → OnOk answer (length new.tasks ≡ length old.tasks) → OnOk answer (new.fault ≡ None → map r.path new.tasks ≡ map r.path old.tasks)
       run_keeps (Ok x) old new p n ran count =
-          let fresh : old ≡ fresh_part old.first p.olds = subst (λ b. HasDone r arrays step b p.olds old) n p.told in
+          let fresh : old ≡ fresh_part old.first p.olds = subst (λ b. HasDone r arrays step b p.olds old) n p.reported in
           let tasks = ap (λ (q : PartValue S). q.tasks) fresh in
           let rises = ap (λ (ts : List S). is_rising (map r.path ts)) tasks ∙ olds_rise live p.olds p.back old.first p.live_from rise in
           λ none. paths_each old.tasks new rises ran count none

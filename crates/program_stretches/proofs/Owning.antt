@@ -14,7 +14,7 @@ module _ {S T : Type 0} (r : Reading S T) (arrays : List (List ℕ × List ℤ))
   ran_is_part old new h n first way = ⊎_elim yes no way
     where
       fresh : old ≡ fresh_part old.first h.olds
-      fresh = subst (λ b. HasDone r arrays step b h.olds old) n h.told
+      fresh = subst (λ b. HasDone r arrays step b h.olds old) n h.reported
 
       tasks : old.tasks ≡ h.olds
       tasks = ap (λ (p : PartValue S). p.tasks) fresh
@@ -24,11 +24,11 @@ module _ {S T : Type 0} (r : Reading S T) (arrays : List (List ℕ × List ℤ))
         olds = old.tasks;
         back = h.back;
         live_from = ap (λ (k : ℕ). drop k live) first ∙ h.live_from ∙ ap (λ ts. ts ++ h.back) (sym tasks);
-        told = subst (λ b. HasDone r arrays step b old.tasks new) (sym t.0) (t.1, t.2);
+        reported = subst (λ b. HasDone r arrays step b old.tasks new) (sym t.0) (t.1, t.2);
       }
 
       no : new ≡ fresh_part old.first [] → IsPartOf r arrays live step new
-      no e = subst (IsPartOf r arrays live step) (sym e) (record { olds = []; back = drop old.first live; live_from = refl; told = refl })
+      no e = subst (IsPartOf r arrays live step) (sym e) (record { olds = []; back = drop old.first live; live_from = refl; reported = refl })
 
   -- whichever way a run of them ended
   pub run_is_part : {X E : Type 0} (answer : Result X E) (old new : PartValue S) → IsPartOf r arrays live step old → old.done ≡ false → new.first ≡ old.first
@@ -64,7 +64,7 @@ module _ {S T : Type 0} (r : Reading S T) (arrays : List (List ℕ × List ℤ))
       olds = part.tasks;
       back = tasks_in ss;
       live_from = ap (λ (k : ℕ). drop k live) (ap (λ (p : PartValue S). p.first) h.0) ∙ e;
-      told = subst (λ b. HasDone r arrays step b part.tasks part) (sym (ap (λ (p : PartValue S). p.done) h.0)) (h.0 ∙ ap (λ (k : ℕ). fresh_part k part.tasks) (sym (ap (λ (p : PartValue S). p.first) h.0)));
+      reported = subst (λ b. HasDone r arrays step b part.tasks part) (sym (ap (λ (p : PartValue S). p.done) h.0)) (h.0 ∙ ap (λ (k : ℕ). fresh_part k part.tasks) (sym (ap (λ (p : PartValue S). p.first) h.0)));
     },
     fresh_from (at + length part.tasks) ss live (drop_more live part.tasks (tasks_in ss) at (length part.tasks) e refl) h.1,
   )

@@ -16,13 +16,13 @@ use Rattle.programs.specs.Meaning.{Segment, Says, NumbersItsSpawns, StaysTheSame
 use Rattle.programs.specs.Reads.{reads}
 use Rattle.programs.specs.DeedValue.{DeedValue}
 use Rattle.programs.specs.Superstep.{State, superstep, closed, fault_in, log_of, prints_of, record_of, ended_by, segments, first_fault, next_live, too_many, overflow, live_paths}
-use Rattle.programs.specs.Supersteps.{so_far, status, told}
+use Rattle.programs.specs.Supersteps.{so_far, status, report_with}
 use Rattle.programs.specs.Regroup.{AreNumbered}
-use Rattle.programs.specs.InPlace.{IsAllDone, Told, living_with, left_in, spawned_in, told_in, told_at, maker}
+use Rattle.programs.specs.InPlace.{IsAllDone, Reported, living_with, left_in, spawned_in, record_in, overflow_at, maker}
 use Rattle.programs.specs.History.{Entry, AreOf, IsEntered, says_in, says_by, segments_in, living_after}
 use Rattle.programs.proofs.History.{numbers_by, stays_by, all_formed, numbers_in, stays_in, entries_rise, agrees}
 use Rattle.programs.proofs.Histories.{superstep_by, so_far_more, formed_by}
-use Rattle.programs.proofs.Course.{deeds_told, by_fault_in, by_many_in, by_over_in, by_landing_in, fits_in, none_faults, many_told, few_told, none_over}
+use Rattle.programs.proofs.RunState.{deeds_reported, by_fault_in, by_many_in, by_over_in, by_landing_in, fits_in, none_faults, many_reported, few_reported, none_over}
 use Rattle.programs.proofs.InPlace.{counted}
 use Rattle.programs.proofs.Reached.{entered_more}
 use Rattle.programs.proofs.Runs.{goes, going_on, ended_is_last}
@@ -117,7 +117,7 @@ module _ {S T : Type 0} (r : Reading S T) (law : (t : S) → r.frame.path (r.mea
           history = h.history;
           entered = h.entered;
           ended = ended;
-          report = ap (λ (x : State T). told x (status limit x)) (sym (h.state ∙ last)) ∙ ap (told whole) e;
+          report = ap (λ (x : State T). report_with x (status limit x)) (sym (h.state ∙ last)) ∙ ap (report_with whole) e;
           at_end = ap (λ (x : State T). living_after s x.live) (sym h.state) ∙ l;
         };
         within = h.within;
@@ -161,12 +161,12 @@ module _ {S T : Type 0} (r : Reading S T) (law : (t : S) → r.frame.path (r.mea
       stays : StaysTheSameTask (says_in r.frame most d.entries)
       stays = stays_in r.frame most d.entries (all_formed r.frame r.may st.arrays st.step d.entries d.allowed)
 
-      all_told : Told (reads (says_in r.frame most d.entries) r.meant r.path) (segments (says_in r.frame most d.entries) st.arrays st.step st.live) st.step fault puts us ds [] after
-      all_told =
+      all_reported : Reported (reads (says_in r.frame most d.entries) r.meant r.path) (segments (says_in r.frame most d.entries) st.arrays st.step st.live) st.step fault puts us ds [] after
+      all_reported =
           let p = reads (says_in r.frame most d.entries) r.meant r.path in
-          subst (λ ss. Told p ss st.step fault puts us ds [] after)
-          (deeds_told p law numbers stays st.arrays st.step ts ∙ ap (segments (says_in r.frame most d.entries) st.arrays st.step) (sym live))
-          (d.told (says_in r.frame most d.entries) (agrees r.frame most st.arrays st.step d.entries rise))
+          subst (λ ss. Reported p ss st.step fault puts us ds [] after)
+          (deeds_reported p law numbers stays st.arrays st.step ts ∙ ap (segments (says_in r.frame most d.entries) st.arrays st.step) (sym live))
+          (d.reported (says_in r.frame most d.entries) (agrees r.frame most st.arrays st.step d.entries rise))
 
       abbrev Next : State T → Outcome → Type 0
       Next new out = IsStepTo r.frame r.may most st new out
@@ -185,14 +185,14 @@ module _ {S T : Type 0} (r : Reading S T) (law : (t : S) → r.frame.path (r.mea
       pub faulted : (x : ℕ × List ℕ) → fault ≡ Some x → Next (ended_by st x) Faulted
       faulted x e =
           let p = reads (says_in r.frame most d.entries) r.meant r.path in
-          let t = subst (λ o. Told p (segments (says_in r.frame most d.entries) st.arrays st.step st.live) st.step o puts us ds [] after) e all_told in
+          let t = subst (λ o. Reported p (segments (says_in r.frame most d.entries) st.arrays st.step st.live) st.step o puts us ds [] after) e all_reported in
           next (ended_by st x) (by_fault_in p law numbers stays st x t.0) Faulted (λ i. outcome_by (sym t.0 i) many_there (overflow st.arrays ss))
 
       module _ (none : fault ≡ None) where
         all_done : IsAllDone (reads (says_in r.frame most d.entries) r.meant r.path) (segments (says_in r.frame most d.entries) st.arrays st.step st.live) st.step puts us ds [] after
         all_done =
             let p = reads (says_in r.frame most d.entries) r.meant r.path in
-            subst (λ o. Told p (segments (says_in r.frame most d.entries) st.arrays st.step st.live) st.step o puts us ds [] after) none all_told
+            subst (λ o. Reported p (segments (says_in r.frame most d.entries) st.arrays st.step st.live) st.step o puts us ds [] after) none all_reported
 
         -- the numbers fit
         pub record FitsAll : Type 0 where
@@ -221,7 +221,7 @@ module _ {S T : Type 0} (r : Reading S T) (law : (t : S) → r.frame.path (r.mea
         many lt =
             let p = reads (says_in r.frame most d.entries) r.meant r.path in
             next (ended_by st (7, [])) (by_many_in p law numbers stays st us ds all_done.done lt) TooMany
-            (λ i. outcome_by (sym (none_faults p law numbers stays us ds ss all_done.done) i) (sym (many_told p law numbers stays st us ds all_done.done lt) i) (overflow st.arrays ss))
+            (λ i. outcome_by (sym (none_faults p law numbers stays us ds ss all_done.done) i) (sym (many_reported p law numbers stays st us ds all_done.done lt) i) (overflow st.arrays ss))
 
         -- a put that overflows ends it
         pub record Overflows (blame : Option (ℕ × List ℕ)) : Type 0 where
@@ -229,7 +229,7 @@ module _ {S T : Type 0} (r : Reading S T) (law : (t : S) → r.frame.path (r.mea
           pub is : blame ≡ Some cause
           pub step : Next (ended_by st cause) Overflowed
 
-        pub over : (place : ℕ) (blame : Option (ℕ × List ℕ)) → length (living_with us ds) ≤ most → Some place ≡ over_in st.arrays [] 0 puts → blame ≡ option_map told_at (maker r.path us ds place) → Overflows blame
+        pub over : (place : ℕ) (blame : Option (ℕ × List ℕ)) → length (living_with us ds) ≤ most → Some place ≡ over_in st.arrays [] 0 puts → blame ≡ option_map overflow_at (maker r.path us ds place) → Overflows blame
         over place blame le over_there made =
             let p = reads (says_in r.frame most d.entries) r.meant r.path in
             let o = by_over_in p law numbers stays st puts us ds place blame all_done.done all_done.log le over_there made in
@@ -238,30 +238,30 @@ module _ {S T : Type 0} (r : Reading S T) (law : (t : S) → r.frame.path (r.mea
               is = o.is;
               step =
                   next (ended_by st o.blame) o.ends Overflowed
-                  (λ i. outcome_by (sym (none_faults p law numbers stays us ds ss all_done.done) i) (sym (few_told p law numbers stays st us ds all_done.done le) i) (sym o.over i));
+                  (λ i. outcome_by (sym (none_faults p law numbers stays us ds ss all_done.done) i) (sym (few_reported p law numbers stays st us ds all_done.done le) i) (sym o.over i));
             }
 
         -- or it goes on
-        pub goes_on : (told_now : PhaseRecord) → length (living_with us ds) ≤ most → told_now ≡ told_in st.step ds → None ≡ over_in st.arrays [] 0 puts
+        pub goes_on : (reported_now : PhaseRecord) → length (living_with us ds) ≤ most → reported_now ≡ record_in st.step ds → None ≡ over_in st.arrays [] 0 puts
             → Next (record {
               step = st.step + 1;
               arrays = landed puts st.arrays;
               live = map r.meant (in_path_order r.path (living_with us ds));
               prints = st.prints ++ after;
-              records = st.records ++ told_now ∷ [];
+              records = st.records ++ reported_now ∷ [];
               fault = None;
             }) Landed
-        goes_on told_now le e over_none =
+        goes_on reported_now le e over_none =
             let p = reads (says_in r.frame most d.entries) r.meant r.path in
             next _
-            (by_landing_in p law numbers stays st puts us ds told_now all_done.done all_done.log le e over_none
+            (by_landing_in p law numbers stays st puts us ds reported_now all_done.done all_done.log le e over_none
             ∙ (λ i. record {
               step = st.step + 1;
               arrays = landed puts st.arrays;
               live = map r.meant (in_path_order r.path (living_with us ds));
               prints = st.prints ++ sym all_done.shown i;
-              records = st.records ++ told_now ∷ [];
+              records = st.records ++ reported_now ∷ [];
               fault = None;
             }))
             Landed
-            (λ i. outcome_by (sym (none_faults p law numbers stays us ds ss all_done.done) i) (sym (few_told p law numbers stays st us ds all_done.done le) i) (sym (none_over p law numbers stays st puts all_done.log over_none) i))
+            (λ i. outcome_by (sym (none_faults p law numbers stays us ds ss all_done.done) i) (sym (few_reported p law numbers stays st us ds all_done.done le) i) (sym (none_over p law numbers stays st puts all_done.log over_none) i))

@@ -9,7 +9,7 @@ use Rattle.programs.specs.Meaning.{After, Synced, Stopped, Faulted, Segment, Say
 use Rattle.programs.specs.Reads.{Reads, reads}
 use Rattle.programs.specs.DeedValue.{DeedValue}
 use Rattle.programs.specs.Superstep.{first_fault, or_later, or_next, log_of, print_of, prints_of}
-use Rattle.programs.specs.InPlace.{AllDone, IsAllDone, Told, deeds_of}
+use Rattle.programs.specs.InPlace.{AllDone, IsAllDone, Reported, deeds_of}
 use Rattle.programs.specs.History.{Entry, AllAllowed, segments_in}
 use Rattle.programs.specs.Done.{Agrees}
 use Rattle.programs.proofs.InPlace.{none_done, come_all, no_fault}
@@ -47,14 +47,14 @@ module _ {S T : Type 0} where
   done_append p (u ∷ us) ws (d ∷ ds) es (s ∷ ss) rs h k = (h.0, h.1, done_append p us ws ds es ss rs h.2 k)
 
   -- what tasks did after others: both together
-  told_append : (p : Reads S T) (step : ℕ) (ss rs : List (List ℕ × Segment T)) (puts qs : List Put) (us ws : List S) (ds es : List (DeedValue S)) (after last : List PrintValue) (fault : Option (ℕ × List ℕ))
-      → IsAllDone p ss step puts us ds [] after → Told p rs step fault qs ws es [] last → Told p (ss ++ rs) step fault (puts ++ qs) (us ++ ws) (ds ++ es) [] (after ++ last)
-  told_append p step ss rs puts qs us ws ds es after last None h k = record {
+  reported_append : (p : Reads S T) (step : ℕ) (ss rs : List (List ℕ × Segment T)) (puts qs : List Put) (us ws : List S) (ds es : List (DeedValue S)) (after last : List PrintValue) (fault : Option (ℕ × List ℕ))
+      → IsAllDone p ss step puts us ds [] after → Reported p rs step fault qs ws es [] last → Reported p (ss ++ rs) step fault (puts ++ qs) (us ++ ws) (ds ++ es) [] (after ++ last)
+  reported_append p step ss rs puts qs us ws ds es after last None h k = record {
     log = (λ i. h.log i ++ k.log i) ∙ sym (joined_append ss rs);
     shown = (λ i. h.shown i ++ k.shown i) ∙ sym (prints_append step ss rs);
     done = done_append p us ws ds es ss rs h.done k.done;
   }
-  told_append p step ss rs puts qs us ws ds es after last (Some f) h k = (no_fault p us ds ss rs h.done ∙ k.0, (after ++ last, refl))
+  reported_append p step ss rs puts qs us ws ds es after last (Some f) h k = (no_fault p us ds ss rs h.done ∙ k.0, (after ++ last, refl))
 
 module _ {T : Type 0} where
   agrees_front : (s : Says T) (arrays : List (List ℕ × List ℤ)) (step : ℕ) (es fs : List (Entry T)) → Agrees s arrays step (es ++ fs) → Agrees s arrays step es
@@ -92,7 +92,7 @@ module _ {S T : Type 0} (r : Reading S T) (arrays : List (List ℕ × List ℤ))
         nothing h.back (omega (arith, w, l, m));
     calm = h.calm;
     faults = h.faults;
-    told = λ s a.
+    reported = λ s a.
         come_all (reads s r.meant r.path) arrays step olds part.fault (length olds) part.puts part.tasks part.deeds [] part.prints
         (h.further s a olds [] (none_done (reads s r.meant r.path) arrays step olds [] [] [] refl refl)) (omega (arith, same));
   }
@@ -108,7 +108,7 @@ module _ {S T : Type 0} (r : Reading S T) (arrays : List (List ℕ × List ℤ))
     whole = λ e. refl;
     calm = λ e. refl;
     faults = λ x e. absurd (some_none x e);
-    told = λ s a. record { log = refl; shown = refl; done = tt };
+    reported = λ s a. record { log = refl; shown = refl; done = tt };
   }
 
   pub did_join : (fault : Option (ℕ × List ℕ)) (puts qs : List Put) (ts us vs ws : List S) (ds es : List (DeedValue S)) (after last : List PrintValue)
@@ -124,11 +124,11 @@ module _ {S T : Type 0} (r : Reading S T) (arrays : List (List ℕ × List ℤ))
     whole = k.whole;
     calm = λ e. in_front (k.calm e);
     faults = λ x e. in_front (k.faults x e);
-    told = λ s a.
+    reported = λ s a.
         let p = reads s r.meant r.path in
-        subst (λ ss. Told p ss step fault (puts ++ qs) (vs ++ ws) (ds ++ es) [] (after ++ last)) (sym (deeds_append p arrays step ts us))
-        (told_append p step (deeds_of p arrays step ts) (deeds_of p arrays step us) puts qs vs ws ds es after last fault
-        (h.told s (agrees_front s arrays step h.entries k.entries a)) (k.told s (agrees_back s arrays step h.entries k.entries a)));
+        subst (λ ss. Reported p ss step fault (puts ++ qs) (vs ++ ws) (ds ++ es) [] (after ++ last)) (sym (deeds_append p arrays step ts us))
+        (reported_append p step (deeds_of p arrays step ts) (deeds_of p arrays step us) puts qs vs ws ds es after last fault
+        (h.reported s (agrees_front s arrays step h.entries k.entries a)) (k.reported s (agrees_back s arrays step h.entries k.entries a)));
   }
     where
       in_front : {o : Option (ℕ × List ℕ)} → first_fault (segments_in r.frame k.entries) ≡ o → first_fault (segments_in r.frame (h.entries ++ k.entries)) ≡ o
@@ -196,9 +196,9 @@ module _ {S T : Type 0} (r : Reading S T) (arrays : List (List ℕ × List ℤ))
     whole = λ e. absurd (some_not_none x e);
     calm = λ e. absurd (some_not_none x e);
     faults = h.faults;
-    told = λ s a.
+    reported = λ s a.
         let p = reads s r.meant r.path in
-        let t = h.told s a in
+        let t = h.reported s a in
         (ap first_fault (deeds_append p arrays step ts more) ∙ first_some (deeds_of p arrays step ts) (deeds_of p arrays step more) x t.0, t.1);
   }
 
@@ -247,7 +247,7 @@ module _ {S T : Type 0} (r : Reading S T) (arrays : List (List ℕ × List ℤ))
       let b = both (part.first == at) part.done a.0 in
       let first = at_number part.first at b.0 in
       let p = own.0 in
-      let t = subst (λ d. HasDone r arrays step d p.olds part) b.1 p.told in
+      let t = subst (λ d. HasDone r arrays step d p.olds part) b.1 p.reported in
       let rest = drop_more live p.olds p.back at (length part.tasks) (ap (λ k. drop k live) (sym first) ∙ p.live_from) t.1 in
       subst (HaveDid (Some part ∷ ss)) (sym (ap (λ k. drop k live) (sym first) ∙ p.live_from))
       (have_one part ss p.olds p.back (ran_all r arrays step p.olds part t.0 t.1)

@@ -6,7 +6,7 @@ use Rattle.programs.specs.Meaning.{Segment, Frame, Says}
 use Rattle.programs.specs.Reads.{reads}
 use Rattle.programs.specs.DeedValue.{DeedValue}
 use Rattle.programs.specs.Superstep.{State, first_fault, segments, next_live, too_many, overflow, superstep}
-use Rattle.programs.specs.InPlace.{Told, deeds_of}
+use Rattle.programs.specs.InPlace.{Reported, deeds_of}
 use Rattle.programs.specs.History.{Entry, AllAllowed, IsEntered, segments_in, says_in}
 use Rattle.programs.specs.Done.{Agrees}
 use Rattle.program_stretches.specs.declared.fault.Outcome.{Outcome}
@@ -24,7 +24,7 @@ pub record DidAll {S T : Type 0} (r : Reading S T) (arrays : List (List ℕ × L
   pub whole : fault ≡ None → back ≡ []
   pub calm : fault ≡ None → first_fault (segments_in r.frame entries) ≡ None
   pub faults : (x : ℕ × List ℕ) → fault ≡ Some x → first_fault (segments_in r.frame entries) ≡ Some x
-  pub told : (s : Says T) → Agrees s arrays step entries → Told (reads s r.meant r.path) (deeds_of (reads s r.meant r.path) arrays step ts) step fault puts us ds [] after
+  pub reported : (s : Says T) → Agrees s arrays step entries → Reported (reads s r.meant r.path) (deeds_of (reads s r.meant r.path) arrays step ts) step fault puts us ds [] after
 
 -- one superstep of what the live tasks of a state left, each allowed, leads to this state
 pub record IsStep {T : Type 0} (f : Frame T) (may : T → List (List ℕ × List ℤ) → ℕ → Segment T → Type 0) (most : ℕ) (st next : State T) : Type 0 where

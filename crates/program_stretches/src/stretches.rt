@@ -76,7 +76,7 @@ impl<'t, 'p, P: Program> Stretches<'t, 'p, P> {
     ghost use Rattle.phase_records.specs.StatusSeen.{status_seen};
     ghost use Rattle.programs.specs.Meaning.{children};
     ghost use Rattle.snapshot_log.specs.Agreed.{WasBefore};
-    ghost use Rattle.programs.specs.InPlace.{told_in, left_in, spawned_in};
+    ghost use Rattle.programs.specs.InPlace.{record_in, left_in, spawned_in};
     ghost use Rattle.std.specs.List.{list_all};
     ghost use Rattle.superstep_memory.specs.Landing.{is_set};
     ghost use Rattle.stretch_parts.specs.Next.{CanAllSettle};
@@ -372,7 +372,7 @@ impl<'t, 'p, P: Program> Stretches<'t, 'p, P> {
         alloc: Global,
         mut parts: Vec<Option<Part<P::Task>>>,
         puts: &Puts,
-        told: PhaseRecord,
+        counts: PhaseRecord,
     ) -> Result<Outcome, AllocError>
         requires none { self.old.parts ≡ [] }
         requires running { status_in self.old ≡ None }
@@ -380,8 +380,8 @@ impl<'t, 'p, P: Program> Stretches<'t, 'p, P> {
         requires sets { IsTrue (list_all is_set (puts_in parts.items)) }
         requires covered { covers true self.old.count 0 parts.items ≡ true }
         requires few { length (deeds_in parts.items) + spawned_in (deeds_in parts.items) ≤ self.old.most + left_in (deeds_in parts.items) }
-        requires told { told ≡ told_in self.old.step (deeds_in parts.items) }
-        requires stays { (told.left ≡ 0) × (told.spawned ≡ 0) }
+        requires counts { counts ≡ record_in self.old.step (deeds_in parts.items) }
+        requires stays { (counts.left ≡ 0) × (counts.spawned ≡ 0) }
         requires each { EachDid parts.items }
         ensures closed { IfOk result (λ outcome. IsClosed (reading_of P.frame P.may P.meant P.Task.path_of) self.old self.new outcome) }
         ensures reopened { IfOk result (λ outcome. IsReopened P.Task.path_of outcome self.old.step parts.items self.new) }
@@ -396,7 +396,7 @@ impl<'t, 'p, P: Program> Stretches<'t, 'p, P> {
             Some(place) => self.overflow(&parts, place),
             None => {
                 print_and_renew(&mut parts, &mut self.prints);
-                self.records.push_reserved(told);
+                self.records.push_reserved(counts);
                 self.step += 1;
                 self.reopen(parts)?;
                 Ok(Outcome::Landed)
@@ -410,14 +410,14 @@ impl<'t, 'p, P: Program> Stretches<'t, 'p, P> {
         alloc: Global,
         mut parts: Vec<Option<Part<P::Task>>>,
         puts: &Puts,
-        told: PhaseRecord,
+        counts: PhaseRecord,
     ) -> Result<Outcome, AllocError>
         requires none { self.old.parts ≡ [] }
         requires running { status_in self.old ≡ None }
         requires run { HaveRun (reading_of P.frame P.may P.meant P.Task.path_of) self.old (puts.now ++ puts_in parts.items) (tasks_in parts.items) (deeds_in parts.items) (prints_in parts.items) }
         requires sets { IsTrue (list_all is_set (puts_in parts.items)) }
         requires few { length (deeds_in parts.items) + spawned_in (deeds_in parts.items) ≤ self.old.most + left_in (deeds_in parts.items) }
-        requires told { told ≡ told_in self.old.step (deeds_in parts.items) }
+        requires counts { counts ≡ record_in self.old.step (deeds_in parts.items) }
         requires moves { AllStay parts.items → ⊥ }
         requires each { EachDid parts.items }
         requires can { CanAllSettle P.Task.path_of parts.items }
@@ -429,13 +429,13 @@ impl<'t, 'p, P: Program> Stretches<'t, 'p, P> {
         ensures same { IsSameRun self.old self.new }
         ensures given { self.new.given ≡ self.old.given }
     {
-        let count = (told.parties - told.left) as usize;
+        let count = (counts.parties - counts.left) as usize;
         make_room(&parts, &mut self.prints, &mut self.records)?;
         match land_shared(alloc, &mut self.arrays, puts, &parts, &mut self.olds)? {
             Some(place) => self.overflow(&parts, place),
             None => {
                 give_all_prints(&mut parts, &mut self.prints);
-                self.records.push_reserved(told);
+                self.records.push_reserved(counts);
                 self.step += 1;
                 self.count = count;
                 let next = next_parts(alloc, parts, count, self.pieces)?;
@@ -474,7 +474,7 @@ impl<'t, 'p, P: Program> Stretches<'t, 'p, P> {
             self.end(too_many(alloc));
             return Ok(Outcome::TooMany);
         };
-        let told = PhaseRecord {
+        let counts = PhaseRecord {
             phase: self.step,
             parties: (self.count + spawned) as u32,
             left: left as u32,
@@ -482,9 +482,9 @@ impl<'t, 'p, P: Program> Stretches<'t, 'p, P> {
         };
         join_adds(&mut parts, puts)?;
         if left == 0 && spawned == 0 {
-            self.stay(alloc, parts, puts, told)
+            self.stay(alloc, parts, puts, counts)
         } else {
-            self.move_on(alloc, parts, puts, told)
+            self.move_on(alloc, parts, puts, counts)
         }
     }
 

@@ -14,7 +14,7 @@ use Rattle.programs.specs.Lent.{HasAdded}
 use Rattle.programs.specs.declared.work.Work.{Work}
 use Rattle.programs.specs.DeedValue.{DeedValue}
 use Rattle.programs.specs.Superstep.{first_fault, fault_eight, or_later, log_of, print_of, prints_of, living_on, synced, stopped, left, spawned}
-use Rattle.programs.specs.InPlace.{IsUnderWay, HasCome, IsFurther, Told, end_of, IsDeed, ToldOne, AllDone, deeds_of, IsAllDone, maker, told_at, kept, living_with, one_left, left_in, spawned_in}
+use Rattle.programs.specs.InPlace.{IsUnderWay, HasCome, IsFurther, Reported, end_of, IsDeed, ReportedOne, AllDone, deeds_of, IsAllDone, maker, overflow_at, kept, living_with, one_left, left_in, spawned_in}
 
 module _ {S T : Type 0} where
   pub none_done : (p : Reads S T) (arrays : List (List ℕ × List ℤ)) (step : ℕ) (olds : List S) (puts : List Put) (ds : List (DeedValue S)) (before : List PrintValue)
@@ -78,7 +78,7 @@ module _ {S T : Type 0} where
       → HasAdded ps.meant old new g → g.after ≡ end_of ps goes_on u → ps.path u ≡ ps.path t
       → qs ≡ new.puts → count ≡ length new.puts - length old.puts
       → es ≡ ds ++ record { synced = goes_on; puts = count; spawns = new.spawns.items } ∷ [] → after ≡ before ++ map (print_of step (ps.path u)) new.prints.items
-      → ToldOne ps g step None t u old.puts qs ds es before after
+      → ReportedOne ps g step None t u old.puts qs ds es before after
   kept_one ps goes_on count g step t u old new qs ds es before after added ended path puts counts deeds prints = (
     puts ∙ added.puts,
     prints ∙ (λ i. before ++ map (print_of step (path i)) (added.prints i)),
@@ -92,12 +92,12 @@ module _ {S T : Type 0} where
   -- one task more is done
   pub one_more : (p : Reads S T) (arrays : List (List ℕ × List ℤ)) (step : ℕ) (olds : List S) (place : ℕ) (puts qs : List Put) (tasks : List S) (ds es : List (DeedValue S)) (before after shown : List PrintValue) (t u : S)
       → IsUnderWay p arrays step olds place puts tasks ds before after → place < length tasks → t ≡ get_or tasks place t
-      → ToldOne p (p.says.segment (p.meant t) arrays step) step None t u puts qs ds es after shown
+      → ReportedOne p (p.says.segment (p.meant t) arrays step) step None t u puts qs ds es after shown
       → IsUnderWay p arrays step olds (place + 1) qs (slice_set tasks place u) es before shown
-  one_more p arrays step olds place puts qs tasks ds es before after shown t u h lt g told =
+  one_more p arrays step olds place puts qs tasks ds es before after shown t u h lt g reported =
       let n = next_is h.us h.rest tasks place t h.cut h.count lt g in
       let s : List ℕ × Segment T = (p.path t, p.says.segment (p.meant t) arrays step) in
-      let d = told.3.0 in
+      let d = reported.3.0 in
       let whole : tasks ≡ h.us ++ t ∷ n.behind = h.cut ∙ ap (λ (ts : List S). h.us ++ ts) n.is in
       record {
         us = h.us ++ u ∷ [];
@@ -107,12 +107,12 @@ module _ {S T : Type 0} where
         count = more h.us u ∙ ap suc h.count ∙ omega arith;
         all = h.all ∙ ap (λ (ts : List S). h.front ++ deeds_of p arrays step ts) n.is
             ∙ sym (append_assoc h.front (s ∷ []) (deeds_of p arrays step n.behind));
-        log = told.0 ∙ ap (λ (ps : List Put). ps ++ s.1.puts) h.log ∙ sym (joined_more h.front s);
-        shown = told.1 ∙ ap (λ (ps : List PrintValue). ps ++ map (print_of step (p.path t)) s.1.prints) h.shown
+        log = reported.0 ∙ ap (λ (ps : List Put). ps ++ s.1.puts) h.log ∙ sym (joined_more h.front s);
+        shown = reported.1 ∙ ap (λ (ps : List PrintValue). ps ++ map (print_of step (p.path t)) s.1.prints) h.shown
             ∙ append_assoc before (prints_of step h.front) (map (print_of step (p.path t)) s.1.prints)
             ∙ ap (λ (ps : List PrintValue). before ++ ps) (sym (prints_more step h.front s));
-        done = subst (λ (x : List (DeedValue S)). AllDone p (h.us ++ u ∷ []) x (h.front ++ s ∷ [])) (sym told.3.1)
-            (done_more p h.us ds h.front u d s h.done told.2 told.3.2);
+        done = subst (λ (x : List (DeedValue S)). AllDone p (h.us ++ u ∷ []) x (h.front ++ s ∷ [])) (sym reported.3.1)
+            (done_more p h.us ds h.front u d s h.done reported.2 reported.3.2);
       }
     where
       more : (xs : List S) (x : S) → length (xs ++ x ∷ []) ≡ suc (length xs)
@@ -147,21 +147,21 @@ module _ {S T : Type 0} where
           longer (x ∷ xs) ys y = let l = longer xs ys y in omega (arith, l)
 
   -- the task whose put is at a place of the log is the one that made it
-  pub maker_told : (ps : Reads S T) (us : List S) (ds : List (DeedValue S)) (ss : List (List ℕ × Segment T)) → AllDone ps us ds ss → (k : ℕ)
-      → option_map fault_eight (located (map log_of ss) k) ≡ option_map told_at (maker ps.path us ds k)
-  maker_told ps [] [] [] h k = refl
-  maker_told ps [] [] (s ∷ ss) h k = absurd h
-  maker_told ps [] (d ∷ ds) ss h k = absurd h
-  maker_told ps (u ∷ us) [] [] h k = absurd h
-  maker_told ps (u ∷ us) [] (s ∷ ss) h k = absurd h
-  maker_told ps (u ∷ us) (d ∷ ds) [] h k = absurd h
-  maker_told ps (u ∷ us) (d ∷ ds) (s ∷ ss) h k =
+  pub maker_reported : (ps : Reads S T) (us : List S) (ds : List (DeedValue S)) (ss : List (List ℕ × Segment T)) → AllDone ps us ds ss → (k : ℕ)
+      → option_map fault_eight (located (map log_of ss) k) ≡ option_map overflow_at (maker ps.path us ds k)
+  maker_reported ps [] [] [] h k = refl
+  maker_reported ps [] [] (s ∷ ss) h k = absurd h
+  maker_reported ps [] (d ∷ ds) ss h k = absurd h
+  maker_reported ps (u ∷ us) [] [] h k = absurd h
+  maker_reported ps (u ∷ us) [] (s ∷ ss) h k = absurd h
+  maker_reported ps (u ∷ us) (d ∷ ds) [] h k = absurd h
+  maker_reported ps (u ∷ us) (d ∷ ds) (s ∷ ss) h k =
       ap (λ (n : ℕ). option_map fault_eight (if nat_lt k n then Some (s.0, k) else located (map log_of ss) (k - n))) (sym h.1.2)
-      ∙ by (nat_lt k d.puts) (maker_told ps us ds ss h.2 (k - d.puts))
+      ∙ by (nat_lt k d.puts) (maker_reported ps us ds ss h.2 (k - d.puts))
     where
-      by : (b : Bool) → option_map fault_eight (located (map log_of ss) (k - d.puts)) ≡ option_map told_at (maker ps.path us ds (k - d.puts))
+      by : (b : Bool) → option_map fault_eight (located (map log_of ss) (k - d.puts)) ≡ option_map overflow_at (maker ps.path us ds (k - d.puts))
           → option_map fault_eight (if b then Some (s.0, k) else located (map log_of ss) (k - d.puts))
-          ≡ option_map told_at (if b then Some (ps.path u) else maker ps.path us ds (k - d.puts))
+          ≡ option_map overflow_at (if b then Some (ps.path u) else maker ps.path us ds (k - d.puts))
       by true e = ap (λ (p : List ℕ). Some (8, p)) (sym h.0)
       by false e = e
 
@@ -192,35 +192,35 @@ module _ {S T : Type 0} where
   -- the next task faults
   pub one_faults : (p : Reads S T) (arrays : List (List ℕ × List ℤ)) (step : ℕ) (olds : List S) (place : ℕ) (puts qs : List Put) (tasks : List S) (ds es : List (DeedValue S)) (before after shown : List PrintValue) (t u : S) (f : ℕ × List ℕ)
       → IsUnderWay p arrays step olds place puts tasks ds before after → place < length tasks → t ≡ get_or tasks place t
-      → ToldOne p (p.says.segment (p.meant t) arrays step) step (Some f) t u puts qs ds es after shown
+      → ReportedOne p (p.says.segment (p.meant t) arrays step) step (Some f) t u puts qs ds es after shown
       → (first_fault (deeds_of p arrays step olds) ≡ Some f) × ((more : List PrintValue) × (shown ≡ before ++ more))
-  one_faults p arrays step olds place puts qs tasks ds es before after shown t u f h lt g told =
+  one_faults p arrays step olds place puts qs tasks ds es before after shown t u f h lt g reported =
       let n = next_is h.us h.rest tasks place t h.cut h.count lt g in (
         ap first_fault h.all ∙ no_fault p h.us ds h.front (deeds_of p arrays step h.rest) h.done
             ∙ ap (λ (ts : List S). first_fault (deeds_of p arrays step ts)) n.is
-            ∙ later_fault (p.path t) (p.says.segment (p.meant t) arrays step) (deeds_of p arrays step n.behind) f told.1,
-        (prints_of step h.front, told.0 ∙ h.shown),
+            ∙ later_fault (p.path t) (p.says.segment (p.meant t) arrays step) (deeds_of p arrays step n.behind) f reported.1,
+        (prints_of step h.front, reported.0 ∙ h.shown),
       )
 
   -- one task further
   pub one_further : (p : Reads S T) (arrays : List (List ℕ × List ℤ)) (step first place : ℕ) (puts qs rs : List Put) (ts tasks : List S) (ds es fs : List (DeedValue S)) (shown after last : List PrintValue) (t u : S)
       → IsFurther p arrays step None first place puts qs ts tasks ds es shown after → place < length tasks → t ≡ get_or tasks place t
-      → ToldOne p (p.says.segment (p.meant t) arrays step) step None t u qs rs es fs after last
+      → ReportedOne p (p.says.segment (p.meant t) arrays step) step None t u qs rs es fs after last
       → IsFurther p arrays step None first (place + 1) puts rs ts (slice_set tasks place u) ds fs shown last
-  one_further p arrays step first place puts qs rs ts tasks ds es fs shown after last t u h lt g told olds before way =
-      one_more p arrays step olds place qs rs tasks es fs before after last t u (h olds before way) lt g told
+  one_further p arrays step first place puts qs rs ts tasks ds es fs shown after last t u h lt g reported olds before way =
+      one_more p arrays step olds place qs rs tasks es fs before after last t u (h olds before way) lt g reported
 
   -- the next one faults
   pub faults_further : (p : Reads S T) (arrays : List (List ℕ × List ℤ)) (step first place end : ℕ) (puts qs rs : List Put) (ts tasks us : List S) (ds es fs : List (DeedValue S)) (shown after last : List PrintValue) (t u : S) (f : ℕ × List ℕ)
       → IsFurther p arrays step None first place puts qs ts tasks ds es shown after → place < length tasks → t ≡ get_or tasks place t
-      → ToldOne p (p.says.segment (p.meant t) arrays step) step (Some f) t u qs rs es fs after last
+      → ReportedOne p (p.says.segment (p.meant t) arrays step) step (Some f) t u qs rs es fs after last
       → IsFurther p arrays step (Some f) first end puts rs ts us ds fs shown last
-  faults_further p arrays step first place end puts qs rs ts tasks us ds es fs shown after last t u f h lt g told olds before way =
-      one_faults p arrays step olds place qs rs tasks es fs before after last t u f (h olds before way) lt g told
+  faults_further p arrays step first place end puts qs rs ts tasks us ds es fs shown after last t u f h lt g reported olds before way =
+      one_faults p arrays step olds place qs rs tasks es fs before after last t u f (h olds before way) lt g reported
 
   -- all tasks of a list
   pub come_all : (p : Reads S T) (arrays : List (List ℕ × List ℤ)) (step : ℕ) (olds : List S) (fault : Option (ℕ × List ℕ)) (end : ℕ) (puts : List Put) (us : List S) (ds : List (DeedValue S)) (before after : List PrintValue)
-      → HasCome p arrays step olds fault end puts us ds before after → length us ≤ end → Told p (deeds_of p arrays step olds) step fault puts us ds before after
+      → HasCome p arrays step olds fault end puts us ds before after → length us ≤ end → Reported p (deeds_of p arrays step olds) step fault puts us ds before after
   come_all p arrays step olds (Some f) end puts us ds before after h le = h
   come_all p arrays step olds None end puts us ds before after h le = all_done p arrays step olds end puts us ds before after h le
 
@@ -252,15 +252,15 @@ map_append f (x ∷ xs) ys = ap (λ zs. f x ∷ zs) (map_append f xs ys)
 
 module _ {S T : Type 0} where
   -- the tasks that live on are those of the segments
-  pub living_told : (ps : Reads S T) (us : List S) (ds : List (DeedValue S)) (ss : List (List ℕ × Segment T)) → AllDone ps us ds ss → map ps.meant (living_with us ds) ≡ living_on ss
-  living_told ps [] [] [] h = refl
-  living_told ps [] [] (s ∷ ss) h = absurd h
-  living_told ps [] (d ∷ ds) ss h = absurd h
-  living_told ps (u ∷ us) [] ss h = absurd h
-  living_told ps (u ∷ us) (d ∷ ds) [] h = absurd h
-  living_told ps (u ∷ us) (d ∷ ds) (s ∷ ss) h =
+  pub living_reported : (ps : Reads S T) (us : List S) (ds : List (DeedValue S)) (ss : List (List ℕ × Segment T)) → AllDone ps us ds ss → map ps.meant (living_with us ds) ≡ living_on ss
+  living_reported ps [] [] [] h = refl
+  living_reported ps [] [] (s ∷ ss) h = absurd h
+  living_reported ps [] (d ∷ ds) ss h = absurd h
+  living_reported ps (u ∷ us) [] ss h = absurd h
+  living_reported ps (u ∷ us) (d ∷ ds) [] h = absurd h
+  living_reported ps (u ∷ us) (d ∷ ds) (s ∷ ss) h =
       map_append (ps.meant) (kept d.synced u ++ d.spawns) (living_with us ds)
-      ∙ (λ i. (map_append (ps.meant) (kept d.synced u) d.spawns i) ++ living_told ps us ds ss h.2 i)
+      ∙ (λ i. (map_append (ps.meant) (kept d.synced u) d.spawns i) ++ living_reported ps us ds ss h.2 i)
       ∙ (λ i. (map ps.meant (kept d.synced u) ++ h.1.0 i) ++ living_on ss)
       ∙ ap (λ (xs : List T). (xs ++ s.1.spawns) ++ living_on ss) (by d.synced ∙ ap synced (sym h.1.1))
     where

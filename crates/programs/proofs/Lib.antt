@@ -4,7 +4,7 @@ pub mod Regrouping
 pub mod Turned
 pub mod Runs
 pub mod Apart
-pub mod Course
+pub mod RunState
 pub mod History
 pub mod Ranged
 pub mod Histories

@@ -98,25 +98,25 @@ stopped_append [] es = omega arith
 stopped_append (d ∷ ds) es = let l = stopped_append ds es in omega (arith, l)
 
 module _ {S : Type 0} where
-  pub count_told : (ds : List Deed) (ts : List S) → length (deeds_with ds ts) ≡ length ds
-  count_told [] ts = refl
-  count_told (d ∷ ds) ts = ap suc (count_told ds (behind d.spawned ts))
+  pub count_reported : (ds : List Deed) (ts : List S) → length (deeds_with ds ts) ≡ length ds
+  count_reported [] ts = refl
+  count_reported (d ∷ ds) ts = ap suc (count_reported ds (behind d.spawned ts))
 
-  pub stopped_told : (ds : List Deed) (ts : List S) → left_in (deeds_with ds ts) ≡ stopped_by ds
-  stopped_told [] ts = refl
-  stopped_told (d ∷ ds) ts = ap (λ (n : ℕ). one_left d.synced + n) (stopped_told ds (behind d.spawned ts))
+  pub stopped_reported : (ds : List Deed) (ts : List S) → left_in (deeds_with ds ts) ≡ stopped_by ds
+  stopped_reported [] ts = refl
+  stopped_reported (d ∷ ds) ts = ap (λ (n : ℕ). one_left d.synced + n) (stopped_reported ds (behind d.spawned ts))
 
-  pub made_told : (ds : List Deed) (ts : List S) → made_in (deeds_with ds ts) ≡ made_by ds
-  made_told [] ts = refl
-  made_told (d ∷ ds) ts = ap (λ (n : ℕ). d.puts + n) (made_told ds (behind d.spawned ts))
+  pub made_reported : (ds : List Deed) (ts : List S) → made_in (deeds_with ds ts) ≡ made_by ds
+  made_reported [] ts = refl
+  made_reported (d ∷ ds) ts = ap (λ (n : ℕ). d.puts + n) (made_reported ds (behind d.spawned ts))
 
-  pub spawned_told : (ds : List Deed) (ts : List S) → spawned_by ds ≡ length ts → spawned_in (deeds_with ds ts) ≡ length ts
-  spawned_told [] ts h = h
-  spawned_told (d ∷ ds) ts h =
+  pub spawned_reported : (ds : List Deed) (ts : List S) → spawned_by ds ≡ length ts → spawned_in (deeds_with ds ts) ≡ length ts
+  spawned_reported [] ts h = h
+  spawned_reported (d ∷ ds) ts h =
       let few : d.spawned ≤ length ts = omega arith in
       let a = take_length d.spawned ts few in
       let b = behind_length d.spawned ts few in
-      let c = spawned_told ds (behind d.spawned ts) (omega (arith, b)) in
+      let c = spawned_reported ds (behind d.spawned ts) (omega (arith, b)) in
       omega (arith, a, b, c)
 
   -- who made a put, by the deeds alone
@@ -139,9 +139,9 @@ module _ {S : Type 0} where
 
   pub counts : (i : Inside S) (ds : List (DeedValue S)) → IsInside i → ds ≡ deeds_in i → Counts i ds
   counts i ds h e = record {
-    count = sym (ap length e ∙ count_told i.each i.spawns.items);
-    stopped = h.stopped ∙ sym (ap left_in e ∙ stopped_told i.each i.spawns.items);
-    spawned = sym (ap spawned_in e ∙ spawned_told i.each i.spawns.items h.spawned);
+    count = sym (ap length e ∙ count_reported i.each i.spawns.items);
+    stopped = h.stopped ∙ sym (ap left_in e ∙ stopped_reported i.each i.spawns.items);
+    spawned = sym (ap spawned_in e ∙ spawned_reported i.each i.spawns.items h.spawned);
   }
 
   -- the last task and its deed, with the tasks that it spawned
@@ -161,12 +161,12 @@ module _ {S : Type 0} where
       let within : k ≤ length spawns = omega arith in
       let rest : spawned_by es ≡ length (take k spawns) = let n = take_length k spawns within in omega (arith, all, n) in
       let count : length (behind k spawns) ≡ d.spawned = let n = behind_length k spawns within in omega (arith, n, few) in
-      let told : deeds_with each spawns ≡ deeds_with es (take k spawns) ++ record { synced = d.synced; puts = d.puts; spawns = behind k spawns } ∷ [] =
+      let reported : deeds_with each spawns ≡ deeds_with es (take k spawns) ++ record { synced = d.synced; puts = d.puts; spawns = behind k spawns } ∷ [] =
       (λ i. deeds_with (f i) (sym (cut_at k spawns within) i)) ∙ deeds_more es d (take k spawns) (behind k spawns) rest (sym count) in
       record {
         few = few;
         rest = rest;
         count = count;
-        living = living_last tasks us t (deeds_with each spawns) (deeds_with es (take k spawns)) (record { synced = d.synced; puts = d.puts; spawns = behind k spawns }) e told
-            (l ∙ sym (count_told each spawns));
+        living = living_last tasks us t (deeds_with each spawns) (deeds_with es (take k spawns)) (record { synced = d.synced; puts = d.puts; spawns = behind k spawns }) e reported
+            (l ∙ sym (count_reported each spawns));
       }

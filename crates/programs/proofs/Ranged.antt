@@ -8,7 +8,7 @@ use Rattle.programs.specs.Meaning.{After, Synced, Stopped, Faulted, Segment, Fra
 use Rattle.programs.specs.Reads.{Reads, reads}
 use Rattle.programs.specs.DeedValue.{DeedValue}
 use Rattle.programs.specs.Superstep.{first_fault, or_later}
-use Rattle.programs.specs.InPlace.{ToldOne, IsFurther, end_of}
+use Rattle.programs.specs.InPlace.{ReportedOne, IsFurther, end_of}
 use Rattle.programs.specs.History.{Entry, AllAllowed, segments_in, says_in}
 use Rattle.programs.specs.Done.{Agrees, HasDoneOne, HasDoneRange, HasDoneAll}
 use Rattle.programs.proofs.InPlace.{next_is, set_at, one_further, faults_further, none_done, come_all}
@@ -113,8 +113,8 @@ module _ {S T : Type 0} (f : Frame T) (may : T → List (List ℕ × List ℤ) �
       let n = next_is h.now h.back tasks place t h.is h.same lt g in
       let e : Entry T = record { task = meant t; left = one.left } in
       let c = h.to in
-      let first_told = subst (λ (o : Option (ℕ × List ℕ)). ToldOne (reads (says_in f 0 []) meant path) one.left step o t u qs rs es fs after last) none (one.told (says_in f 0 [])) in
-      let told_calm = not_faulted (reads (says_in f 0 []) meant path) (f.path (meant t)) one.left first_told.3.0.synced u first_told.3.2.1 in
+      let first_reported = subst (λ (o : Option (ℕ × List ℕ)). ReportedOne (reads (says_in f 0 []) meant path) one.left step o t u qs rs es fs after last) none (one.reported (says_in f 0 [])) in
+      let calm_reported = not_faulted (reads (says_in f 0 []) meant path) (f.path (meant t)) one.left first_reported.3.0.synced u first_reported.3.2.1 in
       record {
         entries = h.entries ++ e ∷ [];
         allowed = allowed_more f may arrays step h.entries e h.allowed one.allowed one.formed;
@@ -132,12 +132,12 @@ module _ {S T : Type 0} (f : Frame T) (may : T → List (List ℕ × List ℤ) �
         tasks = tasks_more meant h.entries h.done e t h.tasks refl;
         calm =
             ap first_fault (segments_more h.entries e)
-            ∙ first_none (segments_in f h.entries) ((f.path e.task, e.left) ∷ []) h.calm ∙ told_calm;
+            ∙ first_none (segments_in f h.entries) ((f.path e.task, e.left) ∷ []) h.calm ∙ calm_reported;
         further = λ s a.
             let b = agrees_front s arrays step h.entries e a in
             one_further (reads s meant path) arrays step first place puts qs rs ts tasks ds es fs shown after last t u (h.further s b.0) lt g
-            (subst (λ (x : Segment T). ToldOne (reads s meant path) x step None t u qs rs es fs after last) (sym b.1)
-            (subst (λ (o : Option (ℕ × List ℕ)). ToldOne (reads s meant path) one.left step o t u qs rs es fs after last) none (one.told s)));
+            (subst (λ (x : Segment T). ReportedOne (reads s meant path) x step None t u qs rs es fs after last) (sym b.1)
+            (subst (λ (o : Option (ℕ × List ℕ)). ReportedOne (reads s meant path) one.left step o t u qs rs es fs after last) none (one.reported s)));
       }
 
   pub all_ranged : (first end : ℕ) (puts qs : List Put) (ts us : List S) (ds es : List (DeedValue S)) (before after : List PrintValue)
@@ -169,8 +169,8 @@ module _ {S T : Type 0} (f : Frame T) (may : T → List (List ℕ × List ℤ) �
   fault_ranged law first place end puts qs rs ts tasks us ds es fs shown after last t u fault x h lt g one is =
       let n = next_is h.now h.back tasks place t h.is h.same lt g in
       let e : Entry T = record { task = meant t; left = one.left } in
-      let told : (s : Says T) → ToldOne (reads s meant path) one.left step (Some x) t u qs rs es fs after last =
-      λ s. subst (λ (o : Option (ℕ × List ℕ)). ToldOne (reads s meant path) one.left step o t u qs rs es fs after last) is (one.told s) in
+      let reported : (s : Says T) → ReportedOne (reads s meant path) one.left step (Some x) t u qs rs es fs after last =
+      λ s. subst (λ (o : Option (ℕ × List ℕ)). ReportedOne (reads s meant path) one.left step o t u qs rs es fs after last) is (one.reported s) in
       record {
         entries = h.entries ++ e ∷ [];
         allowed = allowed_more f may arrays step h.entries e h.allowed one.allowed one.formed;
@@ -185,12 +185,12 @@ module _ {S T : Type 0} (f : Frame T) (may : T → List (List ℕ × List ℤ) �
             ap first_fault (segments_more h.entries e)
             ∙ first_none (segments_in f h.entries) ((f.path e.task, e.left) ∷ []) h.calm
             ∙ ap (λ (p : List ℕ). first_fault ((p, one.left) ∷ [])) (law t)
-            ∙ (told (says_in f 0 [])).1 ∙ k;
+            ∙ (reported (says_in f 0 [])).1 ∙ k;
         calm = λ k. absurd (some_none x k);
         further = λ s a.
             let b = agrees_front s arrays step h.entries e a in
             faults_further (reads s meant path) arrays step first place end puts qs rs ts tasks us ds es fs shown after last t u x (h.further s b.0) lt g
-            (subst (λ (w : Segment T). ToldOne (reads s meant path) w step (Some x) t u qs rs es fs after last) (sym b.1) (told s));
+            (subst (λ (w : Segment T). ReportedOne (reads s meant path) w step (Some x) t u qs rs es fs after last) (sym b.1) (reported s));
       }
     where
       some_none : (y : ℕ × List ℕ) → Some y ≡ None → ⊥
@@ -210,7 +210,7 @@ module _ {S T : Type 0} (f : Frame T) (may : T → List (List ℕ × List ℤ) �
           ∙ map_append h.done h.back ∙ ap (λ (xs : List T). xs ++ map meant h.back) (sym h.tasks);
       whole = by fault h.whole h.faults;
     };
-    told = λ s a.
+    reported = λ s a.
         come_all (reads s meant path) arrays step ts fault end qs us es before after
         (h.further s a ts before (none_done (reads s meant path) arrays step ts puts ds before none_put none_done_yet)) (omega (arith, all, same));
   }

@@ -10,7 +10,7 @@ use Rattle.phase_records.specs.ReportValue.{ReportValue}
 use Rattle.phase_records.specs.Status.{Status, Fault, Ended, Limit}
 use Rattle.programs.specs.Meaning.{Segment, Frame, children}
 use Rattle.programs.specs.Superstep.{State, superstep, segments, fault_in}
-use Rattle.programs.specs.Supersteps.{so_far, status, status_of, told}
+use Rattle.programs.specs.Supersteps.{so_far, status, status_of, report_with}
 use Rattle.programs.specs.History.{living_after, Entry, says_in, says_by, IsEntered, OfState, HasRun, HasRunTo}
 use Rattle.programs.specs.Order.{AreOrdered}
 use Rattle.programs.specs.Steps.{StepsValue, begun, ended, IsRunning, left_by, state_in, live_after, as_kept, HasStepped}
@@ -255,7 +255,7 @@ module _ {S T : Type 0} (f : Frame T) (may : T → List (List ℕ × List ℤ) �
         entered = h.entered;
         ended = over;
         report =
-            ap (λ (x : State T). told x (status limit x)) (sym last) ∙ ap (told st) over
+            ap (λ (x : State T). report_with x (status limit x)) (sym last) ∙ ap (report_with st) over
             ∙ sym (λ i. Some (record { prints = (h.state i).prints; records = (h.state i).records; arrays = (h.state i).arrays; status = s }));
         at_end = living_kept limit st.step st.fault st.live s over ∙ ap (λ (x : State T). x.live) (sym h.state);
       }
@@ -292,7 +292,7 @@ module _ {S T : Type 0} (f : Frame T) (may : T → List (List ℕ × List ℤ) �
           entered = λ n lt. subst (λ st. IsEntered f may st (get_or h.history n [])) (sym (same n (omega (arith, lt, k)))) (h.entered n lt);
           ended = over;
           report =
-              ap (λ (x : State T). told x (status v.step x)) (sym last) ∙ ap (told (so_far s arrays tasks v.step (length h.history))) over
+              ap (λ (x : State T). report_with x (status v.step x)) (sym last) ∙ ap (report_with (so_far s arrays tasks v.step (length h.history))) over
               ∙ sym (λ i. Some (record { prints = (state i).prints; records = (state i).records; arrays = (state i).arrays; status = Limit v.step }));
           at_end = ap (λ (x : State T). x.live) (sym state);
         };

@@ -7,7 +7,7 @@ use Rattle.phase_records.specs.declared.record.PhaseRecord.{PhaseRecord}
 use Rattle.phase_records.specs.Status.{Status}
 use Rattle.programs.specs.Meaning.{Segment, Frame, Says}
 use Rattle.programs.specs.Superstep.{State, superstep, closed, segments, fault_in, prints_of, record_of}
-use Rattle.programs.specs.Supersteps.{so_far, status, told, report_of}
+use Rattle.programs.specs.Supersteps.{so_far, status, report_with, report_of}
 use Rattle.programs.specs.History.{says_in, says_of}
 use Rattle.programs.specs.Steps.{StepsValue, begun, ended, IsRunning, state_in, as_kept, HasStepped, with_taken, IsSoFar}
 use Rattle.programs.proofs.Exactly.{step_same}
@@ -75,13 +75,13 @@ module _ {S T : Type 0} (s : Says T) (arrays : List (List ℕ × List ℤ)) (tas
   }
 
   -- the report of a run that has ended
-  pub so_far_told : {n : ℕ} {ps : List PrintValue} {rs : List PhaseRecord} {v : StepsValue S} (end : Status) → IsSoFar s arrays tasks n meant ps rs v → ended v ≡ Some end
+  pub so_far_reported : {n : ℕ} {ps : List PrintValue} {rs : List PhaseRecord} {v : StepsValue S} (end : Status) → IsSoFar s arrays tasks n meant ps rs v → ended v ≡ Some end
       → report_of s arrays tasks v.limit ≡ Some (record { prints = ps ++ v.prints; records = rs ++ v.records; arrays = v.arrays; status = end })
-  so_far_told {n} {ps} {rs} {v} end h e =
+  so_far_reported {n} {ps} {rs} {v} end h e =
       let st = so_far s arrays tasks v.limit n in
       let over = so_far_ended h ∙ e in
       let last = ended_is_last s arrays tasks v.limit n end over in
-      ap (λ (x : State T). told x (status v.limit x)) (sym last) ∙ ap (told st) over
+      ap (λ (x : State T). report_with x (status v.limit x)) (sym last) ∙ ap (report_with st) over
       ∙ sym (λ i. Some (record { prints = (h.state i).prints; records = (h.state i).records; arrays = (h.state i).arrays; status = end }))
 
 module _ {S T : Type 0} (f : Frame T) (may : T → List (List ℕ × List ℤ) → ℕ → Segment T → Type 0) (most : ℕ) (does : T → List (List ℕ × List ℤ) → ℕ → Segment T)

@@ -6,7 +6,7 @@ use Rattle.programs.specs.Meaning.{Segment, Frame, Says, IsFormed}
 use Rattle.programs.specs.Reads.{reads}
 use Rattle.programs.specs.DeedValue.{DeedValue}
 use Rattle.programs.specs.Superstep.{first_fault}
-use Rattle.programs.specs.InPlace.{ToldOne, IsFurther, Told, deeds_of}
+use Rattle.programs.specs.InPlace.{ReportedOne, IsFurther, Reported, deeds_of}
 use Rattle.programs.specs.History.{Entry, AllAllowed, AreOf, segments_in}
 
 module _ {T : Type 0} where
@@ -21,7 +21,7 @@ module _ {S T : Type 0} where
     pub left : Segment T
     pub allowed : may (meant t) arrays step left
     pub formed : IsFormed f (meant t) left
-    pub told : (s : Says T) → ToldOne (reads s meant path) left step fault t u puts qs ds es before after
+    pub reported : (s : Says T) → ReportedOne (reads s meant path) left step fault t u puts qs ds es before after
 
   -- the tasks from one place to another did theirs, or those up to the first fault
   pub record HasDoneRange (f : Frame T) (may : T → List (List ℕ × List ℤ) → ℕ → Segment T → Type 0) (meant : S → T) (path : S → List ℕ) (arrays : List (List ℕ × List ℤ)) (step : ℕ) (fault : Option (ℕ × List ℕ)) (first end : ℕ) (puts qs : List Put) (ts us : List S) (ds es : List (DeedValue S)) (before after : List PrintValue) : Type 0 where
@@ -43,5 +43,5 @@ module _ {S T : Type 0} where
     pub entries : List (Entry T)
     pub allowed : AllAllowed f may arrays step entries
     pub tasks : AreOf f (map meant ts) entries
-    pub told : (s : Says T) → Agrees s arrays step entries
-        → Told (reads s meant path) (deeds_of (reads s meant path) arrays step ts) step fault puts us ds before after
+    pub reported : (s : Says T) → Agrees s arrays step entries
+        → Reported (reads s meant path) (deeds_of (reads s meant path) arrays step ts) step fault puts us ds before after

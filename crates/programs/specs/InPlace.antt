@@ -25,10 +25,10 @@ at_path path code = (code, path)
 
 module _ {S T : Type 0} where
   -- nobody faulted: the puts, prints and the deed follow the others'; or the fault is reported
-  abbrev pub ToldOne : Reads S T → Segment T → ℕ → Option (ℕ × List ℕ) → S → S → List Put → List Put → List (DeedValue S) → List (DeedValue S) → List PrintValue → List PrintValue → Type 0
-  ToldOne ps g step (Some f) t u puts qs ds es before after =
+  abbrev pub ReportedOne : Reads S T → Segment T → ℕ → Option (ℕ × List ℕ) → S → S → List Put → List Put → List (DeedValue S) → List (DeedValue S) → List PrintValue → List PrintValue → Type 0
+  ReportedOne ps g step (Some f) t u puts qs ds es before after =
       (after ≡ before) × (first_fault ((ps.path t, g) ∷ []) ≡ Some f)
-  ToldOne ps g step None t u puts qs ds es before after =
+  ReportedOne ps g step None t u puts qs ds es before after =
       (qs ≡ puts ++ g.puts) × (after ≡ before ++ map (print_of step (ps.path t)) g.prints) × (ps.path u ≡ ps.path t)
       × ((d : DeedValue S) × (es ≡ ds ++ d ∷ []) × IsDeed ps u d g)
 
@@ -72,12 +72,12 @@ module _ {S T : Type 0} where
     pub done : AllDone ps us ds ss
 
   -- all that the tasks did, or the first fault, by path; what was printed before stays
-  abbrev pub Told : Reads S T → List (List ℕ × Segment T) → ℕ → Option (ℕ × List ℕ) → List Put → List S → List (DeedValue S) → List PrintValue → List PrintValue → Type 0
-  Told ps ss step (Some f) puts us ds before after = (first_fault ss ≡ Some f) × ((more : List PrintValue) × (after ≡ before ++ more))
-  Told ps ss step None puts us ds before after = IsAllDone ps ss step puts us ds before after
+  abbrev pub Reported : Reads S T → List (List ℕ × Segment T) → ℕ → Option (ℕ × List ℕ) → List Put → List S → List (DeedValue S) → List PrintValue → List PrintValue → Type 0
+  Reported ps ss step (Some f) puts us ds before after = (first_fault ss ≡ Some f) × ((more : List PrintValue) × (after ≡ before ++ more))
+  Reported ps ss step None puts us ds before after = IsAllDone ps ss step puts us ds before after
 
-abbrev pub told_at : List ℕ → ℕ × List ℕ
-told_at path = (8, path)
+abbrev pub overflow_at : List ℕ → ℕ × List ℕ
+overflow_at path = (8, path)
 
 module _ {S : Type 0} where
   -- the path of the task whose put is at this place of the log
@@ -117,5 +117,5 @@ module _ {S : Type 0} where
   made_in (d ∷ ds) = d.puts + made_in ds
 
   -- the record of a superstep in which tasks did this
-  abbrev pub told_in : ℕ → List (DeedValue S) → PhaseRecord
-  told_in step ds = record { phase = step; parties = length ds + spawned_in ds; left = left_in ds; spawned = spawned_in ds }
+  abbrev pub record_in : ℕ → List (DeedValue S) → PhaseRecord
+  record_in step ds = record { phase = step; parties = length ds + spawned_in ds; left = left_in ds; spawned = spawned_in ds }

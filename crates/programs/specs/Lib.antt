@@ -8,7 +8,7 @@ pub mod InPlace
 pub mod DeedLists
 pub mod DeedsView
 pub mod Regroup
-pub mod Course
+pub mod RunState
 pub mod History
 pub mod Done
 pub mod Changes

@@ -6,7 +6,7 @@ ghost use Rattle.superstep_memory.specs.Paths.{is_rising};
 ghost use Rattle.superstep_memory.specs.PathOrder.{in_path_order};
 ghost use Rattle.programs.specs.Regroup.{AreNumbered, IsBefore, AreWithin, AreStrays, IsNextAfter, IsNextOutside, IsBeforeNext, HasMoved, HasMovedWithin, HasMovedEarly, HasPut};
 ghost use Rattle.programs.specs.DeedsView.{deeds_with, spawned_by, stopped_by, made_by, behind};
-ghost use Rattle.programs.specs.InPlace.{one_left, told_at, told_in, maker, kept, living_with, left_in, spawned_in, made_in};
+ghost use Rattle.programs.specs.InPlace.{one_left, overflow_at, record_in, maker, kept, living_with, left_in, spawned_in, made_in};
 
 use crate::blame::{Blame, overflowed};
 use crate::deed_list::{Deed, DeedList, LastDeeds};
@@ -62,7 +62,7 @@ impl<T: OnPath> Regrouping<T> {
     /// Empties the lists. Makes room for `count` living tasks and for `spawned` waiting ones.
     pub fn reserve(&mut self, count: usize, spawned: usize) -> Result<(), AllocError>
         ensures empty { (self.new.living.items ≡ []) × (self.new.waiting.items ≡ []) }
-        ensures room { OnOk result ((count ≤ vec_capacity self.new.living) × (spawned ≤ vec_capacity self.new.waiting)) }
+        ensures capacity { OnOk result ((count ≤ vec_capacity self.new.living) × (spawned ≤ vec_capacity self.new.waiting)) }
         ensures full { OnErr result ((vec_capacity self.old.living < count) ⊎ (vec_capacity self.old.waiting < spawned)) }
     {
         self.living.clear();
@@ -74,10 +74,10 @@ impl<T: OnPath> Regrouping<T> {
 
 // Moves the tasks that wait and don't come after this path, the first by path first.
 fn move_before<T: OnPath>(living: &mut Vec<T>, waiting: &mut Vec<T>, path: &[u16])
-    requires room { vec_len living.old + vec_len waiting.old ≤ vec_capacity living.old }
+    requires capacity { vec_len living.old + vec_len waiting.old ≤ vec_capacity living.old }
     ensures moved { HasMoved T.path_of path.now living.old.items living.new.items (reverse waiting.old.items) (reverse waiting.new.items) }
     ensures rest { IsNextAfter T.path_of path.now (reverse waiting.new.items) }
-    ensures room { (vec_capacity living.new ≡ vec_capacity living.old) × (vec_capacity waiting.new ≡ vec_capacity waiting.old) }
+    ensures capacity { (vec_capacity living.new ≡ vec_capacity living.old) × (vec_capacity waiting.new ≡ vec_capacity waiting.old) }
     ensures count { vec_len living.new + vec_len waiting.new ≡ vec_len living.old + vec_len waiting.old }
 {
     while let Some(first) = waiting.last() {
@@ -93,7 +93,7 @@ fn move_before<T: OnPath>(living: &mut Vec<T>, waiting: &mut Vec<T>, path: &[u16
 
 // Moves all tasks that wait, the first by path first.
 fn move_all<T: OnPath>(living: &mut Vec<T>, waiting: &mut Vec<T>)
-    requires room { vec_len living.old + vec_len waiting.old ≤ vec_capacity living.old }
+    requires capacity { vec_len living.old + vec_len waiting.old ≤ vec_capacity living.old }
     ensures moved { living.new.items ≡ living.old.items ++ reverse waiting.old.items }
     ensures none { waiting.new.items ≡ [] }
 {
@@ -104,7 +104,7 @@ fn move_all<T: OnPath>(living: &mut Vec<T>, waiting: &mut Vec<T>)
 
 // Moves the tasks that wait and don't come after the bound, the first by path first; with no bound, all of them.
 fn move_within<T: OnPath>(living: &mut Vec<T>, waiting: &mut Vec<T>, bound: &Option<Path>)
-    requires room { vec_len living.old + vec_len waiting.old ≤ vec_capacity living.old }
+    requires capacity { vec_len living.old + vec_len waiting.old ≤ vec_capacity living.old }
     ensures moved { HasMovedWithin T.path_of (option_map (λ p. p.items) bound.now) living.old.items living.new.items (reverse waiting.old.items) (reverse waiting.new.items) }
     ensures rest { IsNextOutside T.path_of (option_map (λ p. p.items) bound.now) (reverse waiting.new.items) }
 {
@@ -117,10 +117,10 @@ fn move_within<T: OnPath>(living: &mut Vec<T>, waiting: &mut Vec<T>, bound: &Opt
 // Lets the last `count` tasks of a list wait, the last one first.
 fn let_wait<T: OnPath>(waiting: &mut Vec<T>, spawns: &mut Vec<T>, count: usize)
     requires enough { count ≤ length spawns.old.items }
-    requires room { vec_len waiting.old + count ≤ vec_capacity waiting.old }
+    requires capacity { vec_len waiting.old + count ≤ vec_capacity waiting.old }
     ensures waiting { reverse waiting.new.items ≡ take count (reverse spawns.old.items) ++ reverse waiting.old.items }
     ensures rest { reverse spawns.new.items ≡ behind count (reverse spawns.old.items) }
-    ensures room { vec_capacity waiting.new ≡ vec_capacity waiting.old }
+    ensures capacity { vec_capacity waiting.new ≡ vec_capacity waiting.old }
     ensures count { vec_len waiting.new ≡ vec_len waiting.old + count }
 {
     let from = waiting.len();
@@ -166,11 +166,11 @@ fn move_early<T: OnPath>(
     bound: &Option<Path>,
 ) -> usize
     requires enough { count ≤ length spawns.old.items }
-    requires room { vec_len living.old + count ≤ vec_capacity living.old }
+    requires capacity { vec_len living.old + count ≤ vec_capacity living.old }
     ensures moved { HasMovedEarly T.path_of (option_map (λ p. p.items) bound.now) (reverse tasks.now) living.old.items living.new.items (reverse spawns.old.items) (reverse spawns.new.items) (count - result) }
     ensures left { result ≤ count }
     ensures enough { result ≤ length spawns.new.items }
-    ensures room { vec_capacity living.new ≡ vec_capacity living.old }
+    ensures capacity { vec_capacity living.new ≡ vec_capacity living.old }
     ensures count { vec_len living.new + result ≡ vec_len living.old + count }
 {
     let mut left = count;
@@ -192,9 +192,9 @@ fn move_early<T: OnPath>(
 
 // Appends a task, if it goes on.
 fn push_kept<T: OnPath>(living: &mut Vec<T>, task: T, synced: bool)
-    requires room { vec_len living.old + length (kept synced task) ≤ vec_capacity living.old }
+    requires capacity { vec_len living.old + length (kept synced task) ≤ vec_capacity living.old }
     ensures items { living.new.items ≡ living.old.items ++ kept synced task }
-    ensures room { vec_capacity living.new ≡ vec_capacity living.old }
+    ensures capacity { vec_capacity living.new ≡ vec_capacity living.old }
     ensures count { vec_len living.new ≡ vec_len living.old + length (kept synced task) }
 {
     if synced {
@@ -214,11 +214,11 @@ fn put_next<T: OnPath>(
     bound: &Option<Path>,
 )
     requires enough { deed.spawned ≤ length spawns.old.items }
-    requires room { vec_len living.old + vec_len waiting.old + (length (kept deed.synced task) + deed.spawned) ≤ vec_capacity living.old }
+    requires capacity { vec_len living.old + vec_len waiting.old + (length (kept deed.synced task) + deed.spawned) ≤ vec_capacity living.old }
     requires wait { vec_len waiting.old + deed.spawned ≤ vec_capacity waiting.old }
     ensures put { HasPut T.path_of (option_map (λ p. p.items) bound.now) task deed.synced (reverse tasks.now) (take deed.spawned (reverse spawns.old.items)) living.old.items living.new.items (reverse waiting.old.items) (reverse waiting.new.items) }
     ensures rest { reverse spawns.new.items ≡ behind deed.spawned (reverse spawns.old.items) }
-    ensures room { (vec_capacity living.new ≡ vec_capacity living.old) × (vec_capacity waiting.new ≡ vec_capacity waiting.old) }
+    ensures capacity { (vec_capacity living.new ≡ vec_capacity living.old) × (vec_capacity waiting.new ≡ vec_capacity waiting.old) }
     ensures count { vec_len living.new + vec_len waiting.new ≡ vec_len living.old + vec_len waiting.old + (length (kept deed.synced task) + deed.spawned) }
     ensures wait { vec_len waiting.new ≤ vec_len waiting.old + deed.spawned }
 {
@@ -243,7 +243,7 @@ fn put_in_order<T: OnPath>(
     requires same { length tasks.old.items ≡ length each }
     requires all { spawned_by each ≡ length spawns.old.items }
     requires none_yet { (living.old.items ≡ []) × (waiting.old.items ≡ []) }
-    requires room { length (living_with (reverse tasks.old.items) (deeds_with each (reverse spawns.old.items))) ≤ vec_capacity living.old }
+    requires capacity { length (living_with (reverse tasks.old.items) (deeds_with each (reverse spawns.old.items))) ≤ vec_capacity living.old }
     requires wait { length spawns.old.items ≤ vec_capacity waiting.old }
     requires rising { is_rising (map T.path_of (reverse tasks.old.items)) ≡ true }
     requires numbered { AreNumbered T.path_of (reverse tasks.old.items) (deeds_with each (reverse spawns.old.items)) }
@@ -342,7 +342,7 @@ impl<T: OnPath> Deeds<T> {
 
     /// Returns the fault of the task whose put is at this place of the log. `None` if fewer were made.
     pub fn blame_at(&self, tasks: &[T], place: usize) -> Option<Blame>
-        ensures { result ≡ option_map told_at (maker T.path_of tasks.now self.now place) }
+        ensures { result ≡ option_map overflow_at (maker T.path_of tasks.now self.now place) }
     {
         let mut left = place;
         let mut rest = self.each.all();
@@ -378,7 +378,7 @@ impl<T: OnPath> Deeds<T> {
     /// Returns the record of the superstep in which tasks did this.
     pub fn record(&self, step: u32) -> PhaseRecord
         requires { length self.now + spawned_in self.now < 2 ^ 32 }
-        ensures { result ≡ told_in step self.now }
+        ensures { result ≡ record_in step self.now }
     {
         let left = self.stopped as u32;
         let count = self.each.len() as u32;
@@ -396,7 +396,7 @@ impl<T: OnPath> Deeds<T> {
     pub fn regroup(
         &mut self,
         tasks: &mut Vec<T>,
-        room: &mut Regrouping<T>,
+        spare: &mut Regrouping<T>,
         count: usize,
     ) -> Result<(), AllocError>
         requires same { length tasks.old.items ≡ length self.old }
@@ -404,10 +404,10 @@ impl<T: OnPath> Deeds<T> {
         requires rising { is_rising (map T.path_of tasks.old.items) ≡ true }
         requires numbered { AreNumbered T.path_of tasks.old.items self.old }
         ensures tasks { OnOk result (tasks.new.items ≡ in_path_order T.path_of (living_with tasks.old.items self.old)) }
-        ensures full { OnErr result ((vec_capacity room.old.living < count) ⊎ (vec_capacity room.old.waiting < spawned_in self.old)) }
+        ensures full { OnErr result ((vec_capacity spare.old.living < count) ⊎ (vec_capacity spare.old.waiting < spawned_in self.old)) }
         ensures memory { OnErr result ((self.new ≡ self.old) × (tasks.new.items ≡ tasks.old.items)) }
     {
-        self.regroup_within(tasks, room, count, &None)
+        self.regroup_within(tasks, spare, count, &None)
     }
 
     /// Does what `regroup` does, for tasks that are followed by others, the first of which has the path `bound`. Leaves the
@@ -416,7 +416,7 @@ impl<T: OnPath> Deeds<T> {
     pub fn regroup_within(
         &mut self,
         tasks: &mut Vec<T>,
-        room: &mut Regrouping<T>,
+        spare: &mut Regrouping<T>,
         count: usize,
         bound: &Option<Path>,
     ) -> Result<(), AllocError>
@@ -424,28 +424,28 @@ impl<T: OnPath> Deeds<T> {
         requires count { length (living_with tasks.old.items self.old) ≤ count }
         requires rising { is_rising (map T.path_of tasks.old.items) ≡ true }
         requires numbered { AreNumbered T.path_of tasks.old.items self.old }
-        ensures tasks { OnOk result (tasks.new.items ++ reverse room.new.waiting.items ≡ in_path_order T.path_of (living_with tasks.old.items self.old)) }
-        ensures strays { OnOk result (AreStrays T.path_of (option_map (λ p. p.items) bound.now) (reverse room.new.waiting.items)) }
+        ensures tasks { OnOk result (tasks.new.items ++ reverse spare.new.waiting.items ≡ in_path_order T.path_of (living_with tasks.old.items self.old)) }
+        ensures strays { OnOk result (AreStrays T.path_of (option_map (λ p. p.items) bound.now) (reverse spare.new.waiting.items)) }
         ensures within { OnOk result (AreWithin T.path_of (option_map (λ p. p.items) bound.now) tasks.old.items → AreWithin T.path_of (option_map (λ p. p.items) bound.now) tasks.new.items) }
         ensures none_left { OnOk result (self.new ≡ []) }
-        ensures no_strays { OnErr result (room.new.waiting.items ≡ []) }
-        ensures full { OnErr result ((vec_capacity room.old.living < count) ⊎ (vec_capacity room.old.waiting < spawned_in self.old)) }
+        ensures no_strays { OnErr result (spare.new.waiting.items ≡ []) }
+        ensures full { OnErr result ((vec_capacity spare.old.living < count) ⊎ (vec_capacity spare.old.waiting < spawned_in self.old)) }
         ensures memory { OnErr result ((self.new ≡ self.old) × (tasks.new.items ≡ tasks.old.items)) }
     {
-        room.reserve(count, self.spawns.len())?;
+        spare.reserve(count, self.spawns.len())?;
         tasks.reverse();
         self.spawns.reverse();
         put_in_order(
             tasks,
             self.each.all(),
             &mut self.spawns,
-            &mut room.living,
-            &mut room.waiting,
+            &mut spare.living,
+            &mut spare.waiting,
             bound,
         );
         self.each.clear();
         self.stopped = 0;
-        std::mem::swap(&mut room.living, tasks);
+        std::mem::swap(&mut spare.living, tasks);
         Ok(())
     }
 }

@@ -9,7 +9,7 @@ ghost use Rattle.programs.specs.Done.{HasDoneOne, HasDoneRange, HasDoneAll};
 use crate::blame::{Blame, push_prints, task_path};
 use crate::deeds::Deeds;
 use crate::program::{OnPath, Program, TaskLoop};
-use crate::work::{Ending, Work};
+use crate::work::{SegmentEnd, Work};
 use phase_records::Print;
 use std::alloc::{AllocError, Global};
 use superstep_memory::arrays::Arrays;
@@ -33,7 +33,7 @@ fn do_task<P: Program>(
     scene: &StepScene<'_, P>,
     task: &mut P::Task,
     work: &mut Work<P::Task>,
-) -> Result<Ending, AllocError>
+) -> Result<SegmentEnd, AllocError>
     requires ready { P.ready scene.now.program.now }
     requires none_printed { work.old.prints.items ≡ [] }
     requires none_spawned { work.old.spawns.items ≡ [] }
@@ -98,24 +98,24 @@ fn do_one<P: Program>(
     requires logged { logged.old ≡ length work.old.puts }
     requires none_printed { work.old.prints.items ≡ [] }
     requires none_spawned { work.old.spawns.items ≡ [] }
-    ensures told { IfOk result (λ fault. let p = scene.now.program.now in
+    ensures reported { IfOk result (λ fault. let p = scene.now.program.now in
         HasDoneOne (P.frame p) (P.may p) (P.meant p) P.Task.path_of scene.now.arrays.now scene.now.step (option_map (at_path (P.Task.path_of task.new)) fault) task.old task.new
         work.old.puts work.new.puts deeds.old deeds.new prints.old.items prints.new.items) }
     ensures emptied { IfOk result (λ fault. fault ≡ None → (work.new.prints.items ≡ []) × (work.new.spawns.items ≡ [])) }
     ensures logged { IfOk result (λ fault. fault ≡ None → logged.new ≡ length work.new.puts) }
 {
     match do_task(alloc, scene, task, work)? {
-        Ending::Stays => {
+        SegmentEnd::Stays => {
             let puts = made(work, logged);
             keep(scene.step, task, true, puts, work, deeds, prints)?;
             Ok(None)
         }
-        Ending::Stops => {
+        SegmentEnd::Stops => {
             let puts = made(work, logged);
             keep(scene.step, task, false, puts, work, deeds, prints)?;
             Ok(None)
         }
-        Ending::Fails(code) => Ok(Some(code)),
+        SegmentEnd::Fails(code) => Ok(Some(code)),
     }
 }
 
@@ -153,8 +153,8 @@ pub fn do_range<P: Program>(
     let mut logged = work.puts.len();
     while place < end {
         let task = &mut tasks[place];
-        let told = do_one(alloc, &own, task, &mut logged, work, deeds, prints)?;
-        match told {
+        let reported = do_one(alloc, &own, task, &mut logged, work, deeds, prints)?;
+        match reported {
             Some(code) => {
                 let path = task_path(task);
                 return Ok(Some(Blame { code, path }));
@@ -183,7 +183,7 @@ pub fn do_all<P: TaskLoop>(
         fault work.new.puts tasks.old.items tasks.new.items deeds.new prints.old.items prints.new.items) }
 {
     let end = tasks.len();
-    let told = scene.program.segments(
+    let reported = scene.program.segments(
         alloc,
         scene.arrays,
         scene.step,
@@ -194,5 +194,5 @@ pub fn do_all<P: TaskLoop>(
         deeds,
         prints,
     )?;
-    Ok(told)
+    Ok(reported)
 }

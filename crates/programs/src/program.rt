@@ -6,7 +6,7 @@ ghost use Rattle.programs.specs.Done.{HasDoneRange};
 
 use crate::blame::Blame;
 use crate::deeds::Deeds;
-use crate::work::{Ending, Work};
+use crate::work::{SegmentEnd, Work};
 use phase_records::Print;
 use std::alloc::{AllocError, Global};
 use superstep_memory::arrays::Arrays;
@@ -52,7 +52,7 @@ pub trait Program {
         arrays: &Arrays,
         step: u32,
         work: &mut Work<Self::Task>,
-    ) -> Result<Ending, AllocError>
+    ) -> Result<SegmentEnd, AllocError>
         requires ready { ready self.now }
         requires none_printed { work.old.prints.items ≡ [] }
         requires none_spawned { work.old.spawns.items ≡ [] }

@@ -7,7 +7,7 @@ ghost use Rattle.phase_records.specs.Status.{IsShort};
 ghost use Rattle.phase_records.specs.StatusSeen.{status_seen};
 ghost use Rattle.programs.specs.InPlace.{living_with, left_in, spawned_in};
 ghost use Rattle.programs.specs.Regroup.{AreNumbered};
-ghost use Rattle.programs.specs.Course.{HasTaken, HasRoom};
+ghost use Rattle.programs.specs.RunState.{HasTaken, HasRoom};
 
 use crate::alone::Ran;
 use crate::blame::{Blame, too_many};
@@ -25,7 +25,7 @@ use superstep_memory::puts::Puts;
 
 // A run between two supersteps, its live tasks in path order.
 #[derive(Drop)]
-struct Course<T> {
+struct RunState<T> {
     step: u32,
     arrays: Arrays,
     tasks: Vec<T>,
@@ -38,7 +38,7 @@ struct Course<T> {
 struct Space<T> {
     work: Work<T>,
     deeds: Deeds<T>,
-    room: Regrouping<T>,
+    spare: Regrouping<T>,
     olds: Vec<i64>,
 }
 
@@ -53,83 +53,88 @@ fn no_space<T: OnPath>(alloc: Global) -> Space<T> {
             effort: 0,
         },
         deeds: Deeds::new(alloc),
-        room: Regrouping::new(alloc),
+        spare: Regrouping::new(alloc),
         olds: Vec::new(alloc),
     }
 }
 
 // Returns true if the same tasks live on.
-fn all_stay(told: PhaseRecord) -> bool
-    ensures { IsTrue result ↔ ((told.left ≡ 0) × (told.spawned ≡ 0)) }
+fn all_stay(counts: PhaseRecord) -> bool
+    ensures { IsTrue result ↔ ((counts.left ≡ 0) × (counts.spawned ≡ 0)) }
 {
-    told.left == 0 && told.spawned == 0
+    counts.left == 0 && counts.spawned == 0
 }
 
 // Makes room for the record of a superstep, and for the next live tasks if tasks came or left.
 fn make_room<T: OnPath>(
     records: &mut Vec<PhaseRecord>,
-    room: &mut Regrouping<T>,
-    told: PhaseRecord,
+    spare: &mut Regrouping<T>,
+    counts: PhaseRecord,
 ) -> Result<(), AllocError>
-    requires some { told.left ≤ told.parties }
+    requires some { counts.left ≤ counts.parties }
     ensures same { records.new.items ≡ records.old.items }
     ensures record { OnOk result (vec_len records.new < vec_capacity records.new) }
-    ensures room { OnOk result (HasRoom told (vec_capacity room.new.living) (vec_capacity room.new.waiting)) }
+    ensures capacity { OnOk result (HasRoom counts (vec_capacity spare.new.living) (vec_capacity spare.new.waiting)) }
 {
     records.reserve(1)?;
-    if all_stay(told) {
+    if all_stay(counts) {
         return Ok(());
     }
-    let count = (told.parties - told.left) as usize;
-    room.reserve(count, told.spawned as usize)
+    let count = (counts.parties - counts.left) as usize;
+    spare.reserve(count, counts.spawned as usize)
 }
 
 // Replaces the tasks by those that live on. Moves them only if tasks came or left. Doesn't allocate.
 fn renew<T: OnPath>(
     tasks: &mut Vec<T>,
     deeds: &mut Deeds<T>,
-    room: &mut Regrouping<T>,
-    told: PhaseRecord,
+    spare: &mut Regrouping<T>,
+    counts: PhaseRecord,
 )
     requires same { length tasks.old.items ≡ length deeds.old }
-    requires left { told.left ≡ left_in deeds.old }
-    requires spawned { told.spawned ≡ spawned_in deeds.old }
-    requires count { length (living_with tasks.old.items deeds.old) + told.left ≡ told.parties }
+    requires left { counts.left ≡ left_in deeds.old }
+    requires spawned { counts.spawned ≡ spawned_in deeds.old }
+    requires count { length (living_with tasks.old.items deeds.old) + counts.left ≡ counts.parties }
     requires rising { is_rising (map T.path_of tasks.old.items) ≡ true }
     requires numbered { AreNumbered T.path_of tasks.old.items deeds.old }
-    requires room { HasRoom told (vec_capacity room.old.living) (vec_capacity room.old.waiting) }
+    requires capacity { HasRoom counts (vec_capacity spare.old.living) (vec_capacity spare.old.waiting) }
     ensures { tasks.new.items ≡ in_path_order T.path_of (living_with tasks.old.items deeds.old) }
 {
-    if all_stay(told) {
+    if all_stay(counts) {
         return;
     }
-    let count = (told.parties - told.left) as usize;
-    match deeds.regroup(tasks, room, count) {
+    let count = (counts.parties - counts.left) as usize;
+    match deeds.regroup(tasks, spare, count) {
         Ok(()) => {}
         Err(_) => unreachable!(),
     }
 }
 
 // Records what the tasks did, whose log has landed, and goes on to the next live tasks. Doesn't allocate.
-fn go_on<T: OnPath>(course: &mut Course<T>, space: &mut Space<T>, told: PhaseRecord)
-    requires same { length course.old.tasks.items ≡ length space.old.deeds }
-    requires left { told.left ≡ left_in space.old.deeds }
-    requires spawned { told.spawned ≡ spawned_in space.old.deeds }
-    requires count { length (living_with course.old.tasks.items space.old.deeds) + told.left ≡ told.parties }
-    requires rising { is_rising (map T.path_of course.old.tasks.items) ≡ true }
-    requires numbered { AreNumbered T.path_of course.old.tasks.items space.old.deeds }
-    requires below { course.old.step + 1 < 2 ^ 32 }
-    requires record { vec_len course.old.records < vec_capacity course.old.records }
-    requires room { HasRoom told (vec_capacity space.old.room.living) (vec_capacity space.old.room.waiting) }
-    ensures step { course.new.step ≡ course.old.step + 1 }
-    ensures arrays { course.new.arrays ≡ course.old.arrays }
-    ensures tasks { course.new.tasks.items ≡ in_path_order T.path_of (living_with course.old.tasks.items space.old.deeds) }
-    ensures prints { course.new.prints.items ≡ course.old.prints.items }
-    ensures records { course.new.records.items ≡ course.old.records.items ++ told ∷ [] }
+fn go_on<T: OnPath>(run_state: &mut RunState<T>, space: &mut Space<T>, counts: PhaseRecord)
+    requires same { length run_state.old.tasks.items ≡ length space.old.deeds }
+    requires left { counts.left ≡ left_in space.old.deeds }
+    requires spawned { counts.spawned ≡ spawned_in space.old.deeds }
+    requires count { length (living_with run_state.old.tasks.items space.old.deeds) + counts.left ≡ counts.parties }
+    requires rising { is_rising (map T.path_of run_state.old.tasks.items) ≡ true }
+    requires numbered { AreNumbered T.path_of run_state.old.tasks.items space.old.deeds }
+    requires below { run_state.old.step + 1 < 2 ^ 32 }
+    requires record { vec_len run_state.old.records < vec_capacity run_state.old.records }
+    requires capacity { HasRoom counts (vec_capacity space.old.spare.living) (vec_capacity space.old.spare.waiting) }
+    ensures step { run_state.new.step ≡ run_state.old.step + 1 }
+    ensures arrays { run_state.new.arrays ≡ run_state.old.arrays }
+    ensures tasks { run_state.new.tasks.items ≡ in_path_order T.path_of (living_with run_state.old.tasks.items space.old.deeds) }
+    ensures prints { run_state.new.prints.items ≡ run_state.old.prints.items }
+    ensures records { run_state.new.records.items ≡ run_state.old.records.items ++ counts ∷ [] }
 {
-    course.records.push_reserved(told);
-    renew(&mut course.tasks, &mut space.deeds, &mut space.room, told);
-    course.step += 1;
+    run_state.records.push_reserved(counts);
+    renew(
+        &mut run_state.tasks,
+        &mut space.deeds,
+        &mut space.spare,
+        counts,
+    );
+    run_state.step += 1;
 }
 
 // Takes one superstep, or returns the fault that ends the run in it. At most `most` tasks may live on. If memory runs out, the tasks
@@ -138,54 +143,57 @@ fn take_superstep<P: TaskLoop>(
     alloc: Global,
     program: &P,
     most: u32,
-    course: &mut Course<P::Task>,
+    run_state: &mut RunState<P::Task>,
     space: &mut Space<P::Task>,
 ) -> Result<Option<Blame>, AllocError>
     requires ready { P.ready program.now }
     requires most { most < 2 ^ 31 }
-    requires few { length course.old.tasks.items ≤ most }
-    requires rising { is_rising (map P.Task.path_of course.old.tasks.items) ≡ true }
-    requires below { course.old.step + 1 < 2 ^ 32 }
+    requires few { length run_state.old.tasks.items ≤ most }
+    requires rising { is_rising (map P.Task.path_of run_state.old.tasks.items) ≡ true }
+    requires below { run_state.old.step + 1 < 2 ^ 32 }
     ensures taken { IfOk result (λ fault. let p = program.now in
-        HasTaken (P.frame p) (P.may p) most (P.meant p) P.Task.path_of fault course.old course.new) }
-    ensures memory { OnErr result ((course.new.step ≡ course.old.step) × (course.new.arrays ≡ course.old.arrays) × (course.new.records.items ≡ course.old.records.items)) }
+        HasTaken (P.frame p) (P.may p) most (P.meant p) P.Task.path_of fault run_state.old run_state.new) }
+    ensures memory { OnErr result ((run_state.new.step ≡ run_state.old.step) × (run_state.new.arrays ≡ run_state.old.arrays) × (run_state.new.records.items ≡ run_state.old.records.items)) }
 {
-    let printed = course.prints.len();
+    let printed = run_state.prints.len();
     space.work.puts.clear();
     space.deeds.clear();
     let scene = StepScene {
         program,
-        arrays: &course.arrays,
-        step: course.step,
+        arrays: &run_state.arrays,
+        step: run_state.step,
     };
     let fault = do_all(
         alloc,
         &scene,
-        &mut course.tasks,
+        &mut run_state.tasks,
         &mut space.work,
         &mut space.deeds,
-        &mut course.prints,
+        &mut run_state.prints,
     )?;
     match fault {
         Some(blame) => {
-            course.prints.truncate(printed);
+            run_state.prints.truncate(printed);
             Ok(Some(blame))
         }
         None => {
             if !space.deeds.are_few(most) {
-                course.prints.truncate(printed);
+                run_state.prints.truncate(printed);
                 return Ok(Some(too_many(alloc)));
             }
-            let told = space.deeds.record(course.step);
-            make_room(&mut course.records, &mut space.room, told)?;
-            let over = space.work.puts.land(&mut course.arrays, &mut space.olds)?;
+            let counts = space.deeds.record(run_state.step);
+            make_room(&mut run_state.records, &mut space.spare, counts)?;
+            let over = space
+                .work
+                .puts
+                .land(&mut run_state.arrays, &mut space.olds)?;
             match over {
                 Some(place) => {
-                    course.prints.truncate(printed);
-                    Ok(space.deeds.blame_at(&course.tasks, place))
+                    run_state.prints.truncate(printed);
+                    Ok(space.deeds.blame_at(&run_state.tasks, place))
                 }
                 None => {
-                    go_on(course, space, told);
+                    go_on(run_state, space, counts);
                     Ok(None)
                 }
             }
@@ -197,7 +205,7 @@ fn take_superstep<P: TaskLoop>(
 /// superstep: what a task does is that of the program given then.
 #[derive(Drop)]
 pub struct Steps<T: OnPath> {
-    course: Course<T>,
+    run_state: RunState<T>,
     space: Space<T>,
     most: u32,
     limit: u32,
@@ -213,24 +221,24 @@ impl<T: OnPath> Model for Steps<T> {
 
     ghost Value = { StepsValue T };
 
-    ghost view = { λ s. record { step = s.course.step; arrays = s.course.arrays; tasks = s.course.tasks.items; prints = s.course.prints.items; records = s.course.records.items; fault = s.fault; failed = s.failed; most = s.most; limit = s.limit } };
+    ghost view = { λ s. record { step = s.run_state.step; arrays = s.run_state.arrays; tasks = s.run_state.tasks.items; prints = s.run_state.prints.items; records = s.run_state.records.items; fault = s.fault; failed = s.failed; most = s.most; limit = s.limit } };
 
-    ghost invariant = { λ s. (s.most < 2 ^ 31) × (length s.course.tasks.items ≤ s.most) × (s.course.step ≤ s.limit) };
+    ghost invariant = { λ s. (s.most < 2 ^ 31) × (length s.run_state.tasks.items ≤ s.most) × (s.run_state.step ≤ s.limit) };
 }
 
 // Returns what a run that ended so leaves.
-fn leave<T: OnPath>(course: Course<T>, status: JobStatus) -> Ran<T>
+fn leave<T: OnPath>(run_state: RunState<T>, status: JobStatus) -> Ran<T>
     requires { IsShort (status_seen status) }
-    ensures report { result.report ≡ record { prints = course.prints.items; records = course.records.items; arrays = course.arrays; status = status_seen status } }
-    ensures tasks { result.tasks.items ≡ course.tasks.items }
+    ensures report { result.report ≡ record { prints = run_state.prints.items; records = run_state.records.items; arrays = run_state.arrays; status = status_seen status } }
+    ensures tasks { result.tasks.items ≡ run_state.tasks.items }
 {
-    let Course {
+    let RunState {
         step: _,
         arrays,
         tasks,
         prints,
         records,
-    } = course;
+    } = run_state;
     let report = Report {
         prints,
         records,
@@ -265,7 +273,7 @@ impl<T: OnPath> Steps<T> {
         ensures ordered { (p : P) → AreOrdered (P.frame p) (map (P.meant p) tasks.items) }
     {
         Steps {
-            course: Course {
+            run_state: RunState {
                 step: 0,
                 arrays,
                 tasks,
@@ -288,11 +296,11 @@ impl<T: OnPath> Steps<T> {
         if self.failed {
             return None;
         }
-        let step = self.course.step;
+        let step = self.run_state.step;
         if let Some(blame) = &self.fault {
             return Some(blame.status(step));
         }
-        if self.course.tasks.is_empty() {
+        if self.run_state.tasks.is_empty() {
             return Some(JobStatus::Ended(step));
         }
         if step < self.limit {
@@ -312,14 +320,14 @@ impl<T: OnPath> Steps<T> {
     pub fn superstep(&self) -> u32
         ensures { result ≡ self.now.step }
     {
-        self.course.step
+        self.run_state.step
     }
 
     /// Returns the arrays as the next superstep reads them.
     pub fn arrays(&self) -> &Arrays
         ensures { result.now ≡ self.now.arrays }
     {
-        &self.course.arrays
+        &self.run_state.arrays
     }
 
     /// Returns the live tasks, in path order. After a fault there are none.
@@ -327,21 +335,21 @@ impl<T: OnPath> Steps<T> {
         ensures live { result.now ≡ self.now.tasks }
         ensures few { length result.now ≤ self.now.most }
     {
-        &self.course.tasks
+        &self.run_state.tasks
     }
 
     /// Returns what the supersteps printed since it was last taken, in order.
     pub fn prints(&self) -> &[Print]
         ensures { result.now ≡ self.now.prints }
     {
-        &self.course.prints
+        &self.run_state.prints
     }
 
     /// Returns the records of the supersteps since they were last taken, in order.
     pub fn records(&self) -> &[PhaseRecord]
         ensures { result.now ≡ self.now.records }
     {
-        &self.course.records
+        &self.run_state.records
     }
 
     /// Returns the fault that has ended the run, if one did.
@@ -367,7 +375,7 @@ impl<T: OnPath> Steps<T> {
         ensures taken { tasks.new.items ≡ self.old.tasks }
         ensures few { length tasks.new.items ≤ self.old.most }
     {
-        mem::swap(&mut self.course.tasks, tasks);
+        mem::swap(&mut self.run_state.tasks, tasks);
     }
 
     /// Lets a run go on in which memory ran out, with these tasks in exchange for those that it has. Whoever gives them sees to it that
@@ -377,7 +385,7 @@ impl<T: OnPath> Steps<T> {
         ensures given { self.new ≡ record self.old { tasks = tasks.old.items; failed = false } }
         ensures taken { tasks.new.items ≡ self.old.tasks }
     {
-        mem::swap(&mut self.course.tasks, tasks);
+        mem::swap(&mut self.run_state.tasks, tasks);
         self.failed = false;
     }
 
@@ -386,8 +394,8 @@ impl<T: OnPath> Steps<T> {
         ensures given { result.items ≡ self.old.prints }
         ensures kept { self.new ≡ record self.old { prints = [] } }
     {
-        let none = Vec::new(*self.course.prints.allocator());
-        mem::replace(&mut self.course.prints, none)
+        let none = Vec::new(*self.run_state.prints.allocator());
+        mem::replace(&mut self.run_state.prints, none)
     }
 
     /// Gives away the records of the supersteps since they were last taken, in order.
@@ -395,8 +403,8 @@ impl<T: OnPath> Steps<T> {
         ensures given { result.items ≡ self.old.records }
         ensures kept { self.new ≡ record self.old { records = [] } }
     {
-        let none = Vec::new(*self.course.records.allocator());
-        mem::replace(&mut self.course.records, none)
+        let none = Vec::new(*self.run_state.records.allocator());
+        mem::replace(&mut self.run_state.records, none)
     }
 
     /// Returns what the run leaves, or `None` if it hasn't ended.
@@ -405,8 +413,8 @@ impl<T: OnPath> Steps<T> {
         ensures tasks { IfSome result (λ ran. ran.tasks.items ≡ self.tasks) }
     {
         let status = self.status()?;
-        let Steps { course, .. } = self;
-        Some(leave(course, status))
+        let Steps { run_state, .. } = self;
+        Some(leave(run_state, status))
     }
 
     /// Returns what a run that ends here leaves, as at a limit equal to the number of supersteps that it has taken.
@@ -414,9 +422,9 @@ impl<T: OnPath> Steps<T> {
         ensures report { result.report ≡ left_by self (Limit self.step) }
         ensures tasks { result.tasks.items ≡ self.tasks }
     {
-        let Steps { course, .. } = self;
-        let status = JobStatus::Limit(course.step);
-        leave(course, status)
+        let Steps { run_state, .. } = self;
+        let status = JobStatus::Limit(run_state.step);
+        leave(run_state, status)
     }
 
     /// Takes one superstep: each live task does its segment, one after another, by path. Then their puts land. Returns how the run
@@ -448,17 +456,22 @@ impl<T: OnPath> Steps<T> {
         if before.is_some() {
             return Ok(before);
         }
-        let Ok(fault) = take_superstep(alloc, program, self.most, &mut self.course, &mut self.space)
-        else {
-            self.course.tasks.clear();
-            self.course.prints.clear();
+        let Ok(fault) = take_superstep(
+            alloc,
+            program,
+            self.most,
+            &mut self.run_state,
+            &mut self.space,
+        ) else {
+            self.run_state.tasks.clear();
+            self.run_state.prints.clear();
             self.failed = true;
             return Err(AllocError);
         };
         let Some(blame) = fault else {
             return Ok(self.status());
         };
-        self.course.tasks.clear();
+        self.run_state.tasks.clear();
         self.fault = Some(blame);
         Ok(self.status())
     }

@@ -19,7 +19,7 @@ pub struct Work<T> {
 
 /// How a segment ends.
 #[derive(Clone, Copy)]
-pub enum Ending {
+pub enum SegmentEnd {
     /// The task goes on in the next superstep.
     Stays,
     /// The task stops.

@@ -24,7 +24,7 @@ pub record FaultsAreWorkedOut : Type 0 where
   pub header : faults_in (codes "bsp 3\nshow\n") ≡ at 1 BadHeader ∷ []
   -- and so does a text that is too long
   pub too_long : repaired (codes "show\n") (at 1 TooLong) ≡ None
-  pub told : listing (codes "bsp 1\nbody b\nlet x = 05\nput c[0] = 1\nend\nshow\n")
+  pub reported : listing (codes "bsp 1\nbody b\nlet x = 05\nput c[0] = 1\nend\nshow\n")
       ≡ codes "line 3 code 6 BadNumber\nline 4 code 9 UnknownName\nline 6 code 4 UnknownLine\n"
   -- a block whose test is a reserved word
   pub reserved : faults_in (codes "bsp 1\nbody b\nif sync\nend\nend\nshow\n") ≡ at 3 Reserved ∷ at 6 UnknownLine ∷ []

@@ -16,7 +16,7 @@ use Rattle.schedule_laws.proofs.Quiet.{is_forcing, goes_stay, keeps_the_cast}
 use Rattle.schedule_laws.proofs.Joining.{placed}
 
 pub homes_admit : HomesAdmit
-homes_admit s roles own i home cast k h e f room =
+homes_admit s roles own i home cast k h e f capacity =
     let here : Plays s own (Here home) = subst (λ (r : Role). Plays s own r) e (cast.plays own k) in
     let seeks : Plays s i (Seeks home 0) = subst (λ (r : Role). Plays s i r) f (cast.plays i h) in
     let tier = here.0.ready.late.tier in
@@ -25,7 +25,7 @@ homes_admit s roles own i home cast k h e f room =
     let fits = fitting s i (ToSeek home 1) cast.core h seeks.2 in
     let rests : (view_at s.views i).errand ≡ Rest = fits.0 ∙ ap (λ n. opening home n Seeking 1) seeks.1 in
     let step = open_tiers_admit s i home 1 cast.core h cast.going seeks.2 rests
-    (subst (λ (t : ℕ). 0 < (word_at s.words t).parties) tier waits.0) (subst (λ (t : ℕ). 0 < (word_at s.words t).unarrived) tier waits.1) room in
+    (subst (λ (t : ℕ). 0 < (word_at s.words t).parties) tier waits.0) (subst (λ (t : ℕ). 0 < (word_at s.words t).unarrived) tier waits.1) capacity in
     let root = goes_stay s i cast.core (ap is_forcing seeks.2) in
     record {
       answer = step.answer;

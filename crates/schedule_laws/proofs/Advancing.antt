@@ -304,9 +304,9 @@ module _ (parents : List ℕ) (w : World) (roles : List Role) (worker place : �
       (λ (o : q ≢ place). inl (others_over q l o))
       (cases_eq q place)
 
-  told : answer_to w.tree (Finish (participant_at w.participants place).token)
+  reported : answer_to w.tree (Finish (participant_at w.participants place).token)
       ≡ answer.Played (finish_at w.tree (participant_at w.participants place).token (plan_ends w.tree)).answer
-  told = ap (λ (b : Bool). if b then answer.Played (finish_at w.tree (participant_at w.participants place).token (plan_ends w.tree)).answer else answer.NotNow) due
+  reported = ap (λ (b : Bool). if b then answer.Played (finish_at w.tree (participant_at w.participants place).token (plan_ends w.tree)).answer else answer.NotNow) due
 
   planned : flat_ends w.tree ≡ ((registered (flat_of w.tree) == 0) && true) || ((flat_of w.tree).phase == w.limit - 1)
   planned = ap (λ p. end_ends p (flat_of w.tree).phase (registered (flat_of w.tree) == 0)) is.built.plan
@@ -343,7 +343,7 @@ module _ (parents : List ℕ) (w : World) (roles : List Role) (worker place : �
             (λ (c : ((flat_of w.tree).phase == w.limit - 1) ≡ true). let d = eqb-true (flat_of w.tree).phase (w.limit - 1) c in inr (omega arith))
             (ends_by (registered (flat_of w.tree) == 0) ((flat_of w.tree).phase == w.limit - 1) (sym planned ∙ (sym turns.ended ∙ e)));
       } in
-      (done_roles, subst (λ (t : TreeAnswer). IsTurning parents (advanced_by w worker place (after w.tree (Finish (participant_at w.participants place).token)) t).1 done_roles) (sym told) base)
+      (done_roles, subst (λ (t : TreeAnswer). IsTurning parents (advanced_by w worker place (after w.tree (Finish (participant_at w.participants place).token)) t).1 done_roles) (sym reported) base)
 
   pub advancing_mode : (done_by w worker (Advances place)).1.mode ≡ mode.Advanced worker (participant_at w.participants place).token
-  advancing_mode = ap (λ (t : TreeAnswer). (advanced_by w worker place (after w.tree (Finish (participant_at w.participants place).token)) t).1.mode) told
+  advancing_mode = ap (λ (t : TreeAnswer). (advanced_by w worker place (after w.tree (Finish (participant_at w.participants place).token)) t).1.mode) reported

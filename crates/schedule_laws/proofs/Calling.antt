@@ -103,14 +103,14 @@ refused s i c e =
 
 -- The call of a token goes on from this role to the next, with this answer.
 pub record IsCalled (s : State) (roles : List Role) (i : ℕ) (c : Call) (role next : Role) (a : Played) : Type 0 where
-  pub told : answer_to (after s (Begin i c)) (Go i) ≡ answer.Played a
+  pub reported : answer_to (after s (Begin i c)) (Go i) ≡ answer.Played a
   pub follows : Follows (flat_of s).phase role a next
   pub cast : IsCast (after (after s (Begin i c)) (Go i)) (set roles i next)
   pub phase : (flat_of (after (after s (Begin i c)) (Go i))).phase ≡ (flat_of s).phase
 
 -- the step alone
 record IsGone (s : State) (roles : List Role) (i : ℕ) (role next : Role) : Type 0 where
-  told : answer_to s (Go i) ≡ answer.Played (turn_at s i).answer
+  reported : answer_to s (Go i) ≡ answer.Played (turn_at s i).answer
   follows : Follows (flat_of s).phase role (turn_at s i).answer next
   cast : IsCast (after s (Go i)) (set roles i next)
   phase : (flat_of (after s (Go i))).phase ≡ (flat_of s).phase
@@ -124,7 +124,7 @@ goes s roles i role cast h e way =
     ∙ active s i (role_at roles i) (cast.plays i h) (ap is_on_its_way e ∙ way) in (
       step.0,
       record {
-        told = ap (λ (b : Bool). if b then answer.Played (turn_at s i).answer else answer.NotNow) may;
+        reported = ap (λ (b : Bool). if b then answer.Played (turn_at s i).answer else answer.NotNow) may;
         follows = subst (λ (r : Role). Follows (flat_of s).phase r (turn_at s i).answer step.0) e step.1.follows;
         cast = step.1.cast;
         phase = step.1.phase;
@@ -141,7 +141,7 @@ call_goes_on s roles i c role cast h e way =
       (
         (turn_at s i).answer,
         record {
-          told = ap (λ (t : State). answer_to t (Go i)) same ∙ g.1.told;
+          reported = ap (λ (t : State). answer_to t (Go i)) same ∙ g.1.reported;
           follows = g.1.follows;
           cast = subst (λ (t : State). IsCast (after t (Go i)) (set roles i g.0)) (sym same) g.1.cast;
           phase = ap (λ (t : State). (flat_of (after t (Go i))).phase) same ∙ g.1.phase;
@@ -162,7 +162,7 @@ call_begins s roles i c role cast h b way =
       (
         (turn_at (after s (Begin i c)) i).answer,
         record {
-          told = g.1.told;
+          reported = g.1.reported;
           follows = subst (λ (n : ℕ). Follows n role (turn_at (after s (Begin i c)) i).answer g.0) start.2 g.1.follows;
           cast = subst (λ (rs : List Role). IsCast (after (after s (Begin i c)) (Go i)) rs) (set-set roles i role g.0) g.1.cast;
           phase = g.1.phase ∙ start.2;
@@ -174,12 +174,12 @@ call_begins s roles i c role cast h b way =
 pub call_admitted : (s : State) (roles : List Role) (own i home : ℕ) (c : Call) → IsCast s roles → own < length s.views → i < length s.views
     → role_at roles own ≡ Here home → role_at roles i ≡ Seeks home 0 → (word_at s.words home).parties + 1 ≤ 65535
     → IsCalled s roles i c (Seeks home 0) (Ready home) (Done (flat_of s).phase)
-call_admitted s roles own i home c cast k h here seeks room =
-    let is = homes_admit s roles own i home cast k h here seeks room in
+call_admitted s roles own i home c cast k h here seeks capacity =
+    let is = homes_admit s roles own i home cast k h here seeks capacity in
     let g = goes s roles i (Seeks home 0) cast h seeks refl in
     let same : after s (Begin i c) ≡ s = refused s i c (active s i (role_at roles i) (cast.plays i h) (ap is_on_its_way seeks)) in
     record {
-      told = ap (λ (t : State). answer_to t (Go i)) same ∙ g.1.told ∙ ap answer.Played is.answer;
+      reported = ap (λ (t : State). answer_to t (Go i)) same ∙ g.1.reported ∙ ap answer.Played is.answer;
       follows = inl (refl, refl);
       cast = subst (λ (t : State). IsCast (after t (Go i)) (set roles i (Ready home))) (sym same) is.cast;
       phase = ap (λ (t : State). (flat_of (after t (Go i))).phase) same ∙ g.1.phase;

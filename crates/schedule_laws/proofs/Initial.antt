@@ -110,7 +110,7 @@ one_starts parents w path tiers is few =
     let some : 0 < length parents = tiers.shape.some in
     let tier : home < length parents = leaf_within w.leaves (length w.participants % length w.leaves) (length parents) is.built.leaves some in
     let same : length s.parents ≡ length parents = ap length is.built.shape in
-    let room : sum_by (λ (v : View). v.size) s.views ≡ sum_by (λ (v : View). v.size) w.tree.views + 0 =
+    let capacity : sum_by (λ (v : View). v.size) s.views ≡ sum_by (λ (v : View). v.size) w.tree.views + 0 =
     sum_by_push (λ (v : View). v.size) w.tree.views (new_view (word_at w.tree.words 0).phase) in
     let e1 = is.sizes in let e2 = tiers.few in
     let joined : IsJoined s (run_of (join_alone n home 1) s) n home 1 (moments n (join_alone n home 1) s (flat_of s) []) =

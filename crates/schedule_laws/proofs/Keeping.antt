@@ -14,7 +14,7 @@ use Rattle.tier_core.specs.Machine.{State as Tree}
 use Rattle.tier_core.specs.Run.{after, answer_to, may_finish}
 use Rattle.tier_core.proofs.Turns.{not_both}
 use Rattle.step_core.specs.Superstep.{State, superstep, live_paths}
-use Rattle.programs.specs.Supersteps.{status, told, report_in, unless_ended}
+use Rattle.programs.specs.Supersteps.{status, report_with, report_in, unless_ended}
 use Rattle.step_core.specs.OrderValue.{has_synced, spawned_paths}
 use Rattle.schedule_laws.specs.Roles.{Role}
 use Rattle.schedule_laws.specs.Cast.{turned}
@@ -150,8 +150,8 @@ module _ (parents : List ℕ) (w : World) (worker : ℕ) (few : w.limit ≤ 2147
           → Kept parents (closed_as w worker 0 (unless_ended o w.job (superstep w.program w.job)) (report_in w.limit (unless_ended o w.job (superstep w.program w.job)))).1
       report None e k = not_both false k refl
       report (Some s) e k =
-          subst (λ (q : Option Status). Kept parents (closed_as w worker 0 w.job (told w.job q)).1) (sym e)
-          (over_kept parents (closed_as w worker 0 w.job (told w.job (Some s))).1 worker 0 s)
+          subst (λ (q : Option Status). Kept parents (closed_as w worker 0 w.job (report_with w.job q)).1) (sym e)
+          (over_kept parents (closed_as w worker 0 w.job (report_with w.job (Some s))).1 worker 0 s)
 
       by : (b c : Bool) → nat_lt w.taken (length w.participants) ≡ b → Keeps parents w worker (if b then Some (Takes w.taken) else (if c then Some (Closes 0) else None))
       by true c e = let l = ltb-true w.taken (length w.participants) e in absurd (omega arith)

@@ -73,7 +73,7 @@ module _ (parents : List ℕ) (w : World) (roles : List Role) (worker place : �
       called.cast called.phase (two_steps w.tree (Begin i c) (Go i)) in (
         set roles i next,
         subst (λ (t : TreeAnswer). IsWorking parents (called_by w worker place (after (after w.tree (Begin i c)) (Go i)) t).1 (set roles i next))
-            (sym called.told) base,
+            (sym called.reported) base,
       )
 
   -- tokens of the task, and their roles after a step
@@ -157,7 +157,7 @@ module _ (parents : List ℕ) (w : World) (roles : List Role) (worker place : �
   join_step : (i home : ℕ) → i < length w.tree.views → home < length w.tree.parents
       → role_at roles (participant_at w.participants place).token ≡ Here (participant_at w.participants place).home → HasRoom
       → ComesTo (participant_at w.participants place).home home (role_at roles i) → IsJoinStep home i
-  join_step i home m there own room f = ⊎_elim
+  join_step i home m there own capacity f = ⊎_elim
       (λ (q : role_at roles i ≡ Out).
       looked (call_begins w.tree roles i (call.Join home 1) (Joins home) is.cast m (inr (inr (home, there, q, refl, refl))) refl))
       (λ q. ⊎_elim
@@ -170,7 +170,7 @@ module _ (parents : List ℕ) (w : World) (roles : List Role) (worker place : �
         a = Done (flat_of w.tree).phase;
         called = call_admitted w.tree roles (participant_at w.participants place).token i home (call.Join home 1) is.cast
             (known (participant_at w.participants place).token (own_in (participant_at w.participants place))) m (own ∙ ap Here (sym e)) q
-            (subst (λ (t : ℕ). (word_at w.tree.words t).parties + 1 ≤ 65535) (sym e) room);
+            (subst (λ (t : ℕ). (word_at w.tree.words t).parties + 1 ≤ 65535) (sym e) capacity);
         ends = inl (refl, refl);
       })
       (λ (n : home ≢ (participant_at w.participants place).home). elsewhere n (inl (0, q)))
@@ -200,22 +200,22 @@ module _ (parents : List ℕ) (w : World) (roles : List Role) (worker place : �
 
   pub child_step : (n : ℕ) → (participant_at w.participants place).stage ≡ Joining n → HasRoom
       → IsJoinStep (child_at (participant_at w.participants place).children n).home (child_at (participant_at w.participants place).children n).token
-  child_step n at room =
+  child_step n at capacity =
       let k : ChildValue = child_at (participant_at w.participants place).children n in
       let sits = sits_at (Joining n) at in
       let turn : n < length (participant_at w.participants place).children = sits.turn in
       let there : k.home < length w.tree.parents = (let a = sits.homes n turn in let b : length w.tree.parents ≡ length parents = ap length is.built.shape in omega arith) in
-      join_step k.token k.home (known k.token (child_in (participant_at w.participants place) n turn)) there sits.own room ((sits.each n turn).1 refl)
+      join_step k.token k.home (known k.token (child_in (participant_at w.participants place) n turn)) there sits.own capacity ((sits.each n turn).1 refl)
 
   pub joining_works : (n : ℕ) → (participant_at w.participants place).stage ≡ Joining n → HasRoom
       → Works parents (done_by w worker (Calls place (child_at (participant_at w.participants place).children n).token (call.Join (child_at (participant_at w.participants place).children n).home 1))).1
-  joining_works n at room =
+  joining_works n at capacity =
       let g : ParticipantValue = participant_at w.participants place in
       let k : ChildValue = child_at (participant_at w.participants place).children n in
       let sits = sits_at (Joining n) at in
       let turn : n < length g.children = sits.turn in
       let mine = child_in (participant_at w.participants place) n turn in
-      let step = child_step n at room in
+      let step = child_step n at capacity in
       call_works k.token (call.Join k.home 1) step.role step.next step.a (ap is_ready at) mine step.called
       (after_join (participant_at w.participants place) roles (set roles k.token step.next) (length parents) n step.next step.a (own_stays step.next n turn)
       (now_plays k.token step.next mine) (λ j l o. others_stay step.next n j turn l o) at sits (own_tier sits.own) step.ends)
@@ -226,9 +226,9 @@ module _ (parents : List ℕ) (w : World) (roles : List Role) (worker place : �
       → answer_to (after w.tree (Begin (child_at (participant_at w.participants place).children n).token (call.Join (child_at (participant_at w.participants place).children n).home 1)))
       (Go (child_at (participant_at w.participants place).children n).token) ≡ answer.Played played
       → is_refused played ≡ false
-  home_admits n played at room e told =
-      let step = child_step n at room in
-      let same : step.a ≡ played = played_same (sym step.called.told ∙ told) in
+  home_admits n played at capacity e reported =
+      let step = child_step n at capacity in
+      let same : step.a ≡ played = played_same (sym step.called.reported ∙ reported) in
       ap is_refused (sym same) ∙ ⊎_elim (λ q. done_stays step.a q.0) (λ q. ⊎_elim (λ q. absurd (q.1 e)) (λ q. ap is_refused q.0) q) step.ends
     where
       played_same : {a b : Played} → ◌≡◌ {A = TreeAnswer} (answer.Played a) (answer.Played b) → a ≡ b

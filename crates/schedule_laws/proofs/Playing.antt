@@ -19,7 +19,7 @@ use Rattle.tier_laws.specs.Hold.{IsAwaited}
 use Rattle.tier_laws.specs.Calls.{RootStays, is_poll}
 use Rattle.tier_laws.proofs.Framing.{others_stay}
 use Rattle.tier_laws.proofs.Stepping.{fitting}
-use Rattle.tier_steps.specs.Told.{is_under_way}
+use Rattle.tier_steps.specs.SpelledOut.{is_under_way}
 use Rattle.tier_laws.proofs.Holding.{awaited_tokens_hold, advances_are_alone, members_are_the_tokens, fits_at}
 use Rattle.schedule_laws.specs.Roles.{Role, Out, Joins, Seeks, Settles, GivesBack, Late, Polls, Ready, Here, Looks, Passes, Owes, Leads, Past, Plays, IsOut, IsLate, IsReady, HasCounted}
 use Rattle.schedule_laws.specs.Cast.{role_at, members_in, is_awaited, is_leading, NobodyLeads, LeadersAreAlone, MembersAreInRoles}

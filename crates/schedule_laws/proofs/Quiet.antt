@@ -24,7 +24,7 @@ use Rattle.tier_core.specs.declared.call.Progress.TheVariants.{Idle, Begun, Seek
 use Rattle.tier_core.specs.declared.call.Step.{Step}
 use Rattle.tier_core.specs.declared.call.Step.TheVariants.{Go}
 use Rattle.tier_core.specs.declared.call.Turn.{Turn}
-use Rattle.tier_core.specs.Turn.{end_shown, lags, own_kind, goes_on, told, last_look, pass_turn, climb_turn, claimed_by, is_refusing, is_claimable, refusal, giving_back, settling, unless_claimed, settle_turn, give_back_turn, turn, place}
+use Rattle.tier_core.specs.Turn.{end_shown, lags, own_kind, goes_on, reported, last_look, pass_turn, climb_turn, claimed_by, is_refusing, is_claimable, refusal, giving_back, settling, unless_claimed, settle_turn, give_back_turn, turn, place}
 use Rattle.tier_core.specs.Machine.{State, IsCore, view_at, call_at, turn_at}
 use Rattle.tier_core.specs.Run.{IsStepOfCalls, after, may_go}
 use Rattle.tier_core.proofs.Turns.{not_both}
@@ -86,7 +86,7 @@ passes_quietly : (i : ℕ) (ps : List ℕ) (own : Passage) (t : ℕ) (passage : 
 passes_quietly i ps own t passage k here over w v q =
     let e : Errand = owed (parent_of ps t) t passage w in
     let wait : Turn = record { kind = Refresh; tier = t; next = here; answer = GoesOn } in
-    let go : Turn = record { kind = k; tier = t; next = goes_on own (owed (parent_of ps t) t passage w); answer = told v.phase (passed t passage w).parties (owed (parent_of ps t) t passage w) } in
+    let go : Turn = record { kind = k; tier = t; next = goes_on own (owed (parent_of ps t) t passage w); answer = reported v.phase (passed t passage w).parties (owed (parent_of ps t) t passage w) } in
     either_way (IsQuietTurn i) w.ended (last_look over) (cond (lags w v) wait go) refl
     (either_way (IsQuietTurn i) (lags w v) wait go refl q)
 

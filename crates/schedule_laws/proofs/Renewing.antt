@@ -13,7 +13,7 @@ use Rattle.tier_laws.specs.Frame.{flat_of}
 use Rattle.task_lang.specs.Meaning.{Task, Segment}
 use Rattle.step_core.specs.Program.{Program}
 use Rattle.step_core.specs.Superstep.{State, segments, fault_in, superstep, closed, next_live, live_paths}
-use Rattle.programs.specs.Supersteps.{status, status_of, told, report_in}
+use Rattle.programs.specs.Supersteps.{status, status_of, report_with, report_in}
 use Rattle.schedule_laws.specs.Roles.{Role, Out, Late, Past}
 use Rattle.schedule_laws.specs.Cast.{role_at, turned}
 use Rattle.job_participants.specs.declared.stage.Stage.{Stage}
@@ -164,7 +164,7 @@ step_fault p st h = by (fault_in st.arrays (segments p st.arrays st.step st.live
     by (Some f) e = cc
     by None e = (let one : st.step + 1 ≡ suc st.step = omega arith in one)
 
-pub no_status : (o : Option Status) (st : State) → told st o ≡ None → is_some o ≡ false
+pub no_status : (o : Option Status) (st : State) → report_with st o ≡ None → is_some o ≡ false
 no_status None st h = refl
 no_status (Some s) st h = cc
 

@@ -53,7 +53,7 @@ module _ (parents : List ℕ) (w : World) (worker : ℕ) (tiers : length parents
   join_admits : (roles : List Role) (at n : ℕ) → IsWorking parents w roles → is_some (status w.limit w.job) ≡ false → at < length w.participants
       → (participant_at w.participants at).stage ≡ Joining n
       → Admits w worker (Some (Calls at (child_at (participant_at w.participants at).children n).token (call.Join (child_at (participant_at w.participants at).children n).home 1)))
-  join_admits roles at n is below h stage place token played e told =
+  join_admits roles at n is below h stage place token played e reported =
       let same = same_place at place (child_at (participant_at w.participants at).children n).token token (call.Join (child_at (participant_at w.participants at).children n).home 1)
       (call.Join (participant_at w.participants place).home 1) e in
       let home : (child_at (participant_at w.participants at).children n).home ≡ (participant_at w.participants at).home =
@@ -64,38 +64,38 @@ module _ (parents : List ℕ) (w : World) (worker : ℕ) (tiers : length parents
       ap (λ (q : ℕ). (done_by w worker (Calls q i c)).0) same.0
       ∙ ap (λ (j : ℕ). (done_by w worker (Calls place j c)).0) same.1
       ∙ ap (λ (d : Call). (done_by w worker (Calls place token d)).0) same.2
-      ∙ told in
-      let room = has_room parents w roles at tiers (few below) is h (sits_at parents w roles worker at is h (Joining n) stage).own in
-      home_admits parents w roles worker at is h n played stage room home
+      ∙ reported in
+      let capacity = has_room parents w roles at tiers (few below) is h (sits_at parents w roles worker at is h (Joining n) stage).own in
+      home_admits parents w roles worker at is h n played stage capacity home
       (stepped_is w worker at (after (after w.tree (Begin i c)) (Go i)) (answer_to (after w.tree (Begin i c)) (Go i)) played here)
 
   stage_admits : (roles : List Role) (at : ℕ) (due : Bool) (stage : Stage) → IsWorking parents w roles → is_some (status w.limit w.job) ≡ false
       → at < length w.participants → (participant_at w.participants at).stage ≡ stage → Admits w worker (by_stage (participant_at w.participants at) at due stage)
-  stage_admits roles at due Waits is below h e place token played f told = cc
-  stage_admits roles at due Taken is below h e place token played f told = cc
-  stage_admits roles at due Polling is below h e place token played f told = cc
-  stage_admits roles at due (Joining n) is below h e place token played f told = join_admits roles at n is below h e place token played f told
-  stage_admits roles at due (Arriving n) is below h e place token played f told = cc
-  stage_admits roles at true Leaving is below h e place token played f told = cc
-  stage_admits roles at false Leaving is below h e place token played f told = by (participant_at w.participants at).synced f
+  stage_admits roles at due Waits is below h e place token played f reported = cc
+  stage_admits roles at due Taken is below h e place token played f reported = cc
+  stage_admits roles at due Polling is below h e place token played f reported = cc
+  stage_admits roles at due (Joining n) is below h e place token played f reported = join_admits roles at n is below h e place token played f reported
+  stage_admits roles at due (Arriving n) is below h e place token played f reported = cc
+  stage_admits roles at true Leaving is below h e place token played f reported = cc
+  stage_admits roles at false Leaving is below h e place token played f reported = by (participant_at w.participants at).synced f
     where
       by : (b : Bool) → ◌≡◌ {A = Option Move} (Some (Calls at (participant_at w.participants at).token (if b then call.Arrive else call.Leave)))
           (Some (Calls place token (call.Join (participant_at w.participants place).home 1))) → is_refused played ≡ false
       by true k = cc
       by false k = cc
-  stage_admits roles at due Over is below h e place token played f told = cc
+  stage_admits roles at due Over is below h e place token played f reported = cc
 
   taking_admits : (b c : Bool) → Admits w worker (if b then Some (Takes w.taken) else (if c then Some (Closes 0) else None))
-  taking_admits true c place token played f told = cc
-  taking_admits false true place token played f told = cc
-  taking_admits false false place token played f told = cc
+  taking_admits true c place token played f reported = cc
+  taking_admits false true place token played f reported = cc
+  taking_admits false false place token played f reported = cc
 
   hand_admits : (hand : Option ℕ) → IsKept parents w mode.Runs → Admits w worker (by_hand w hand)
   hand_admits None k = taking_admits (nat_lt w.taken (length w.participants)) (is_some (status w.limit w.job))
   hand_admits (Some at) k = by (nat_lt at (length w.participants)) refl
     where
       none : Admits w worker None
-      none place token played f told = cc
+      none place token played f reported = cc
 
       by : (b : Bool) → nat_lt at (length w.participants) ≡ b → Admits w worker (by_hand w (Some at))
       by true e = ⊎_elim
@@ -109,21 +109,21 @@ module _ (parents : List ℕ) (w : World) (worker : ℕ) (tiers : length parents
   mode_admits (mode.Advanced closer owner) k = by ((worker == closer) && all_over w.participants)
     where
       by : (b : Bool) → Admits w worker (if b then Some (Closes owner) else None)
-      by true = λ place token played f told. cc
-      by false = λ place token played f told. cc
+      by true = λ place token played f reported. cc
+      by false = λ place token played f reported. cc
   mode_admits (mode.Forces closer owner) k = by (worker == closer)
     where
       by : (b : Bool) → Admits w worker (if b then Some (Ends owner) else None)
-      by true = λ place token played f told. cc
-      by false = λ place token played f told. cc
-  mode_admits mode.Over k = λ place token played f told. cc
+      by true = λ place token played f reported. cc
+      by false = λ place token played f reported. cc
+  mode_admits mode.Over k = λ place token played f reported. cc
 
   move_admits : IsKept parents w w.mode → Admits w worker (move_of w worker)
   move_admits k = by (nat_lt worker 64)
     where
       by : (b : Bool) → Admits w worker (if b then by_mode w worker w.mode else None)
       by true = mode_admits w.mode k
-      by false = λ place token played f told. cc
+      by false = λ place token played f reported. cc
 
 -- a step that is taken does its worker's move
 asked : (w : World) (x : JobStep) (m : Move) (played : Played) → move_of w (worker_of x) ≡ Some m → answer_of w x ≡ Stepped played

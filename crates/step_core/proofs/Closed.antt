@@ -194,8 +194,8 @@ more_prints fs gs f e = ap all_prints e ∙ by fs
     by [] = nil f.prints
     by (g ∷ gs) = ap (λ (xs : List PrintValue). g.prints ++ xs) (by gs) ∙ assoc g.prints (all_prints gs) f.prints
 
-pub more_told : (fs gs : List FinishedValue) (f : FinishedValue) → gs ≡ fs ++ f ∷ [] → all_counts gs ≡ all_counts fs ++ f.counts ∷ []
-more_told fs gs f e = ap all_counts e ∙ by fs
+pub more_reported : (fs gs : List FinishedValue) (f : FinishedValue) → gs ≡ fs ++ f ∷ [] → all_counts gs ≡ all_counts fs ++ f.counts ∷ []
+more_reported fs gs f e = ap all_counts e ∙ by fs
   where
     by : (fs : List FinishedValue) → all_counts (fs ++ f ∷ []) ≡ all_counts fs ++ f.counts ∷ []
     by [] = refl
@@ -211,7 +211,7 @@ pub went_on : (job : JobValue) (limit step : ℕ) (arrays : List (List ℕ × Li
 went_on job limit step arrays slots finished fault c none fits xs ex le a ea fs ef =
     let f = finished_by step (deeds (whole job limit step arrays slots finished fault)) in
     gone_further (whole job limit step arrays slots finished fault) c none fits xs ex le a ea
-    (all_prints fs) (more_prints finished fs f ef) (all_counts fs) (more_told finished fs f ef)
+    (all_prints fs) (more_prints finished fs f ef) (all_counts fs) (more_reported finished fs f ef)
 
 pub closed_now : (r now new : RoundValue) → r ≡ now → IsClosed r new → Opens new now.job now.limit (next_state now)
 closed_now r now new e h = subst (λ x. Opens new x.job x.limit (next_state x)) e h.1

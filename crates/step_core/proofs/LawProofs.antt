@@ -32,7 +32,7 @@ use Rattle.step_core.specs.Laws.{
 }
 use Rattle.step_core.proofs.Rounds.{taken, set_is_with, here, tasks_stay}
 use Rattle.step_core.proofs.Closed.{all_delivered}
-use Rattle.programs.proofs.Runs.{always_told}
+use Rattle.programs.proofs.Runs.{always_reported}
 use Rattle.superstep_memory.proofs.InOrder.{put_all_mapped}
 use Rattle.std.proofs.lemmas.List.{map-append}
 use Rattle.task_lang.proofs.AllSegments.{stays-the-same-task}
@@ -176,7 +176,7 @@ longer-limits-only-add p m n le =
     (same, a.prints, a.records)
 
 pub jobs-end : JobsEnd
-jobs-end p limit = by (report_of p limit) (always_told (job_says p.plans) p.arrays (starts p) limit)
+jobs-end p limit = by (report_of p limit) (always_reported (job_says p.plans) p.arrays (starts p) limit)
   where
     by : {A : Type 0} (o : Option A) → (o ≡ None → ⊥) → is_some o ≡ true
     by None h = absurd (h refl)

@@ -4,7 +4,7 @@ use Rattle.std.specs.Prelude.{if◌then◌else◌, IfSome}
 use Rattle.std.specs.Option.{option_map}
 use Rattle.std.proofs.lemmas.Bool.Decides.{nat_tests}
 use Rattle.programs.specs.DeedValue.{DeedValue}
-use Rattle.programs.specs.InPlace.{told_at, maker, made_in}
+use Rattle.programs.specs.InPlace.{overflow_at, maker, made_in}
 use Rattle.stretch_parts.specs.PartValue.{PartValue}
 use Rattle.stretch_parts.specs.Parts.{EachDid, tasks_in, deeds_in}
 
@@ -33,13 +33,13 @@ module _ {S : Type 0} (q : S → List ℕ) where
 
   -- it is a task of this stretch
   pub blame_here : (ss rest : List (Option (PartValue S))) (s : Option (PartValue S)) (part : PartValue S) (left : ℕ) (total : Option (List ℕ)) (o : Option (ℕ × List ℕ)) → ss ≡ s ∷ rest → s ≡ Some part → EachDid ss
-      → maker q (tasks_in ss) (deeds_in ss) left ≡ total → left < made_in part.deeds → IfSome o (λ b. Some b ≡ option_map told_at (maker q part.tasks part.deeds left)) → IfSome o (λ b. Some b ≡ option_map told_at total)
+      → maker q (tasks_in ss) (deeds_in ss) left ≡ total → left < made_in part.deeds → IfSome o (λ b. Some b ≡ option_map overflow_at (maker q part.tasks part.deeds left)) → IfSome o (λ b. Some b ≡ option_map overflow_at total)
   blame_here ss rest s part left total o e is h m lt f =
       let cut : ss ≡ Some part ∷ rest = e ∙ ap (λ (x : Option (PartValue S)). x ∷ rest) is in
       let d : EachDid (Some part ∷ rest) = subst EachDid cut h in
       let same : maker q part.tasks part.deeds left ≡ total =
       sym (maker_front part.tasks (tasks_in rest) part.deeds (deeds_in rest) left d.1 lt) ∙ ap (λ (xs : List (Option (PartValue S))). maker q (tasks_in xs) (deeds_in xs) left) (sym cut) ∙ m in
-      subst (λ (x : Option (List ℕ)). IfSome o (λ b. Some b ≡ option_map told_at x)) same f
+      subst (λ (x : Option (List ℕ)). IfSome o (λ b. Some b ≡ option_map overflow_at x)) same f
 
   -- what is left behind it
   pub record IsBehind (rest : List (Option (PartValue S))) (left : ℕ) (total : Option (List ℕ)) : Type 0 where

@@ -40,7 +40,7 @@ module _ {S T : Type 0} where
     pub olds : List S
     pub back : List S
     pub live_from : drop part.first live ≡ olds ++ back
-    pub told : HasDone r arrays step part.done olds part
+    pub reported : HasDone r arrays step part.done olds part
 
   -- one that is there is of these live tasks
   abbrev pub IsOwn : Reading S T → List (List ℕ × List ℤ) → List S → ℕ → Option (PartValue S) → Type 0

@@ -54,10 +54,10 @@ pub(crate) fn cut_off<T: OnPath>(
     requires most { size ≤ most }
     requires end { from + length rest.old.items < 2 ^ 64 }
     requires fresh { AreFresh (from + length rest.old.items) (reverse parts.old.items) }
-    requires room { vec_len parts.old < vec_capacity parts.old }
+    requires capacity { vec_len parts.old < vec_capacity parts.old }
     ensures fresh { AreFresh (from + length rest.new.items) (reverse parts.new.items) }
     ensures tasks { rest.new.items ++ tasks_in (reverse parts.new.items) ≡ rest.old.items ++ tasks_in (reverse parts.old.items) }
-    ensures room { vec_len parts.new < vec_capacity parts.new }
+    ensures capacity { vec_len parts.new < vec_capacity parts.new }
 {
     while rest.len() > most {
         let Ok(()) = parts.reserve(2) else {
@@ -117,7 +117,7 @@ pub fn cut<T: OnPath>(
     requires pieces { 1 ≤ pieces }
     requires first { first ≡ fresh_part 0 [] }
     requires none_yet { parts.old.items ≡ [] }
-    requires room { vec_len parts.old < vec_capacity parts.old }
+    requires capacity { vec_len parts.old < vec_capacity parts.old }
     ensures fresh { AreFresh 0 parts.new.items }
     ensures tasks { tasks_in parts.new.items ≡ tasks.items }
 {

@@ -93,9 +93,9 @@ pub fn give_all_tasks<T: OnPath>(
 
 // Moves the prints of a stretch to the end of others, which have room for them.
 fn give_prints<T: OnPath>(slot: &mut Option<Part<T>>, prints: &mut Vec<Print>)
-    requires room { vec_len prints.old + length (of_slot (λ part. part.prints) slot.old) ≤ vec_capacity prints.old }
+    requires capacity { vec_len prints.old + length (of_slot (λ part. part.prints) slot.old) ≤ vec_capacity prints.old }
     ensures given { prints.new.items ≡ prints.old.items ++ of_slot (λ part. part.prints) slot.old }
-    ensures room { vec_capacity prints.old ≤ vec_capacity prints.new }
+    ensures capacity { vec_capacity prints.old ≤ vec_capacity prints.new }
     ensures rest { slot.new ≡ without_prints slot.old }
 {
     if let Some(part) = slot {
@@ -105,7 +105,7 @@ fn give_prints<T: OnPath>(slot: &mut Option<Part<T>>, prints: &mut Vec<Print>)
 
 /// Moves the prints of all stretches to the end of others, which have room for them.
 pub fn give_all_prints<T: OnPath>(parts: &mut Vec<Option<Part<T>>>, prints: &mut Vec<Print>)
-    requires room { vec_len prints.old + length (prints_in parts.old.items) ≤ vec_capacity prints.old }
+    requires capacity { vec_len prints.old + length (prints_in parts.old.items) ≤ vec_capacity prints.old }
     ensures given { prints.new.items ≡ prints.old.items ++ prints_in parts.old.items }
     ensures rest { parts.new.items ≡ map without_prints parts.old.items }
 {
@@ -142,7 +142,7 @@ fn renew_all<T: OnPath>(parts: &mut Vec<Option<Part<T>>>)
 /// superstep, in which the same tasks live.
 pub fn print_and_renew<T: OnPath>(parts: &mut Vec<Option<Part<T>>>, prints: &mut Vec<Print>)
     requires stay { (left_in (deeds_in parts.old.items) ≡ 0) × (spawned_in (deeds_in parts.old.items) ≡ 0) }
-    requires room { vec_len prints.old + length (prints_in parts.old.items) ≤ vec_capacity prints.old }
+    requires capacity { vec_len prints.old + length (prints_in parts.old.items) ≤ vec_capacity prints.old }
     ensures given { prints.new.items ≡ prints.old.items ++ prints_in parts.old.items }
     ensures renewed { parts.new.items ≡ map renewed parts.old.items }
 {

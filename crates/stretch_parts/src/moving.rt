@@ -17,7 +17,7 @@ pub fn make_room<T: OnPath>(
 ) -> Result<(), AllocError>
     ensures prints { prints.new.items ≡ prints.old.items }
     ensures records { records.new.items ≡ records.old.items }
-    ensures room { OnOk result (vec_len prints.new + length (prints_in parts.now) ≤ vec_capacity prints.new) }
+    ensures capacity { OnOk result (vec_len prints.new + length (prints_in parts.now) ≤ vec_capacity prints.new) }
     ensures one { OnOk result (vec_len records.new < vec_capacity records.new) }
 {
     let Some(count) = count_prints(parts) else {

@@ -49,10 +49,10 @@ fn is_above<T: OnPath>(task: &T, low: &Option<Path>) -> bool
 // Moves the last task of a list to the end of another, which has room for it.
 fn move_last<T: OnPath>(tasks: &mut Vec<T>, others: &mut Vec<T>)
     requires some { 0 < length tasks.old.items }
-    requires room { vec_len others.old < vec_capacity others.old }
+    requires capacity { vec_len others.old < vec_capacity others.old }
     ensures moved { HasMovedLast tasks.old.items tasks.new.items others.old.items others.new.items }
     ensures count { (vec_len tasks.new + 1 ≡ vec_len tasks.old) × (vec_len others.new ≡ vec_len others.old + 1) }
-    ensures room { vec_capacity others.new ≡ vec_capacity others.old }
+    ensures capacity { vec_capacity others.new ≡ vec_capacity others.old }
 {
     match tasks.pop() {
         Some(task) => others.push_reserved(task),
@@ -114,7 +114,7 @@ fn is_stray_next<T: OnPath>(tasks: &[T], strays: &[T]) -> bool
 // Moves tasks to the end of others, the last of them first, and in front of each the strays that it doesn't come before.
 fn merge<T: OnPath>(tasks: &mut Vec<T>, strays: &mut Vec<T>, all: &mut Vec<T>)
     requires none_yet { all.old.items ≡ [] }
-    requires room { vec_len tasks.old + vec_len strays.old ≤ vec_capacity all.old }
+    requires capacity { vec_len tasks.old + vec_len strays.old ≤ vec_capacity all.old }
     requires order { IsInOrder T.path_of (reverse strays.old.items) }
     ensures { Receives T.path_of (reverse tasks.old.items) all.new.items (reverse strays.old.items) (reverse strays.new.items) }
 {
@@ -140,10 +140,10 @@ fn receive<T: OnPath>(
     if !is_stray_next(tasks, strays) {
         return Ok(());
     }
-    let Some(room) = tasks.len().checked_add(strays.len()) else {
+    let Some(count) = tasks.len().checked_add(strays.len()) else {
         return Err(AllocError);
     };
-    let mut all = Vec::with_capacity(alloc, room)?;
+    let mut all = Vec::with_capacity(alloc, count)?;
     tasks.reverse();
     merge(tasks, strays, &mut all);
     mem::swap(tasks, &mut all);

@@ -50,7 +50,7 @@ pub(crate) struct State<T> {
     // The path of the first live task after its own, when it was cut; `None` if there was none.
     bound: Option<Path>,
     // Room for the next live tasks. Once it is settled, those after the bound wait in it.
-    room: Regrouping<T>,
+    spare: Regrouping<T>,
     // Whether the next live tasks have replaced those that ran.
     settled: Option<Settled>,
     // What these and their deeds were then.
@@ -95,7 +95,7 @@ impl<T: OnPath> Part<T> {
     ghost use Rattle.std.specs.Vec.{vec_len, vec_capacity};
     ghost use Rattle.std.specs.List.{list_all};
     ghost use Rattle.superstep_memory.specs.Landing.{landed, is_set};
-    ghost use Rattle.programs.specs.InPlace.{told_at, maker, left_in, spawned_in, made_in, living_with};
+    ghost use Rattle.programs.specs.InPlace.{overflow_at, maker, left_in, spawned_in, made_in, living_with};
     ghost use Rattle.stretch_parts.specs.Parts.{fresh_part};
 
     /// Creates a stretch without tasks.
@@ -119,7 +119,7 @@ impl<T: OnPath> Part<T> {
                 prints: Vec::new(alloc),
                 fault: None,
                 bound: None,
-                room: Regrouping::new(alloc),
+                spare: Regrouping::new(alloc),
                 settled: None,
                 notes: Notes::new(),
             },
@@ -280,9 +280,9 @@ impl<T: OnPath> Part<T> {
 
     /// Moves its prints to the end of others, which have room for them.
     pub fn give_prints(&mut self, prints: &mut Vec<Print>)
-        requires room { vec_len prints.old + length self.old.prints ≤ vec_capacity prints.old }
+        requires capacity { vec_len prints.old + length self.old.prints ≤ vec_capacity prints.old }
         ensures given { prints.new.items ≡ prints.old.items ++ self.old.prints }
-        ensures room { vec_capacity prints.old ≤ vec_capacity prints.new }
+        ensures capacity { vec_capacity prints.old ≤ vec_capacity prints.new }
         ensures rest { self.new ≡ record self.old { prints = [] } }
     {
         match prints.append(&mut self.state.prints) {
@@ -320,7 +320,7 @@ impl<T: OnPath> Part<T> {
 
     /// Returns the fault of the task that made the put at this place of its puts. `None` if fewer were made, or if it is settled.
     pub fn blame_at(&self, place: usize) -> Option<Blame>
-        ensures { IfSome result (λ blame. Some blame ≡ option_map told_at (maker T.path_of self.now.tasks self.now.deeds place)) }
+        ensures { IfSome result (λ blame. Some blame ≡ option_map overflow_at (maker T.path_of self.now.tasks self.now.deeds place)) }
     {
         match &self.state.settled {
             Some(_) => None,
@@ -360,7 +360,7 @@ impl<T: OnPath> Part<T> {
     {
         let state = &mut *self.state;
         settle_state(state)?;
-        mem::swap(strays, &mut state.room.waiting);
+        mem::swap(strays, &mut state.spare.waiting);
         let next = mem::replace(&mut state.tasks, Vec::new(alloc));
         state.first = 0;
         forget(state);
@@ -394,30 +394,30 @@ pub(crate) fn first_of<T: OnPath>(tasks: &[T]) -> Option<Path>
 fn forget<T: OnPath>(state: &mut State<T>)
     ensures same { (state.new.first ≡ state.old.first) × (state.new.tasks.items ≡ state.old.tasks.items) }
     ensures fresh { (state.new.done ≡ false) × (state.new.work.puts ≡ []) × (state.new.deeds ≡ []) × (state.new.prints.items ≡ []) × (state.new.fault ≡ None) }
-    ensures kept { (state.new.settled ≡ None) × (state.new.notes.items ≡ []) × (state.new.room.waiting.items ≡ []) }
+    ensures kept { (state.new.settled ≡ None) × (state.new.notes.items ≡ []) × (state.new.spare.waiting.items ≡ []) }
 {
     state.done = false;
     state.work.puts.clear();
     state.deeds.clear();
     state.prints.clear();
     state.fault = None;
-    state.room.waiting.clear();
+    state.spare.waiting.clear();
     state.settled = None;
     state.notes = Notes::new();
 }
 
 // Replaces tasks that have run by the next live tasks, if tasks came or left. If memory runs out, nothing changes.
 fn settle_state<T: OnPath>(state: &mut State<T>) -> Result<(), AllocError>
-    requires kept { IsKept T.path_of state.old.settled state.old.tasks.items (reverse state.old.room.waiting.items) state.old.notes.items state.old.done }
+    requires kept { IsKept T.path_of state.old.settled state.old.tasks.items (reverse state.old.spare.waiting.items) state.old.notes.items state.old.done }
     requires done { state.old.done ≡ true }
     requires same { length (tasks_by state.old.notes.items state.old.tasks.items) ≡ length (deeds_by state.old.notes.items state.old.deeds) }
     requires rising { is_rising (map T.path_of (tasks_by state.old.notes.items state.old.tasks.items)) ≡ true }
     requires numbered { AreNumbered T.path_of (tasks_by state.old.notes.items state.old.tasks.items) (deeds_by state.old.notes.items state.old.deeds) }
-    ensures kept { IsKept T.path_of state.new.settled state.new.tasks.items (reverse state.new.room.waiting.items) state.new.notes.items state.new.done }
+    ensures kept { IsKept T.path_of state.new.settled state.new.tasks.items (reverse state.new.spare.waiting.items) state.new.notes.items state.new.done }
     ensures tasks { tasks_by state.new.notes.items state.new.tasks.items ≡ tasks_by state.old.notes.items state.old.tasks.items }
     ensures deeds { deeds_by state.new.notes.items state.new.deeds ≡ deeds_by state.old.notes.items state.old.deeds }
     ensures rest { (state.new.first ≡ state.old.first) × (state.new.done ≡ state.old.done) × (state.new.work ≡ state.old.work) × (state.new.prints ≡ state.old.prints) × (state.new.fault ≡ state.old.fault) }
-    ensures next { OnOk result (state.new.tasks.items ++ reverse state.new.room.waiting.items
+    ensures next { OnOk result (state.new.tasks.items ++ reverse state.new.spare.waiting.items
         ≡ in_path_order T.path_of (living_with (tasks_by state.old.notes.items state.old.tasks.items) (deeds_by state.old.notes.items state.old.deeds))) }
 {
     if state.settled.is_some() || state.deeds.all_stay() {
@@ -436,7 +436,7 @@ fn settle_state<T: OnPath>(state: &mut State<T>) -> Result<(), AllocError>
     let notes = Notes::new().and(&state.tasks, &state.deeds);
     state
         .deeds
-        .regroup_within(&mut state.tasks, &mut state.room, count, &state.bound)?;
+        .regroup_within(&mut state.tasks, &mut state.spare, count, &state.bound)?;
     state.notes = notes;
     state.settled = Some(Settled {
         ran,

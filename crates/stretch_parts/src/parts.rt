@@ -4,7 +4,7 @@ ghost use Rattle.std.specs.Vec.{vec_len, vec_capacity};
 ghost use Rattle.std.specs.List.{list_all};
 ghost use Rattle.superstep_memory.specs.Landing.{is_set};
 ghost use Rattle.std.specs.Option.{option_map};
-ghost use Rattle.programs.specs.InPlace.{left_in, spawned_in, told_at, maker};
+ghost use Rattle.programs.specs.InPlace.{left_in, spawned_in, overflow_at, maker};
 ghost use Rattle.stretch_parts.specs.Parts.{EachDid, covers, is_done, fault_in, of_slot, tasks_in, puts_in, deeds_in, prints_in, renewed};
 
 use crate::part::Part;
@@ -158,7 +158,7 @@ pub fn are_all_sets<T: OnPath>(parts: &[Option<Part<T>>]) -> bool
 /// large to be kept, or if the stretch of the task is settled.
 pub fn find_blame<T: OnPath>(parts: &[Option<Part<T>>], place: usize) -> Option<Blame>
     requires { EachDid parts.now }
-    ensures { IfSome result (λ blame. Some blame ≡ option_map told_at (maker T.path_of (tasks_in parts.now) (deeds_in parts.now) place)) }
+    ensures { IfSome result (λ blame. Some blame ≡ option_map overflow_at (maker T.path_of (tasks_in parts.now) (deeds_in parts.now) place)) }
 {
     let mut left = place;
     let mut place = 0;

@@ -2,8 +2,8 @@
 use Rattle.std.specs.Prelude.{slice_get, ◌||◌, is_some, IfSome, ◌⊎◌}
 use Rattle.std.proofs.Common.{◌≡◌, ℕ, Bool, true, false, List, [], ◌∷◌, Option, Some, None, refl, sym, ap, ◌∙◌, subst, ⊎_elim}
 use Rattle.atomic_table.specs.Seated.{TableId}
-use Rattle.pass_list.specs.declared.rule.Ticket.{Ticket}
-use Rattle.pass_list.specs.Passed.{IsOut, ticket, without}
+use Rattle.pass_list.specs.declared.rule.TicketEntry.{TicketEntry}
+use Rattle.pass_list.specs.Passed.{IsOut, ticket_entry, without}
 use Rattle.stretch_parts.specs.PartValue.{PartValue}
 use Rattle.stretch_parts.specs.Parts.{covers}
 use Rattle.program_stretches.specs.declared.fault.AcceptStretchFault.{AcceptStretchFault}
@@ -34,7 +34,7 @@ out_not_there None a b = not_both false a refl
 out_not_there (Some None) a b = not_both false b refl
 out_not_there (Some (Some part)) a b = not_both false a refl
 
--- a stretch whose pass came back isn't refused
+-- a stretch whose ticket came back isn't refused
 pub not_refused : {Q S : Type 0} (v : StretchesValue Q S) (s : StretchValue Q S) (fault : AcceptStretchFault) → s.step ≡ v.step → s.part.done ≡ true → out_at (slice_get v.parts s.number) ≡ true → Refuses fault v s → ⊥
 not_refused v s unwanted.WrongStep step done out h = h step
 not_refused v s unwanted.Unfinished step done out h = not_both s.part.done done h.1
@@ -62,7 +62,7 @@ module _ {Q S : Type 0} {kept : StretchesValue Q S → Bool → Type 0} {mark : 
 
     -- a stretch goes out
     pub handed_out : is_over b ≡ false → (number : ℕ) (v : StretchesValue Q S) (s : StretchValue Q S) → IsTaken b.stretches v number s → (new : Lists) (key at place : ℕ) → at ≡ s.step → place ≡ s.number
-        → new.stretches ≡ record lists.stretches { out = ticket key at place tt ∷ lists.stretches.out } → new.stops ≡ lists.stops → (ready : List ℕ)
+        → new.stretches ≡ record lists.stretches { out = ticket_entry key at place tt ∷ lists.stretches.out } → new.stops ≡ lists.stops → (ready : List ℕ)
         → IsQueue kept mark workers passes stops new (record b { stretches = v; ready = ready })
     handed_out going number v s t new key at place same here more others ready =
         let o = taken_out b.stretches v number s t in
@@ -84,8 +84,8 @@ module _ {Q S : Type 0} {kept : StretchesValue Q S → Bool → Type 0} {mark : 
           nobody = λ e. ap (λ l. l.out) others ∙ q.nobody going;
         }
 
-    -- a stretch comes back, with its pass
-    pub delivered : (s : StretchValue Q S) (v : StretchesValue Q S) (new : Lists) → v ≡ with_slot b.stretches s.number (Some s.part) → Accepts b.stretches s → (t : Ticket (Unit {0})) → IsOut t lists.stretches.out → t.number ≡ s.number
+    -- a stretch comes back, with its ticket
+    pub delivered : (s : StretchValue Q S) (v : StretchesValue Q S) (new : Lists) → v ≡ with_slot b.stretches s.number (Some s.part) → Accepts b.stretches s → (t : TicketEntry (Unit {0})) → IsOut t lists.stretches.out → t.number ≡ s.number
         → new.stretches.name ≡ lists.stretches.name → new.stretches.out ≡ without t.key lists.stretches.out → new.stops ≡ lists.stops
         → IsQueue kept mark workers passes stops new (record b { stretches = v })
     delivered s v new same a t there number name rest others =
@@ -147,10 +147,10 @@ module _ {Q S : Type 0} {kept : StretchesValue Q S → Bool → Type 0} {mark : 
     }
 
     -- a worker has stopped, so the run has ended if it wasn't refused
-    pub over_by : (t : Ticket (Unit {0})) → IsOut t lists.stops.out → b.first ≡ None → has_ended_in b.stretches b.stopped ≡ true
+    pub over_by : (t : TicketEntry (Unit {0})) → IsOut t lists.stops.out → b.first ≡ None → has_ended_in b.stretches b.stopped ≡ true
     over_by t there none = by (is_over b) refl
       where
-        nothing : (ts : List (Ticket (Unit {0}))) → ts ≡ [] → IsOut t ts → ⊥
+        nothing : (ts : List (TicketEntry (Unit {0}))) → ts ≡ [] → IsOut t ts → ⊥
         nothing ts e k = absurd (subst (IsOut t) e k)
 
         by : (x : Bool) → is_over b ≡ x → has_ended_in b.stretches b.stopped ≡ true

@@ -17,7 +17,7 @@ pub record QueueValue (Q S : Type 0) : Type 0 where
   pub first : Option Refused
   pub ready : List ℕ
 
--- no pass of these lists is out
+-- no ticket of these lists is out
 abbrev pub AreNew : Lists → Type 0
 AreNew l = (l.stretches.out ≡ []) × (l.stops.out ≡ [])
 

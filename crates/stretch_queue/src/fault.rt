@@ -63,7 +63,7 @@ pub enum WorkerFault {
 impl WorkerFault {
     /// Returns the refusal that the run returns for this reason.
     pub fn refusal(self) -> Refused
-        ensures told { result ≡ refusal_of self }
+        ensures reported { result ≡ refusal_of self }
         ensures workers { (workers : ℕ) → IsOfWorkers workers result }
     {
         match self {

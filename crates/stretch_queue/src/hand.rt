@@ -11,7 +11,7 @@ use crate::hooks::Gate;
 use crate::moves::{Moves, moves_of};
 use crate::running::Running;
 use crate::tokens::Tokens;
-use pass_list::list::Pass;
+use pass_list::list::Ticket;
 use program_stretches::Stretch;
 use programs::program::{Program, TaskLoop};
 use std::alloc::{AllocError, Global};
@@ -19,12 +19,12 @@ use std::marker::Model;
 use std::sync::Wait;
 use superstep_memory::path::Path;
 
-/// A stretch that a worker holds, with the pass by which it comes back, the members of its tasks, and what is to be written before
-/// its tasks run. Its type keeps that the stretch is of the run, and that the pass is for it.
+/// A stretch that a worker holds, with the ticket by which it comes back, the members of its tasks, and what is to be written before
+/// its tasks run. Its type keeps that the stretch is of the run, and that the ticket is for it.
 #[derive(Drop)]
 pub struct HeldStretch<'p, P: Program, L: Lines, J: Running> {
     stretch: Stretch<'p, P>,
-    pass: Pass<()>,
+    pass: Ticket<()>,
     tokens: Tokens<J>,
     lines: Option<L>,
 }
@@ -37,12 +37,12 @@ impl<'p, P: Program, L: Lines, J: Running> Model for HeldStretch<'p, P, L, J> {
     ghost invariant = { λ h. (h.stretch.name ≡ J.mark) × IsFor J.passes h.stretch.step h.stretch.number h.pass };
 }
 
-/// A stretch that a worker has run, with the pass by which it comes back, and the members of its tasks. Its type keeps what that
+/// A stretch that a worker has run, with the ticket by which it comes back, and the members of its tasks. Its type keeps what that
 /// of `HeldStretch` does, and that all segments have run. Only delivering it gives the members, so none arrives before.
 #[derive(Drop)]
 pub struct RanStretch<'p, P: Program, J: Running> {
     stretch: Stretch<'p, P>,
-    pass: Pass<()>,
+    pass: Ticket<()>,
     tokens: Tokens<J>,
     moves: Moves,
 }
@@ -177,8 +177,13 @@ impl<'p, P: TaskLoop, L: Lines, J: Running> HeldStretch<'p, P, L, J> {
     ghost use Rattle.stretch_queue.specs.HandedOut.{IsFor};
     ghost use Rattle.stretch_queue.specs.declared.fault.WorkerFault.TheVariants as worker_fault;
 
-    /// Holds a stretch of the run, with its pass, the members of its tasks, and what is to be written before they run.
-    pub fn new(stretch: Stretch<'p, P>, pass: Pass<()>, tokens: Tokens<J>, lines: Option<L>) -> Self
+    /// Holds a stretch of the run, with its ticket, the members of its tasks, and what is to be written before they run.
+    pub fn new(
+        stretch: Stretch<'p, P>,
+        pass: Ticket<()>,
+        tokens: Tokens<J>,
+        lines: Option<L>,
+    ) -> Self
         requires mark { stretch.name ≡ J.mark }
         requires pass { IsFor J.passes stretch.step stretch.number pass }
         ensures { result ≡ stretch.entry }
@@ -248,8 +253,8 @@ impl<'p, P: Program, J: Running> RanStretch<'p, P, J> {
         stretch.give_up();
     }
 
-    /// Returns the stretch, its pass, the members of its tasks, and how many tasks came and left.
-    pub fn into_parts(self) -> (Stretch<'p, P>, Pass<()>, Tokens<J>, Moves)
+    /// Returns the stretch, its ticket, the members of its tasks, and how many tasks came and left.
+    pub fn into_parts(self) -> (Stretch<'p, P>, Ticket<()>, Tokens<J>, Moves)
         ensures stretch { result.0 ≡ self.entry }
         ensures done { result.0.part.done ≡ true }
         ensures mark { result.0.name ≡ J.mark }

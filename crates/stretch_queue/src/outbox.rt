@@ -8,7 +8,7 @@ use crate::hand::RanStretch;
 use crate::moves::Moves;
 use crate::running::Running;
 use crate::tokens::Tokens;
-use pass_list::list::Pass;
+use pass_list::list::Ticket;
 use program_stretches::Stretch;
 use programs::program::Program;
 use std::alloc::Global;
@@ -38,11 +38,11 @@ pub struct Arrived<J: Running> {
     pub tokens: Tokens<J>,
 }
 
-/// A stretch that was delivered, with the pass by which it comes back. Its type keeps what that of `RanStretch` does.
+/// A stretch that was delivered, with the ticket by which it comes back. Its type keeps what that of `RanStretch` does.
 #[derive(Drop)]
 pub struct DoneStretch<'p, P: Program, J: Running> {
     stretch: Stretch<'p, P>,
-    pass: Pass<()>,
+    pass: Ticket<()>,
     // How many members it has after this superstep.
     size: usize,
     of: PhantomData<J>,
@@ -60,8 +60,8 @@ impl<'p, P: Program, J: Running> DoneStretch<'p, P, J> {
     ghost use Rattle.std.specs.Prelude.{◌≡◌, true};
     ghost use Rattle.stretch_queue.specs.HandedOut.{IsFor};
 
-    /// Returns the stretch, its pass, and how many members it has after this superstep.
-    pub fn into_parts(self) -> (Stretch<'p, P>, Pass<()>, usize)
+    /// Returns the stretch, its ticket, and how many members it has after this superstep.
+    pub fn into_parts(self) -> (Stretch<'p, P>, Ticket<()>, usize)
         ensures stretch { result.0 ≡ self.entry }
         ensures done { result.0.part.done ≡ true }
         ensures mark { result.0.name ≡ J.mark }

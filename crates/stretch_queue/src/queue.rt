@@ -14,7 +14,7 @@ use crate::members::{Members, Recut};
 use crate::outbox::{Arrived, DoneStretch};
 use crate::running::Running;
 use crate::tokens::Tokens;
-use pass_list::list::{Pass, PassList};
+use pass_list::list::{Ticket, TicketList};
 use program_stretches::{Left, Stretches};
 use programs::program::{Program, TaskLoop};
 use std::alloc::{AllocError, Global};
@@ -22,19 +22,19 @@ use std::collections::VecDeque;
 use std::marker::{Model, PhantomData};
 use std::mem;
 
-/// The pass lists of a run.
+/// The ticket lists of a run.
 #[derive(Drop)]
 pub struct Lists {
-    /// Passes for stretches that workers hold.
-    pub stretches: PassList<()>,
-    /// Passes for workers that have stopped.
-    pub stops: PassList<()>,
+    /// Tickets for stretches that workers hold.
+    pub stretches: TicketList<()>,
+    /// Tickets for workers that have stopped.
+    pub stops: TicketList<()>,
 }
 
-/// The pass of a worker that has stopped. A worker gets it when it sees that workers must stop.
+/// The ticket of a worker that has stopped. A worker gets it when it sees that workers must stop.
 #[derive(Drop)]
 pub struct Stopped<J: Running> {
-    pass: Pass<()>,
+    pass: Ticket<()>,
     of: PhantomData<J>,
     ghost own: { (pass.name ≡ J.stops) × (is_some pass.held ≡ true) },
 }
@@ -54,7 +54,7 @@ pub enum HandedBack<J: Running> {
 
 /// The stretches of a run, its hook, the members that arrive for their tasks, and the first refusal. Its type keeps that the
 /// stretches have the mark of the run, that the hook keeps what it says of them, that a worker that couldn't be started is one of
-/// the run, and that each pass for a stretch is for one of this superstep that is out. Until workers must stop, it also keeps that
+/// the run, and that each ticket for a stretch is for one of this superstep that is out. Until workers must stop, it also keeps that
 /// no worker has stopped.
 #[derive(Drop)]
 pub struct Queue<'t, 'p, P: TaskLoop, H: Hook<P>, J: Running> {
@@ -219,7 +219,7 @@ impl<'t, 'p, P: TaskLoop, H: Hook<P>, J: Running> Queue<'t, 'p, P, H, J> {
         self.ready.len()
     }
 
-    // Issues the pass of a worker that stops.
+    // Issues the ticket of a worker that stops.
     fn stop(&mut self) -> Stopped<J>
         requires over { is_over self.old ≡ true }
         ensures { self.new ≡ self.old }
@@ -262,7 +262,7 @@ impl<'t, 'p, P: TaskLoop, H: Hook<P>, J: Running> Queue<'t, 'p, P, H, J> {
         Ok(HeldStretch::new(stretch, pass, tokens, lines))
     }
 
-    /// Returns the pass of a worker that stops, if workers must stop.
+    /// Returns the ticket of a worker that stops, if workers must stop.
     pub fn stop_if_over(&mut self) -> Option<Stopped<J>>
         ensures over { is_some result ≡ is_over self.old }
         ensures same { self.new ≡ self.old }
@@ -507,7 +507,7 @@ impl<'t, 'p, P: TaskLoop, H: Hook<P>, J: Running> Queue<'t, 'p, P, H, J> {
     }
 
     /// Returns what the run leaves, or its first refusal if there is one. Without a refusal, fails only if memory runs out.
-    /// `stopped` is the pass of a worker that has stopped.
+    /// `stopped` is the ticket of a worker that has stopped.
     pub fn conclude(self, alloc: Global, stopped: Stopped<J>) -> Result<Left<'p, P>, Refused>
         ensures left { IfOk result (λ l. HasLeftKept (reading_of P.frame P.may P.meant P.Task.path_of) H.kept J.mark l.writer l.given l.ran.report l.ran.tasks.items) }
         ensures first { IfSome self.entry.first (λ refused. result ≡ Err refused) }

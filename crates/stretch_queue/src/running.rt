@@ -2,7 +2,7 @@
 use std::marker::Brand;
 
 /// Identifies a run in contracts: the mark of its stretches, the number of workers, the tree at which they meet, and the lists of
-/// the passes for stretches, and for workers that have stopped. Each run picks a type for it.
+/// the tickets for stretches, and for workers that have stopped. Each run picks a type for it.
 pub trait Running {
     ghost use Rattle.std.specs.Prelude.{ℕ};
     ghost use Rattle.tier_table.specs.Holding.{Named};

@@ -238,9 +238,9 @@ pub(crate) fn land_adds(
     olds.clear();
     match take_lots(arrays, lots, rows, count, olds) {
         Ok(None) => Ok(None),
-        told => {
+        reported => {
             give_back_lots(arrays, lots, rows, count, olds);
-            told
+            reported
         }
     }
 }

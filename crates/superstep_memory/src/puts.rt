@@ -160,7 +160,7 @@ impl Puts {
     }
 
     /// Returns an empty vector for the values of a row, with the memory of an earlier row if there is one.
-    pub fn room(&mut self, alloc: Global) -> Vec<i64>
+    pub fn buffer(&mut self, alloc: Global) -> Vec<i64>
         ensures empty { result.items ≡ [] }
         ensures same { self.new ≡ self.old }
     {
@@ -175,7 +175,7 @@ impl Puts {
 
     /// Exchanges the memory that both keep for rows.
     #[inline(always)]
-    pub fn swap_room(&mut self, other: &mut Puts)
+    pub fn swap_buffer(&mut self, other: &mut Puts)
         ensures { (self.new ≡ self.old) × (other.new ≡ other.old) }
     {
         mem::swap(&mut self.spare, &mut other.spare);

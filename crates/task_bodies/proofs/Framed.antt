@@ -4,8 +4,8 @@ use Rattle.std.specs.Prelude.{ℤ, Result, Ok, Err, IfOk}
 use Rattle.std.proofs.lemmas.Bool.Decides.{nat_tests}
 use Rattle.std.proofs.lemmas.List.{reverse-append}
 use Rattle.programs.specs.declared.work.Work.{Work}
-use Rattle.programs.specs.declared.work.Ending.{Ending as Ended}
-use Rattle.programs.specs.declared.work.Ending.TheVariants as ended
+use Rattle.programs.specs.declared.work.SegmentEnd.{SegmentEnd as Ended}
+use Rattle.programs.specs.declared.work.SegmentEnd.TheVariants as ended
 use Rattle.programs.specs.Meaning.{After, Synced, Stopped}
 use Rattle.programs.specs.Lent.{IsLeft}
 use Rattle.task_bodies.specs.declared.body.Ending.{Ending}

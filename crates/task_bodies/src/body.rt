@@ -102,11 +102,11 @@ impl<K: Drop> Out<K> {
     }
 
     /// Returns an empty vector for the values of a row, with the memory of an earlier row if there is one.
-    pub fn room(&mut self, alloc: Global) -> Vec<i64>
+    pub fn buffer(&mut self, alloc: Global) -> Vec<i64>
         ensures empty { result.items ≡ [] }
         ensures same { self.new ≡ self.old }
     {
-        self.puts.room(alloc)
+        self.puts.buffer(alloc)
     }
 
     /// Prints a value.

@@ -93,7 +93,7 @@ impl<F: Fn(i64) -> i64> TaskBody for Map<F> {
             return Ok(Ending::Fails(16));
         }
         let end = span.end as usize;
-        let mut values = out.room(alloc);
+        let mut values = out.buffer(alloc);
         let mut place = span.first as usize;
         while place < end {
             let value = (self.f)(cells[place]);

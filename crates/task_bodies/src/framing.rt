@@ -5,7 +5,7 @@ ghost use Rattle.task_bodies.specs.Settled.{HasJoined, IsSettled};
 
 use crate::body::Out;
 use crate::member::{Member, number};
-use programs::work::{Ending, Work};
+use programs::work::{SegmentEnd, Work};
 use std::alloc::{AllocError, Global};
 use std::mem;
 use superstep_memory::arrays::Arrays;
@@ -21,7 +21,7 @@ pub(crate) fn open<K: Drop>(alloc: Global, work: &mut Work<Member<K>>) -> Out<K>
 {
     let mut puts = mem::replace(&mut work.own, Puts::new(alloc));
     puts.clear();
-    puts.swap_room(&mut work.puts);
+    puts.swap_buffer(&mut work.puts);
     let prints = mem::replace(&mut work.prints, Vec::new(alloc));
     Out {
         puts,
@@ -77,7 +77,7 @@ fn join<K: Drop>(
         number(&task.path, task.begun, &mut spawns, &mut work.spawns)?;
         task.begun += count;
     }
-    puts.swap_room(&mut work.puts);
+    puts.swap_buffer(&mut work.puts);
     work.puts.append(&mut puts)?;
     work.own = puts;
     work.prints = prints;
@@ -91,13 +91,13 @@ pub(crate) fn settle<K: Drop>(
     arrays: &Arrays,
     out: Out<K>,
     work: &mut Work<Member<K>>,
-    ended: Ending,
-) -> Result<Ending, AllocError>
+    ended: SegmentEnd,
+) -> Result<SegmentEnd, AllocError>
     requires { work.old.spawns.items ≡ [] }
     ensures { IfOk result (λ e. IsSettled (refused arrays.now task.old.path task.old.begun out.puts (length out.spawns)) task.old task.new out work.old work.new ended e) }
 {
     match refuse(task, arrays, &out) {
-        Some(code) => Ok(Ending::Fails(code)),
+        Some(code) => Ok(SegmentEnd::Fails(code)),
         None => {
             join(task, out, work)?;
             Ok(ended)

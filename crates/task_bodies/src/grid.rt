@@ -231,7 +231,7 @@ impl<F: Fn(Window) -> i64> TaskBody for Grid<F> {
         let mut row = rows.first as usize;
         let first = row * width;
         let mut at = first;
-        let mut values = out.room(alloc);
+        let mut values = out.buffer(alloc);
         while row < end {
             self.push_row(rows_round(cells, row, at, width), width, &mut values)?;
             row += 1;

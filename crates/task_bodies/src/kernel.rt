@@ -48,7 +48,7 @@ impl<F: Fn(i64, i64, i64) -> i64> TaskBody for Stencil<F> {
         if span.before > span.end || cells.len() < 2 || end > cells.len() - 2 {
             return Ok(Ending::Fails(16));
         }
-        let mut values = out.room(alloc);
+        let mut values = out.buffer(alloc);
         let mut place = span.before as usize;
         while place < end {
             let value = (self.f)(cells[place], cells[place + 1], cells[place + 2]);

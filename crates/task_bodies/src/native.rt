@@ -10,7 +10,7 @@ use programs::blame::Blame;
 use programs::deeds::Deeds;
 use programs::in_place::{StepScene, do_range};
 use programs::program::{Program, TaskLoop};
-use programs::work::{Ending as Ended, Work};
+use programs::work::{SegmentEnd as Ended, Work};
 use std::alloc::{AllocError, Global};
 use superstep_memory::arrays::Arrays;
 

@@ -1,6 +1,6 @@
 //! Runs of tasks with a body written in Rattle.
 ghost use Rattle.std.specs.Prelude.{◌≡◌, ◌<◌, ◌↔◌, [], Some, true, false, IfOk, IfErr, length};
-ghost use Rattle.task_bodies.specs.declared.run.RunFault.TheVariants.{TooMany as TooManyStart};
+ghost use Rattle.task_bodies.specs.declared.run.BodiesFault.TheVariants.{TooMany as TooManyStart};
 ghost use Rattle.programs.specs.History.{HasRun, HasRunTo, says_of, living_after};
 ghost use Rattle.programs.specs.Supersteps.{report_of, so_far};
 ghost use Rattle.task_bodies.specs.Bodies.{MemberValue, member_frame, are_too_many, BodyMay, body_does, numbered};
@@ -16,7 +16,7 @@ use thiserror::Error;
 
 /// The error of a run that didn't start or didn't end.
 #[derive(Debug, Drop, Error)]
-pub enum RunFault {
+pub enum BodiesFault {
     /// There are more start tasks than may live at once, or than 65535. Start fewer, and let these spawn the others.
     #[error("too many start tasks")]
     TooMany,
@@ -25,19 +25,19 @@ pub enum RunFault {
     Memory(AllocError),
 }
 
-impl From<AllocError> for RunFault {
+impl From<AllocError> for BodiesFault {
     ghost from_gives = { λ _ e. (e ≡ TooManyStart) → ⊥ };
 
-    fn from(fault: AllocError) -> RunFault {
-        RunFault::Memory(fault)
+    fn from(fault: AllocError) -> BodiesFault {
+        BodiesFault::Memory(fault)
     }
 }
 
-impl<T: Drop> From<AllocFailed<T>> for RunFault {
+impl<T: Drop> From<AllocFailed<T>> for BodiesFault {
     ghost from_gives = { λ _ e. (e ≡ TooManyStart) → ⊥ };
 
-    fn from(_failed: AllocFailed<T>) -> RunFault {
-        RunFault::Memory(AllocError)
+    fn from(_failed: AllocFailed<T>) -> BodiesFault {
+        BodiesFault::Memory(AllocError)
     }
 }
 
@@ -55,7 +55,7 @@ pub fn run_bodies<B: TaskBody>(
     tasks: Vec<B::Kept>,
     most: u32,
     limit: u32,
-) -> Result<Ran<Member<B::Kept>>, RunFault>
+) -> Result<Ran<Member<B::Kept>>, BodiesFault>
     requires ready { B.ready body.now }
     requires most { most < 2147483648 }
     ensures ran { IfOk result (λ ran. HasRun member_frame (BodyMay (B.may body.now)) most arrays (numbered [] 0 tasks.items) limit ran.report ran.tasks.items) }
@@ -76,7 +76,7 @@ pub fn run_bodies_watched<B: TaskBody, W: Watch>(
     most: u32,
     limit: u32,
     watch: &mut W,
-) -> Result<Ran<Member<B::Kept>>, RunFault>
+) -> Result<Ran<Member<B::Kept>>, BodiesFault>
     requires ready { B.ready body.now }
     requires most { most < 2147483648 }
     ensures ran { IfOk result (λ ran. HasRunTo W.stops W.goes member_frame (BodyMay (B.may body.now)) most arrays (numbered [] 0 tasks.items) limit ran.report ran.tasks.items) }
@@ -84,7 +84,7 @@ pub fn run_bodies_watched<B: TaskBody, W: Watch>(
     ensures fault { IfErr result (λ e. (e ≡ TooManyStart) ↔ (are_too_many most (length tasks.items) ≡ true)) }
 {
     if tasks.len() > 65535 || tasks.len() > most as usize {
-        return Err(RunFault::TooMany);
+        return Err(BodiesFault::TooMany);
     }
     let members = starts(alloc, tasks)?;
     let program = Native { body };
@@ -101,7 +101,7 @@ pub fn run_exactly<B: Exact>(
     tasks: Vec<B::Kept>,
     most: u32,
     limit: u32,
-) -> Result<Ran<Member<B::Kept>>, RunFault>
+) -> Result<Ran<Member<B::Kept>>, BodiesFault>
     requires ready { B.ready body.now }
     requires most { most < 2147483648 }
     ensures report { IfOk result (λ ran. report_of (says_of member_frame most (body_does (B.does body.now))) arrays (numbered [] 0 tasks.items) limit ≡ Some ran.report) }

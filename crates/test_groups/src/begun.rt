@@ -7,10 +7,10 @@ ghost use Rattle.test_groups.specs.Seats.{tree_at, ThreeAt};
 
 use crate::ask::Deed::{Arrive, Await, Join, Poll};
 use crate::counts::are;
+use crate::reported::Reported::{Done, Full, Here, Passed, Waiting};
 use crate::rules::{Rule, WHEN_EMPTY, is_empty};
 use crate::runs::{Row, played};
 use crate::seats::{Seat, Three};
-use crate::told::Told::{Done, Full, Here, Passed, Waiting};
 use crate::trees::left;
 use advance_rule::StoredAdvance;
 use std::alloc::Global;

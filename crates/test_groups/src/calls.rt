@@ -8,9 +8,9 @@ ghost use Rattle.tier_table.specs.GroupsAtLast.{tokens_arrived};
 ghost use Rattle.test_groups.specs.Seats.{tree_at, TwoAt};
 
 use crate::ask::Deed;
+use crate::reported::Reported;
 use crate::rules::Rule;
 use crate::seats::Seat;
-use crate::told::Told;
 use std::process::Abort;
 use std::sync::Wait;
 use tier_table::arriving_with::ArrivedWith;
@@ -30,17 +30,17 @@ fn registers<R: Wait + Abort>(
     door: Door,
     tier: u16,
     members: u32,
-) -> (Seat, Told)
+) -> (Seat, Reported)
     requires own { door.tree ≡ tree.now.tree }
     ensures { tree_at result.0 ≡ tree.now.tree }
 {
     assert!(rt; usize::from(tier) < tree.shape().count() && members > 0);
     match tree.register_all_wait(rt, door, tier, members) {
-        GroupRegistered::Joined(group, phase) => (Seat::Inside(group), Told::Joined(phase)),
-        GroupRegistered::Partly(group, count) => (Seat::Inside(group), Told::Full(count)),
-        GroupRegistered::Full(door, count) => (Seat::Outside(door), Told::Full(count)),
-        GroupRegistered::Ended(door, shown) => (Seat::Outside(door), Told::Ended(shown)),
-        GroupRegistered::PartlyEnded(group, shown) => (Seat::Inside(group), Told::Ended(shown)),
+        GroupRegistered::Joined(group, phase) => (Seat::Inside(group), Reported::Joined(phase)),
+        GroupRegistered::Partly(group, count) => (Seat::Inside(group), Reported::Full(count)),
+        GroupRegistered::Full(door, count) => (Seat::Outside(door), Reported::Full(count)),
+        GroupRegistered::Ended(door, shown) => (Seat::Outside(door), Reported::Ended(shown)),
+        GroupRegistered::PartlyEnded(group, shown) => (Seat::Inside(group), Reported::Ended(shown)),
     }
 }
 
@@ -51,30 +51,30 @@ fn joins<R: Wait>(
     door: &mut Door,
     group: Group,
     members: u32,
-) -> (Seat, Told)
+) -> (Seat, Reported)
     requires own { (door.old.tree ≡ tree.now.tree) × (group.tree ≡ tree.now.tree) }
     ensures door { door.new.tree ≡ tree.now.tree }
     ensures own { tree_at result.0 ≡ tree.now.tree }
 {
     match tree.join_all_wait(rt, door, group, members) {
-        GroupJoined::Joined(group, phase) => (Seat::Inside(group), Told::Joined(phase)),
-        GroupJoined::Full(group, count) => (Seat::Inside(group), Told::Full(count)),
+        GroupJoined::Joined(group, phase) => (Seat::Inside(group), Reported::Joined(phase)),
+        GroupJoined::Full(group, count) => (Seat::Inside(group), Reported::Full(count)),
         GroupJoined::AlreadyArrived(group, phase) => {
-            (Seat::Inside(group), Told::AlreadyArrived(phase))
+            (Seat::Inside(group), Reported::AlreadyArrived(phase))
         }
-        GroupJoined::Ended(group, shown) => (Seat::Inside(group), Told::Ended(shown)),
+        GroupJoined::Ended(group, shown) => (Seat::Inside(group), Reported::Ended(shown)),
     }
 }
 
 /// Returns what an arrival that waits answers, and its group.
-pub(crate) fn told_of(arrived: GroupArrived) -> (Group, Told)
+pub(crate) fn reported_of(arrived: GroupArrived) -> (Group, Reported)
     ensures { result.0 ≡ tokens_arrived arrived }
 {
     match arrived {
-        GroupArrived::Done(group, phase, led) => (group, Told::Done(phase, led)),
-        GroupArrived::Full(group, count) => (group, Told::Full(count)),
-        GroupArrived::AlreadyArrived(group, phase) => (group, Told::AlreadyArrived(phase)),
-        GroupArrived::Ended(group, shown) => (group, Told::Ended(shown)),
+        GroupArrived::Done(group, phase, led) => (group, Reported::Done(phase, led)),
+        GroupArrived::Full(group, count) => (group, Reported::Full(count)),
+        GroupArrived::AlreadyArrived(group, phase) => (group, Reported::AlreadyArrived(phase)),
+        GroupArrived::Ended(group, shown) => (group, Reported::Ended(shown)),
     }
 }
 
@@ -84,7 +84,7 @@ fn finishes(
     tree: &Tree<Rule>,
     errand: Errand,
     others: Option<Group>,
-) -> (Seat, Told)
+) -> (Seat, Reported)
     requires own { errand.token.tree ≡ tree.now.tree }
     requires one { errand.token.view.size ≡ 1 }
     requires beside { IfSome others (IsBeside errand.token) }
@@ -93,7 +93,7 @@ fn finishes(
 {
     match tree.finish(errand, others, 0) {
         Finished::Owing(errand, others) => match tree.finish(errand, others, 16) {
-            Finished::Done(group, phase, led) => (Seat::Inside(group), Told::Done(phase, led)),
+            Finished::Done(group, phase, led) => (Seat::Inside(group), Reported::Done(phase, led)),
             _ => panic!(rt; "not finished"),
         },
         _ => panic!(rt; "finished by no try"),
@@ -101,19 +101,19 @@ fn finishes(
 }
 
 // An arrival of all members, with a number of tries.
-fn arrives_in(rt: &impl Abort, tree: &Tree<Rule>, group: Group, tries: u32) -> (Seat, Told)
+fn arrives_in(rt: &impl Abort, tree: &Tree<Rule>, group: Group, tries: u32) -> (Seat, Reported)
     requires own { group.tree ≡ tree.now.tree }
     requires rule { Answers (pre tree.now.rule.closure) (post tree.now.rule.closure) (end_ends_at tree.now.rule.plan) }
     ensures { tree_at result.0 ≡ tree.now.tree }
 {
     match tree.arrive_all(group, tries) {
-        ArrivedAll::Done(group, phase) => (Seat::Inside(group), Told::Done(phase, false)),
+        ArrivedAll::Done(group, phase) => (Seat::Inside(group), Reported::Done(phase, false)),
         ArrivedAll::Owing(errand, others) => finishes(rt, tree, errand, others),
         ArrivedAll::AlreadyArrived(group, phase) => {
-            (Seat::Inside(group), Told::AlreadyArrived(phase))
+            (Seat::Inside(group), Reported::AlreadyArrived(phase))
         }
-        ArrivedAll::Ended(group, shown) => (Seat::Inside(group), Told::Ended(shown)),
-        ArrivedAll::Busy(group) => (Seat::Inside(group), Told::Busy),
+        ArrivedAll::Ended(group, shown) => (Seat::Inside(group), Reported::Ended(shown)),
+        ArrivedAll::Busy(group) => (Seat::Inside(group), Reported::Busy),
     }
 }
 
@@ -125,7 +125,7 @@ fn arrives_with<R: Wait + Abort>(
     group: Group,
     joining: u32,
     leaving: u32,
-) -> (Seat, Told)
+) -> (Seat, Reported)
     requires own { (door.old.tree ≡ tree.now.tree) × (group.tree ≡ tree.now.tree) }
     requires rule { Answers (pre tree.now.rule.closure) (post tree.now.rule.closure) (end_ends_at tree.now.rule.plan) }
     ensures door { door.new.tree ≡ tree.now.tree }
@@ -134,8 +134,8 @@ fn arrives_with<R: Wait + Abort>(
     assert!(rt;
         leaving <= group.size() && u64::from(leaving) < u64::from(joining) + u64::from(group.size())
     );
-    let (group, told) = told_of(tree.arrive_with_wait(rt, door, group, joining, leaving));
-    (Seat::Inside(group), told)
+    let (group, reported) = reported_of(tree.arrive_with_wait(rt, door, group, joining, leaving));
+    (Seat::Inside(group), reported)
 }
 
 // Does the same with a number of tries.
@@ -146,7 +146,7 @@ fn arrives_with_in(
     group: Group,
     counts: (u32, u32),
     tries: u32,
-) -> (Seat, Told)
+) -> (Seat, Reported)
     requires own { (door.old.tree ≡ tree.now.tree) × (group.tree ≡ tree.now.tree) }
     requires rule { Answers (pre tree.now.rule.closure) (post tree.now.rule.closure) (end_ends_at tree.now.rule.plan) }
     ensures door { door.new.tree ≡ tree.now.tree }
@@ -157,64 +157,64 @@ fn arrives_with_in(
         leaving <= group.size() && u64::from(leaving) < u64::from(joining) + u64::from(group.size())
     );
     match tree.arrive_with(door, group, joining, leaving, tries) {
-        ArrivedWith::Done(group, phase) => (Seat::Inside(group), Told::Done(phase, false)),
+        ArrivedWith::Done(group, phase) => (Seat::Inside(group), Reported::Done(phase, false)),
         ArrivedWith::Owing(errand, others) => finishes(rt, tree, errand, others),
-        ArrivedWith::Full(group, count) => (Seat::Inside(group), Told::Full(count)),
+        ArrivedWith::Full(group, count) => (Seat::Inside(group), Reported::Full(count)),
         ArrivedWith::AlreadyArrived(group, phase) => {
-            (Seat::Inside(group), Told::AlreadyArrived(phase))
+            (Seat::Inside(group), Reported::AlreadyArrived(phase))
         }
-        ArrivedWith::Ended(group, shown) => (Seat::Inside(group), Told::Ended(shown)),
-        ArrivedWith::Busy(group) => (Seat::Inside(group), Told::Busy),
+        ArrivedWith::Ended(group, shown) => (Seat::Inside(group), Reported::Ended(shown)),
+        ArrivedWith::Busy(group) => (Seat::Inside(group), Reported::Busy),
     }
 }
 
 // Returns what a wait answers.
-fn told_by(awaited: AwaitedAdvance) -> Told {
+fn reported_by(awaited: AwaitedAdvance) -> Reported {
     match awaited {
-        AwaitedAdvance::Passed(phase) => Told::Passed(phase),
-        AwaitedAdvance::Here(phase) => Told::Here(phase),
-        AwaitedAdvance::Ended(shown) => Told::Ended(shown),
+        AwaitedAdvance::Passed(phase) => Reported::Passed(phase),
+        AwaitedAdvance::Here(phase) => Reported::Here(phase),
+        AwaitedAdvance::Ended(shown) => Reported::Ended(shown),
     }
 }
 
 // Polls. Returns what that answers.
-fn polls(tree: &Tree<Rule>, group: &mut Group) -> Told
+fn polls(tree: &Tree<Rule>, group: &mut Group) -> Reported
     requires own { group.old.tree ≡ tree.now.tree }
     ensures { group.new.tree ≡ tree.now.tree }
 {
     match tree.poll_all(group) {
-        Polled::Passed(phase) => Told::Passed(phase),
-        Polled::Waiting => Told::Waiting,
-        Polled::Here(phase) => Told::Here(phase),
-        Polled::Ended(shown) => Told::Ended(shown),
+        Polled::Passed(phase) => Reported::Passed(phase),
+        Polled::Waiting => Reported::Waiting,
+        Polled::Here(phase) => Reported::Here(phase),
+        Polled::Ended(shown) => Reported::Ended(shown),
     }
 }
 
 // A departure of all members.
-fn leaves<R: Wait>(rt: &R, tree: &Tree<Rule>, group: Group) -> (Seat, Told)
+fn leaves<R: Wait>(rt: &R, tree: &Tree<Rule>, group: Group) -> (Seat, Reported)
     requires own { group.tree ≡ tree.now.tree }
     requires rule { Answers (pre tree.now.rule.closure) (post tree.now.rule.closure) (end_ends_at tree.now.rule.plan) }
     ensures { tree_at result.0 ≡ tree.now.tree }
 {
     match tree.leave_all_wait(rt, group) {
-        GroupLeft::Left(door, phase, led) => (Seat::Outside(door), Told::Left(phase, led)),
+        GroupLeft::Left(door, phase, led) => (Seat::Outside(door), Reported::Left(phase, led)),
         GroupLeft::AlreadyArrived(group, phase) => {
-            (Seat::Inside(group), Told::AlreadyArrived(phase))
+            (Seat::Inside(group), Reported::AlreadyArrived(phase))
         }
-        GroupLeft::Ended(group, shown) => (Seat::Inside(group), Told::Ended(shown)),
+        GroupLeft::Ended(group, shown) => (Seat::Inside(group), Reported::Ended(shown)),
     }
 }
 
 // Ends the tree by force.
-fn forces(tree: &Tree<Rule>, mut door: Door) -> (Seat, Told)
+fn forces(tree: &Tree<Rule>, mut door: Door) -> (Seat, Reported)
     requires own { door.tree ≡ tree.now.tree }
     ensures { tree_at result.0 ≡ tree.now.tree }
 {
-    let told = match tree.force(&mut door, 16) {
-        Forced::Ended(shown) => Told::Ended(shown),
-        Forced::Busy => Told::Busy,
+    let reported = match tree.force(&mut door, 16) {
+        Forced::Ended(shown) => Reported::Ended(shown),
+        Forced::Busy => Reported::Busy,
     };
-    (Seat::Outside(door), told)
+    (Seat::Outside(door), reported)
 }
 
 // Does what a group does without another one. New tokens are split off the spare door.
@@ -224,7 +224,7 @@ fn done_alone<R: Wait + Abort>(
     spare: &mut Door,
     mut group: Group,
     deed: Deed,
-) -> (Seat, Told)
+) -> (Seat, Reported)
     requires own { (spare.old.tree ≡ tree.now.tree) × (group.tree ≡ tree.now.tree) }
     requires rule { Answers (pre tree.now.rule.closure) (post tree.now.rule.closure) (end_ends_at tree.now.rule.plan) }
     ensures spare { spare.new.tree ≡ tree.now.tree }
@@ -233,8 +233,8 @@ fn done_alone<R: Wait + Abort>(
     match deed {
         Deed::Join(members) => joins(rt, tree, spare, group, members),
         Deed::Arrive => {
-            let (group, told) = told_of(tree.arrive_all_wait(rt, group));
-            (Seat::Inside(group), told)
+            let (group, reported) = reported_of(tree.arrive_all_wait(rt, group));
+            (Seat::Inside(group), reported)
         }
         Deed::ArriveIn(tries) => arrives_in(rt, tree, group, tries),
         Deed::ArriveWith(come, go) => arrives_with(rt, tree, spare, group, come, go),
@@ -242,16 +242,16 @@ fn done_alone<R: Wait + Abort>(
             arrives_with_in(rt, tree, spare, group, (come, go), tries)
         }
         Deed::Await => {
-            let told = told_by(tree.await_advance_all(rt, &mut group));
-            (Seat::Inside(group), told)
+            let reported = reported_by(tree.await_advance_all(rt, &mut group));
+            (Seat::Inside(group), reported)
         }
         Deed::Poll => {
-            let told = polls(tree, &mut group);
-            (Seat::Inside(group), told)
+            let reported = polls(tree, &mut group);
+            (Seat::Inside(group), reported)
         }
         Deed::Meet => {
             let (group, awaited) = tree.meet_all_wait(rt, group);
-            (Seat::Inside(group), told_by(awaited))
+            (Seat::Inside(group), reported_by(awaited))
         }
         Deed::Leave => leaves(rt, tree, group),
         _ => panic!(rt; "a group can't do it alone"),
@@ -259,15 +259,20 @@ fn done_alone<R: Wait + Abort>(
 }
 
 // A group keeps its first members, and a new one has the others.
-fn splits(rt: &impl Abort, tree: &Tree<Rule>, mut group: Group, kept: u32) -> ((Seat, Seat), Told)
+fn splits(
+    rt: &impl Abort,
+    tree: &Tree<Rule>,
+    mut group: Group,
+    kept: u32,
+) -> ((Seat, Seat), Reported)
     requires own { group.tree ≡ tree.now.tree }
     ensures { TwoAt tree.now.tree result.0 }
 {
     assert!(rt; kept > 0 && kept < group.size());
     let mut other = tree.split_group(&mut group, kept);
-    let told = polls(tree, &mut group);
-    assert!(rt; polls(tree, &mut other) == told);
-    ((Seat::Inside(group), Seat::Inside(other)), told)
+    let reported = polls(tree, &mut group);
+    assert!(rt; polls(tree, &mut other) == reported);
+    ((Seat::Inside(group), Seat::Inside(other)), reported)
 }
 
 // Returns true if all members of a group have arrived, and false if none has.
@@ -290,18 +295,18 @@ pub(crate) fn merges(
     spare: &mut Door,
     mut group: Group,
     mut other: Group,
-) -> ((Seat, Seat), Told)
+) -> ((Seat, Seat), Reported)
     requires own { (spare.old.tree ≡ tree.now.tree) × (group.tree ≡ tree.now.tree) × (other.tree ≡ tree.now.tree) }
     ensures spare { spare.new.tree ≡ tree.now.tree }
     ensures own { TwoAt tree.now.tree result.0 }
 {
-    let told = polls(tree, &mut group);
+    let reported = polls(tree, &mut group);
     let own = have_arrived(rt, tree, &mut group);
     let others = have_arrived(rt, tree, &mut other);
     assert!(rt; own == others && group.tier() == other.tier() && group.phase() == other.phase());
     tree.join_groups(&mut group, other);
     let door = tree.split(spare);
-    ((Seat::Inside(group), Seat::Outside(door)), told)
+    ((Seat::Inside(group), Seat::Outside(door)), reported)
 }
 
 /// Does what a group does, and the next one if it has to do with it. New tokens are split off the spare door.
@@ -312,7 +317,7 @@ pub(crate) fn done<R: Wait + Abort>(
     own: Seat,
     next: Seat,
     deed: Deed,
-) -> ((Seat, Seat), Told)
+) -> ((Seat, Seat), Reported)
     requires own { (spare.old.tree ≡ tree.now.tree) × (tree_at own ≡ tree.now.tree) × (tree_at next ≡ tree.now.tree) }
     requires rule { Answers (pre tree.now.rule.closure) (post tree.now.rule.closure) (end_ends_at tree.now.rule.plan) }
     ensures spare { spare.new.tree ≡ tree.now.tree }
@@ -324,16 +329,16 @@ pub(crate) fn done<R: Wait + Abort>(
             merges(rt, tree, spare, group, other)
         }
         (Seat::Outside(door), next, Deed::Register(tier, members)) => {
-            let (own, told) = registers(rt, tree, door, tier, members);
-            ((own, next), told)
+            let (own, reported) = registers(rt, tree, door, tier, members);
+            ((own, next), reported)
         }
         (Seat::Outside(door), next, Deed::Force) => {
-            let (own, told) = forces(tree, door);
-            ((own, next), told)
+            let (own, reported) = forces(tree, door);
+            ((own, next), reported)
         }
         (Seat::Inside(group), next, deed) => {
-            let (own, told) = done_alone(rt, tree, spare, group, deed);
-            ((own, next), told)
+            let (own, reported) = done_alone(rt, tree, spare, group, deed);
+            ((own, next), reported)
         }
         _ => panic!(rt; "a door can't do it"),
     }

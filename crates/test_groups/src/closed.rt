@@ -6,10 +6,10 @@ ghost use Rattle.advance_rule.specs.Plan.{end_ends_at};
 ghost use Rattle.tier_table.specs.Closes.{held};
 
 use crate::begun::begun;
-use crate::calls::told_of;
+use crate::calls::reported_of;
 use crate::counts::are;
+use crate::reported::Reported;
 use crate::rules::{Rule, WHEN_EMPTY, is_empty};
-use crate::told::Told;
 use advance_rule::StoredAdvance;
 use std::alloc::Global;
 use std::process::Abort;
@@ -35,8 +35,8 @@ fn arrived<R: Wait + Abort>(rt: &R, tree: &Tree<Rule>, group: Group) -> Group
     requires rule { Answers (pre tree.now.rule.closure) (post tree.now.rule.closure) (end_ends_at tree.now.rule.plan) }
     ensures { result.tree ≡ tree.now.tree }
 {
-    let (group, told) = told_of(tree.arrive_all_wait(rt, group));
-    assert!(rt; told == Told::Done(0, false));
+    let (group, reported) = reported_of(tree.arrive_all_wait(rt, group));
+    assert!(rt; reported == Reported::Done(0, false));
     group
 }
 

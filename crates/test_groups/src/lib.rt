@@ -3,7 +3,7 @@
 //! * `runs`: runs on one thread, worked out by hand; `begun`, `closed`: trees that begin or are closed with groups; `threads`: eight
 //!   threads; `random`, `mirror`: random lists of calls, beside the calls of their members.
 //! * `ask`, `calls`, `seats`, `trees`: what these tests share.
-//! * `told`: answers; `numbers`: random numbers; `machine`, `rules`: the tree as a machine, and its rule; `counts`: the words of a
+//! * `reported`: answers; `numbers`: random numbers; `machine`, `rules`: the tree as a machine, and its rule; `counts`: the words of a
 //!   closed tree. `test_phasers` has these from here.
 #![tactic(auto)]
 
@@ -22,12 +22,12 @@ mod mirror;
 pub mod numbers;
 #[cfg(test)]
 mod random;
+pub mod reported;
 pub mod rules;
 #[cfg(test)]
 mod runs;
 pub mod seats;
 #[cfg(test)]
 mod threads;
-pub mod told;
 #[cfg(test)]
 mod trees;

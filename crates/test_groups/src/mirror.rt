@@ -3,7 +3,7 @@
 ghost use Rattle.tier_core.specs.Run.{IsCall};
 
 use crate::machine::{stepped, view_of};
-use crate::told::Told;
+use crate::reported::Reported;
 use phaser_word::{MOST_PARTIES, Word};
 use std::alloc::Global;
 use std::process::Abort;
@@ -31,16 +31,16 @@ fn call(rt: &impl Abort, core: &mut Core, member: usize, call: Call) -> Played
 }
 
 // A new member joins a tier.
-fn joins(rt: &impl Abort, core: &mut Core, members: &mut Vec<usize>, tier: u16) -> Told {
+fn joins(rt: &impl Abort, core: &mut Core, members: &mut Vec<usize>, tier: u16) -> Reported {
     let member = core.add_token().expect(rt, "memory");
     match call(rt, core, member, Call::Join { tier, n: 1 }) {
         Played::Done(phase) => {
             members.push(member).expect(rt, "memory");
-            Told::Joined(phase)
+            Reported::Joined(phase)
         }
-        Played::Held(phase, cause) => Told::Held(phase, cause),
-        Played::Full(count) => Told::Full(count),
-        Played::Ended(shown) => Told::Ended(shown),
+        Played::Held(phase, cause) => Reported::Held(phase, cause),
+        Played::Full(count) => Reported::Full(count),
+        Played::Ended(shown) => Reported::Ended(shown),
         _ => panic!(rt; "no answer of a join"),
     }
 }
@@ -52,13 +52,13 @@ fn join_beside(
     members: &mut Vec<usize>,
     tier: u16,
     count: u32,
-) -> Option<Told> {
+) -> Option<Reported> {
     let parties = word_at(rt, core, tier).parties;
     if count > MOST_PARTIES.saturating_sub(parties) {
-        return Some(Told::Full(parties));
+        return Some(Reported::Full(parties));
     }
     for _ in 0..count {
-        assert!(rt; matches!(joins(rt, core, members, tier), Told::Joined(_)));
+        assert!(rt; matches!(joins(rt, core, members, tier), Reported::Joined(_)));
     }
     None
 }
@@ -70,35 +70,35 @@ pub(crate) fn register(
     members: &mut Vec<usize>,
     tier: u16,
     count: u32,
-) -> Told {
-    let told = joins(rt, core, members, tier);
-    if !matches!(told, Told::Joined(_)) {
-        return told;
+) -> Reported {
+    let reported = joins(rt, core, members, tier);
+    if !matches!(reported, Reported::Joined(_)) {
+        return reported;
     }
-    join_beside(rt, core, members, tier, count.saturating_sub(1)).unwrap_or(told)
+    join_beside(rt, core, members, tier, count.saturating_sub(1)).unwrap_or(reported)
 }
 
 /// All members see whether their phase has passed. All answer the same, or that they are in this phase.
-pub(crate) fn poll(rt: &impl Abort, core: &mut Core, members: &[usize]) -> Told {
-    let mut told = Told::Busy;
+pub(crate) fn poll(rt: &impl Abort, core: &mut Core, members: &[usize]) -> Reported {
+    let mut reported = Reported::Busy;
     for member in members {
         let next = match call(rt, core, *member, Call::Poll) {
-            Played::Passed(phase) | Played::Done(phase) => Told::Here(phase),
-            Played::Waiting => Told::Waiting,
-            Played::Ended(shown) => Told::Ended(shown),
+            Played::Passed(phase) | Played::Done(phase) => Reported::Here(phase),
+            Played::Waiting => Reported::Waiting,
+            Played::Ended(shown) => Reported::Ended(shown),
             _ => panic!(rt; "no answer of a poll"),
         };
-        assert!(rt; told == Told::Busy || told == next);
-        told = next;
+        assert!(rt; reported == Reported::Busy || reported == next);
+        reported = next;
     }
-    told
+    reported
 }
 
 // Returns why members that have polled can't arrive, or join others, if they can't.
-fn refused(core: &Core, polled: Told) -> Option<Told> {
+fn refused(core: &Core, polled: Reported) -> Option<Reported> {
     match polled {
-        Told::Waiting => Some(Told::AlreadyArrived(core.root().phase)),
-        Told::Ended(shown) => Some(Told::Ended(shown)),
+        Reported::Waiting => Some(Reported::AlreadyArrived(core.root().phase)),
+        Reported::Ended(shown) => Some(Reported::Ended(shown)),
         _ => None,
     }
 }
@@ -110,13 +110,13 @@ pub(crate) fn join(
     members: &mut Vec<usize>,
     tier: u16,
     count: u32,
-) -> Told {
+) -> Reported {
     let polled = poll(rt, core, members);
-    if let Some(told) = refused(core, polled) {
-        return told;
+    if let Some(reported) = refused(core, polled) {
+        return reported;
     }
-    let told = Told::Joined(core.root().phase);
-    join_beside(rt, core, members, tier, count).unwrap_or(told)
+    let reported = Reported::Joined(core.root().phase);
+    join_beside(rt, core, members, tier, count).unwrap_or(reported)
 }
 
 // A member arrives or leaves; whether it has led.
@@ -130,24 +130,24 @@ fn passes(rt: &impl Abort, core: &mut Core, member: usize, passage: Call) -> boo
 }
 
 /// All members arrive.
-pub(crate) fn arrive(rt: &impl Abort, core: &mut Core, members: &[usize]) -> Told {
+pub(crate) fn arrive(rt: &impl Abort, core: &mut Core, members: &[usize]) -> Reported {
     let polled = poll(rt, core, members);
-    if let Some(told) = refused(core, polled) {
-        return told;
+    if let Some(reported) = refused(core, polled) {
+        return reported;
     }
     let phase = core.root().phase;
     let mut led = false;
     for member in members {
         led |= passes(rt, core, *member, Call::Arrive);
     }
-    Told::Done(phase, led)
+    Reported::Done(phase, led)
 }
 
 /// All members leave.
-pub(crate) fn leave(rt: &impl Abort, core: &mut Core, members: &mut Vec<usize>) -> Told {
+pub(crate) fn leave(rt: &impl Abort, core: &mut Core, members: &mut Vec<usize>) -> Reported {
     let polled = poll(rt, core, members);
-    if let Some(told) = refused(core, polled) {
-        return told;
+    if let Some(reported) = refused(core, polled) {
+        return reported;
     }
     let phase = core.root().phase;
     let mut led = false;
@@ -155,7 +155,7 @@ pub(crate) fn leave(rt: &impl Abort, core: &mut Core, members: &mut Vec<usize>) 
         let member = members.pop().expect(rt, "a member");
         led |= passes(rt, core, member, Call::Leave);
     }
-    Told::Left(phase, led)
+    Reported::Left(phase, led)
 }
 
 /// Some new members join and arrive, then some of the old ones leave, and the other old ones arrive. Now the new ones are
@@ -167,15 +167,15 @@ pub(crate) fn arrive_with(
     members: &mut Vec<usize>,
     tier: u16,
     counts: (u32, u32),
-) -> Told {
+) -> Reported {
     let polled = poll(rt, core, members);
-    if let Some(told) = refused(core, polled) {
-        return told;
+    if let Some(reported) = refused(core, polled) {
+        return reported;
     }
     let phase = core.root().phase;
     let mut come = Vec::new(alloc);
-    if let Some(told) = join_beside(rt, core, &mut come, tier, counts.0) {
-        return told;
+    if let Some(reported) = join_beside(rt, core, &mut come, tier, counts.0) {
+        return reported;
     }
     let mut led = false;
     for member in &come {
@@ -190,14 +190,14 @@ pub(crate) fn arrive_with(
         come.push(*member).expect(rt, "memory");
     }
     *members = come;
-    Told::Done(phase, led)
+    Reported::Done(phase, led)
 }
 
 /// Ends the machine by force.
-pub(crate) fn force(rt: &impl Abort, core: &mut Core) -> Told {
+pub(crate) fn force(rt: &impl Abort, core: &mut Core) -> Reported {
     let member = core.add_token().expect(rt, "memory");
     match call(rt, core, member, Call::Force) {
-        Played::Ended(shown) => Told::Ended(shown),
+        Played::Ended(shown) => Reported::Ended(shown),
         _ => panic!(rt; "not ended"),
     }
 }

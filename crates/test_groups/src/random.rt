@@ -10,9 +10,9 @@ use crate::calls::done;
 use crate::machine::{machine, view_of};
 use crate::mirror::{arrive, arrive_with, force, join, leave, poll, register, word_at};
 use crate::numbers::Numbers;
+use crate::reported::Reported;
 use crate::rules::{Rule, WHEN_EMPTY, is_empty};
 use crate::seats::Seat;
-use crate::told::Told;
 use crate::trees::{left, planted};
 use advance_rule::StoredAdvance;
 use phaser_word::Word;
@@ -111,14 +111,14 @@ fn append(rt: &impl Abort, own: &mut Vec<usize>, next: &mut Vec<usize>) {
 }
 
 // Returns what members answer on the machine. Both parts of a group answer the same, and so do two that come together.
-fn told_of(
+fn reported_of(
     rt: &impl Abort,
     alloc: Global,
     core: &mut Core,
     own: &mut Vec<usize>,
     next: &mut Vec<usize>,
     deed: Deed,
-) -> Told {
+) -> Reported {
     let tier = state(core, own).map_or(0, |state| state.0);
     match deed {
         Deed::Register(tier, count) => register(rt, core, own, tier, count),
@@ -143,15 +143,15 @@ fn told_of(
 }
 
 // Returns the answer without whether a token learns of a new phase by this call.
-fn plainly(told: Told) -> Told {
-    match told {
-        Told::Passed(phase) => Told::Here(phase),
-        told => told,
+fn plainly(reported: Reported) -> Reported {
+    match reported {
+        Reported::Passed(phase) => Reported::Here(phase),
+        reported => reported,
     }
 }
 
 // A registration that the tree holds off as well.
-fn held(rt: &impl Abort, tree: &Tree<Rule>, own: Seat, deed: Deed) -> (Seat, Told)
+fn held(rt: &impl Abort, tree: &Tree<Rule>, own: Seat, deed: Deed) -> (Seat, Reported)
     requires own { tree_at own ≡ tree.now.tree }
     ensures { tree_at result.0 ≡ tree.now.tree }
 {
@@ -160,7 +160,7 @@ fn held(rt: &impl Abort, tree: &Tree<Rule>, own: Seat, deed: Deed) -> (Seat, Tol
             assert!(rt; usize::from(tier) < tree.shape().count() && count > 0);
             match tree.register_all(door, tier, count, 16) {
                 RegisteredAll::Held(door, phase, cause) => {
-                    (Seat::Outside(door), Told::Held(phase, cause))
+                    (Seat::Outside(door), Reported::Held(phase, cause))
                 }
                 _ => panic!(rt; "not held off"),
             }
@@ -193,14 +193,14 @@ fn act<R: Wait + Abort>(
     ensures own { (tree_at result.0.seat ≡ tree.now.tree) × (tree_at result.1.seat ≡ tree.now.tree) }
 {
     let (mut own, mut next) = places;
-    let want = told_of(rt, alloc, core, &mut own.members, &mut next.members, deed);
-    let told;
-    if matches!(want, Told::Held(_, _)) {
-        (own.seat, told) = held(rt, tree, own.seat, deed);
+    let want = reported_of(rt, alloc, core, &mut own.members, &mut next.members, deed);
+    let reported;
+    if matches!(want, Reported::Held(_, _)) {
+        (own.seat, reported) = held(rt, tree, own.seat, deed);
     } else {
-        ((own.seat, next.seat), told) = done(rt, tree, spare, own.seat, next.seat, deed);
+        ((own.seat, next.seat), reported) = done(rt, tree, spare, own.seat, next.seat, deed);
     }
-    assert!(rt; plainly(told) == plainly(want));
+    assert!(rt; plainly(reported) == plainly(want));
     assert!(rt; size_of(&own.seat) == own.members.len());
     assert!(rt; size_of(&next.seat) == next.members.len());
     (own, next)

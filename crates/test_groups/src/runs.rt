@@ -12,12 +12,12 @@ use crate::ask::Deed::{
 };
 use crate::calls::done;
 use crate::counts::are;
-use crate::rules::{Rule, WHEN_EMPTY, is_empty};
-use crate::seats::{Seat, Three};
-use crate::told::Told;
-use crate::told::Told::{
+use crate::reported::Reported;
+use crate::reported::Reported::{
     AlreadyArrived, Busy, Done, Ended, Full, Here, Joined, Left, Passed, Waiting,
 };
+use crate::rules::{Rule, WHEN_EMPTY, is_empty};
+use crate::seats::{Seat, Three};
 use crate::trees::{left, planted};
 use advance_rule::StoredAdvance;
 use std::alloc::Global;
@@ -27,7 +27,7 @@ use tier_table::tokens::Door;
 use tier_table::tree::Tree;
 
 /// The place of the group that acts, what it does, what it answers, and its size and phase then; 0 for a door's.
-pub(crate) type Row = (usize, Deed, Told, u32, u32);
+pub(crate) type Row = (usize, Deed, Reported, u32, u32);
 
 // The tree's widths and its first phase, what the groups do, and the words that the tree leaves.
 type Run = (
@@ -252,8 +252,8 @@ fn acts<R: Wait + Abort>(
     ensures own { TwoAt tree.now.tree result }
 {
     let (number, (_place, deed, want, size, phase)) = row;
-    let (seats, told) = done(rt, tree, spare, own, next, deed);
-    assert!(rt; told == want, "row {number}: another answer");
+    let (seats, reported) = done(rt, tree, spare, own, next, deed);
+    assert!(rt; reported == want, "row {number}: another answer");
     assert!(rt;
         looks(&seats.0) == (size, phase),
         "row {number}: another group"

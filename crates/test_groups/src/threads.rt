@@ -4,12 +4,12 @@ ghost use Rattle.std.specs.Prelude.{◌≡◌, All};
 ghost use Rattle.advance_rule.specs.Stored.{Answers};
 ghost use Rattle.advance_rule.specs.Plan.{end_ends_at};
 
-use crate::calls::{merges, told_of};
+use crate::calls::{merges, reported_of};
 use crate::counts::tally;
 use crate::numbers::Numbers;
+use crate::reported::Reported;
 use crate::rules::{Rule, WHEN_EMPTY, is_empty};
 use crate::seats::Seat;
-use crate::told::Told;
 use crate::trees::{left, planted};
 use advance_rule::StoredAdvance;
 use std::alloc::Global;
@@ -93,8 +93,8 @@ fn exchanged<R: Wait + Abort>(
     if leaving > size || u64::from(leaving) >= u64::from(joining) + u64::from(size) {
         return group;
     }
-    let (group, told) = told_of(tree.arrive_with_wait(rt, door, group, joining, leaving));
-    assert!(rt; matches!(told, Told::Done(_, _)));
+    let (group, reported) = reported_of(tree.arrive_with_wait(rt, door, group, joining, leaving));
+    assert!(rt; matches!(reported, Reported::Done(_, _)));
     assert!(rt; group.size() == size.saturating_add(joining) - leaving);
     group
 }
@@ -105,8 +105,8 @@ fn arrived<R: Wait + Abort>(rt: &R, tree: &Tree<Rule>, group: Group) -> Group
     requires rule { Answers (pre tree.now.rule.closure) (post tree.now.rule.closure) (end_ends_at tree.now.rule.plan) }
     ensures { result.tree ≡ tree.now.tree }
 {
-    let (group, told) = told_of(tree.arrive_all_wait(rt, group));
-    assert!(rt; matches!(told, Told::Done(_, _)));
+    let (group, reported) = reported_of(tree.arrive_all_wait(rt, group));
+    assert!(rt; matches!(reported, Reported::Done(_, _)));
     group
 }
 
@@ -156,7 +156,7 @@ fn met_in_parts<R: Wait + Abort>(
     let mut group = arrived(rt, tree, group);
     awaited(rt, tree, &mut group, next);
     awaited(rt, tree, &mut other, next);
-    let ((own, _next), _told) = merges(rt, tree, door, group, other);
+    let ((own, _next), _reported) = merges(rt, tree, door, group, other);
     match own {
         Seat::Inside(group) => {
             assert!(rt; group.size() == size);

@@ -37,13 +37,13 @@ fn answers<F: Fn(u32, u32) -> bool>(
     requires { Answers (F.pre phaser.old.rule.closure) (F.post phaser.old.rule.closure) (count_ends phaser.old.rule.plan) }
 {
     for (ask, is_done, count) in rows {
-        let told = match *ask {
+        let reported = match *ask {
             Ask::Register(1) => phaser.register(),
             Ask::Register(parties) => phaser.bulk_register(parties),
             Ask::Arrive => phaser.arrive(),
             Ask::Leave => phaser.arrive_and_deregister(),
         };
-        if told.is_ok() != *is_done || calls.get() != *count {
+        if reported.is_ok() != *is_done || calls.get() != *count {
             return false;
         }
     }
@@ -108,11 +108,11 @@ fn takes_turns<F: Fn(u64) -> bool>(barrier: &mut BarrierCore<F>, calls: &Cell<u3
     requires { AnswersAction (F.pre barrier.old.action.closure) (F.post barrier.old.action.closure) barrier.old.action.plan }
 {
     for (caller, may, count) in TURNS {
-        let told = match barrier.await_step(caller) {
+        let reported = match barrier.await_step(caller) {
             Ok(_) => may,
             Err(fault) => !may && fault == BarrierFault::AlreadyWaiting,
         };
-        if !told || calls.get() != count {
+        if !reported || calls.get() != count {
             return false;
         }
     }

@@ -11,7 +11,7 @@ use std::alloc::Global;
 use std::process::Abort;
 use std::sync::Wait;
 use std::sync::atomic::{AtomicU64, Ordering};
-use test_groups::told::Told;
+use test_groups::reported::Reported;
 
 // Appends each phase that ends, and the parties at the root then, as two digits.
 #[derive(Drop)]
@@ -48,7 +48,7 @@ enum Ask {
 }
 
 // What a party without members is asked and answered: nothing.
-const NOBODY: Told = Told::Busy;
+const NOBODY: Reported = Reported::Busy;
 
 // Takes the steps that are owed.
 fn settled<'a, 'b, R: Wait + Abort>(rt: &R, owed: Owed<'a, Noting<'b>>) -> Hooked<'a, 'b> {
@@ -71,60 +71,60 @@ fn tries<'a, 'b, R: Wait + Abort>(
     rt: &R,
     party: Hooked<'a, 'b>,
     tries: u32,
-) -> (Hooked<'a, 'b>, Told) {
+) -> (Hooked<'a, 'b>, Reported) {
     match party.try_meet(tries) {
-        Met::Passed(party, phase) => (party, Told::Passed(phase)),
-        Met::Waiting(party) => (party, Told::Waiting),
-        Met::Here(party, phase) => (party, Told::Here(phase)),
-        Met::Ended(party, shown) => (party, Told::Ended(shown)),
-        Met::Busy(party) => (party, Told::Busy),
-        Met::Owing(owed) => (settled(rt, owed), Told::Owing),
+        Met::Passed(party, phase) => (party, Reported::Passed(phase)),
+        Met::Waiting(party) => (party, Reported::Waiting),
+        Met::Here(party, phase) => (party, Reported::Here(phase)),
+        Met::Ended(party, shown) => (party, Reported::Ended(shown)),
+        Met::Busy(party) => (party, Reported::Busy),
+        Met::Owing(owed) => (settled(rt, owed), Reported::Owing),
     }
 }
 
 // A member leaves.
-fn leaves<'a, 'b, R: Wait>(rt: &R, party: Hooked<'a, 'b>) -> (Option<Hooked<'a, 'b>>, Told) {
+fn leaves<'a, 'b, R: Wait>(rt: &R, party: Hooked<'a, 'b>) -> (Option<Hooked<'a, 'b>>, Reported) {
     match party.leave(rt) {
-        Departed::Done { party, phase, led } => (Some(party), Told::Done(phase, led)),
-        Departed::Left { phase, led, .. } => (None, Told::Left(phase, led)),
-        Departed::Ended(party, shown) => (Some(party), Told::Ended(shown)),
+        Departed::Done { party, phase, led } => (Some(party), Reported::Done(phase, led)),
+        Departed::Left { phase, led, .. } => (None, Reported::Left(phase, led)),
+        Departed::Ended(party, shown) => (Some(party), Reported::Ended(shown)),
     }
 }
 
 // Returns what an arrival answers.
-fn told_by_arrival(arrived: ArrivedInPlace) -> Told {
+fn reported_by_arrival(arrived: ArrivedInPlace) -> Reported {
     match arrived {
-        ArrivedInPlace::Done { phase, led } => Told::Done(phase, led),
-        ArrivedInPlace::AlreadyArrived(phase) => Told::AlreadyArrived(phase),
-        ArrivedInPlace::Ended(shown) => Told::Ended(shown),
+        ArrivedInPlace::Done { phase, led } => Reported::Done(phase, led),
+        ArrivedInPlace::AlreadyArrived(phase) => Reported::AlreadyArrived(phase),
+        ArrivedInPlace::Ended(shown) => Reported::Ended(shown),
     }
 }
 
 // Returns what a meeting answers.
-fn told_by_meeting(met: Result<u32, MeetError>) -> Told {
+fn reported_by_meeting(met: Result<u32, MeetError>) -> Reported {
     match met {
-        Ok(phase) => Told::Passed(phase),
-        Err(MeetError::Here(phase)) => Told::Here(phase),
-        Err(MeetError::Ended(shown)) => Told::Ended(shown),
+        Ok(phase) => Reported::Passed(phase),
+        Err(MeetError::Here(phase)) => Reported::Here(phase),
+        Err(MeetError::Ended(shown)) => Reported::Ended(shown),
     }
 }
 
 // Returns what a wait answers.
-fn told_by_wait(awaited: AwaitedAdvance) -> Told {
+fn reported_by_wait(awaited: AwaitedAdvance) -> Reported {
     match awaited {
-        AwaitedAdvance::Passed(phase) => Told::Passed(phase),
-        AwaitedAdvance::Here(phase) => Told::Here(phase),
-        AwaitedAdvance::Ended(shown) => Told::Ended(shown),
+        AwaitedAdvance::Passed(phase) => Reported::Passed(phase),
+        AwaitedAdvance::Here(phase) => Reported::Here(phase),
+        AwaitedAdvance::Ended(shown) => Reported::Ended(shown),
     }
 }
 
 // Returns what a poll answers.
-fn told_by_poll(polled: Polled) -> Told {
+fn reported_by_poll(polled: Polled) -> Reported {
     match polled {
-        Polled::Passed(phase) => Told::Passed(phase),
-        Polled::Waiting => Told::Waiting,
-        Polled::Here(phase) => Told::Here(phase),
-        Polled::Ended(shown) => Told::Ended(shown),
+        Polled::Passed(phase) => Reported::Passed(phase),
+        Polled::Waiting => Reported::Waiting,
+        Polled::Here(phase) => Reported::Here(phase),
+        Polled::Ended(shown) => Reported::Ended(shown),
     }
 }
 
@@ -133,27 +133,27 @@ fn asked<'a, 'b, R: Wait + Abort>(
     rt: &R,
     party: Option<Hooked<'a, 'b>>,
     ask: Ask,
-) -> (Option<Hooked<'a, 'b>>, Told) {
+) -> (Option<Hooked<'a, 'b>>, Reported) {
     let Some(mut party) = party else {
         return (None, NOBODY);
     };
-    let told = match ask {
+    let reported = match ask {
         Ask::Leave => return leaves(rt, party),
         Ask::TryMeet(number) => {
-            let (next, told) = tries(rt, party, number);
+            let (next, reported) = tries(rt, party, number);
             party = next;
-            told
+            reported
         }
-        Ask::Arrive => told_by_arrival(party.arrive(rt)),
-        Ask::Meet => told_by_meeting(party.meet(rt)),
-        Ask::Await => told_by_wait(party.await_advance(rt)),
-        Ask::Poll => told_by_poll(party.poll()),
+        Ask::Arrive => reported_by_arrival(party.arrive(rt)),
+        Ask::Meet => reported_by_meeting(party.meet(rt)),
+        Ask::Await => reported_by_wait(party.await_advance(rt)),
+        Ask::Poll => reported_by_poll(party.poll()),
     };
-    (Some(party), told)
+    (Some(party), reported)
 }
 
 // Whether the first of two parties is asked, what it is asked, what it answers, and what is noted then.
-type Row = (bool, Ask, Told, u64);
+type Row = (bool, Ask, Reported, u64);
 
 // Returns true if two parties answer as the rows say.
 fn both_answer<'a, 'b, R: Wait + Abort>(
@@ -165,13 +165,13 @@ fn both_answer<'a, 'b, R: Wait + Abort>(
 ) -> bool {
     let (mut one, mut other) = (Some(one), Some(other));
     for (first, ask, want, noted) in rows {
-        let (party, told) = asked(rt, if *first { one.take() } else { other.take() }, *ask);
+        let (party, reported) = asked(rt, if *first { one.take() } else { other.take() }, *ask);
         if *first {
             one = party;
         } else {
             other = party;
         }
-        if told != *want || notes.load(Ordering::SeqCst) != *noted {
+        if reported != *want || notes.load(Ordering::SeqCst) != *noted {
             return false;
         }
     }
@@ -181,43 +181,43 @@ fn both_answer<'a, 'b, R: Wait + Abort>(
 // Each call of a party that can take an advance, and the end. The phases 0 to 3 end with the party that stays, 4 with nobody,
 // at which the tree ends.
 const ONE_STAYS: [Row; 7] = [
-    (true, Ask::Arrive, Told::Done(0, false), 0),
-    (false, Ask::Leave, Told::Left(0, true), 1),
-    (true, Ask::Await, Told::Passed(1), 1),
-    (true, Ask::Meet, Told::Passed(2), 1_11),
-    (true, Ask::TryMeet(16), Told::Passed(3), 1_11_21),
-    (true, Ask::TryMeet(1), Told::Owing, 1_11_21_31),
-    (true, Ask::Leave, Told::Left(4, true), 1_11_21_31_40),
+    (true, Ask::Arrive, Reported::Done(0, false), 0),
+    (false, Ask::Leave, Reported::Left(0, true), 1),
+    (true, Ask::Await, Reported::Passed(1), 1),
+    (true, Ask::Meet, Reported::Passed(2), 1_11),
+    (true, Ask::TryMeet(16), Reported::Passed(3), 1_11_21),
+    (true, Ask::TryMeet(1), Reported::Owing, 1_11_21_31),
+    (true, Ask::Leave, Reported::Left(4, true), 1_11_21_31_40),
 ];
 
 // A party of one member that has arrived leaves in the next phase, after the other one.
 const ONE_HAS_ARRIVED: [Row; 5] = [
-    (true, Ask::Arrive, Told::Done(0, false), 0),
-    (false, Ask::Arrive, Told::Done(0, true), 2),
-    (true, Ask::Leave, Told::Left(1, false), 2),
-    (false, Ask::Await, Told::Passed(1), 2),
-    (false, Ask::Leave, Told::Left(1, true), 2_10),
+    (true, Ask::Arrive, Reported::Done(0, false), 0),
+    (false, Ask::Arrive, Reported::Done(0, true), 2),
+    (true, Ask::Leave, Reported::Left(1, false), 2),
+    (false, Ask::Await, Reported::Passed(1), 2),
+    (false, Ask::Leave, Reported::Left(1, true), 2_10),
 ];
 
 // Two parties meet without waiting in phase 0, and the first of them then finds that it is over. They meet again, and the tree
 // ends with phase 1.
 const BOTH_TRY: [Row; 7] = [
-    (true, Ask::TryMeet(0), Told::Busy, 0),
-    (true, Ask::TryMeet(1), Told::Owing, 0),
-    (false, Ask::TryMeet(16), Told::Passed(1), 2),
-    (true, Ask::Poll, Told::Passed(1), 2),
-    (true, Ask::TryMeet(16), Told::Waiting, 2),
-    (false, Ask::TryMeet(16), Told::Ended(-2147483646), 2_12),
-    (false, Ask::Poll, Told::Ended(-2147483646), 2_12),
+    (true, Ask::TryMeet(0), Reported::Busy, 0),
+    (true, Ask::TryMeet(1), Reported::Owing, 0),
+    (false, Ask::TryMeet(16), Reported::Passed(1), 2),
+    (true, Ask::Poll, Reported::Passed(1), 2),
+    (true, Ask::TryMeet(16), Reported::Waiting, 2),
+    (false, Ask::TryMeet(16), Reported::Ended(-2147483646), 2_12),
+    (false, Ask::Poll, Reported::Ended(-2147483646), 2_12),
 ];
 
 // One of two parties leaves, and the other meets in three phases alone.
 const ONE_MEETS: [Row; 5] = [
-    (false, Ask::Leave, Told::Left(5, false), 0),
-    (true, Ask::Meet, Told::Passed(6), 51),
-    (true, Ask::Meet, Told::Passed(7), 51_61),
-    (true, Ask::Meet, Told::Passed(8), 51_61_71),
-    (true, Ask::Leave, Told::Left(8, true), 51_61_71_80),
+    (false, Ask::Leave, Reported::Left(5, false), 0),
+    (true, Ask::Meet, Reported::Passed(6), 51),
+    (true, Ask::Meet, Reported::Passed(7), 51_61),
+    (true, Ask::Meet, Reported::Passed(8), 51_61_71),
+    (true, Ask::Leave, Reported::Left(8, true), 51_61_71_80),
 ];
 
 // The widths of a tree and its first phase, whether it ends at phase 1 or when it is empty, and what two parties do, each at

@@ -5,7 +5,7 @@ use phasers::tree::{EndPlan, Forced, Guest, PhaserTree, Polled};
 use std::alloc::Global;
 use std::process::Abort;
 use std::sync::Wait;
-use test_groups::told::Told;
+use test_groups::reported::Reported;
 
 // What parties are asked.
 #[derive(Clone, Copy)]
@@ -19,82 +19,85 @@ enum Ask {
 }
 
 // Some members leave. If they don't, the answer has as many as were to leave.
-fn some_leave<R: Wait + Abort>(rt: &R, own: &mut Parties<'_>, n: u32) -> Told {
+fn some_leave<R: Wait + Abort>(rt: &R, own: &mut Parties<'_>, n: u32) -> Reported {
     assert!(rt; 0 < n && n < own.size());
     match own.leave_some(rt, n) {
         PartiesLeft::Left {
             guest: _,
             phase,
             led,
-        } => Told::Left(phase, led),
+        } => Reported::Left(phase, led),
         PartiesLeft::AlreadyArrived(others, phase) => {
             assert!(rt; others.size() == n);
-            Told::AlreadyArrived(phase)
+            Reported::AlreadyArrived(phase)
         }
         PartiesLeft::Ended(others, shown) => {
             assert!(rt; others.size() == n);
-            Told::Ended(shown)
+            Reported::Ended(shown)
         }
     }
 }
 
 // All members arrive.
-fn all_arrive<'a, R: Wait>(rt: &R, own: Parties<'a>) -> (Parties<'a>, Told) {
+fn all_arrive<'a, R: Wait>(rt: &R, own: Parties<'a>) -> (Parties<'a>, Reported) {
     match own.arrive_all(rt) {
         PartiesArrived::Done {
             parties,
             phase,
             led,
-        } => (parties, Told::Done(phase, led)),
-        PartiesArrived::Full(parties, count) => (parties, Told::Full(count)),
-        PartiesArrived::AlreadyArrived(parties, phase) => (parties, Told::AlreadyArrived(phase)),
-        PartiesArrived::Ended(parties, shown) => (parties, Told::Ended(shown)),
+        } => (parties, Reported::Done(phase, led)),
+        PartiesArrived::Full(parties, count) => (parties, Reported::Full(count)),
+        PartiesArrived::AlreadyArrived(parties, phase) => (
+            parties,
+            Reported::AlreadyArrived(phase),
+        ),
+        PartiesArrived::Ended(parties, shown) => (parties, Reported::Ended(shown)),
     }
 }
 
 // Polls. Returns what that answers.
-fn polled(own: &mut Parties<'_>) -> Told {
+fn polled(own: &mut Parties<'_>) -> Reported {
     match own.poll() {
-        Polled::Passed(phase) => Told::Passed(phase),
-        Polled::Waiting => Told::Waiting,
-        Polled::Here(phase) => Told::Here(phase),
-        Polled::Ended(shown) => Told::Ended(shown),
+        Polled::Passed(phase) => Reported::Passed(phase),
+        Polled::Waiting => Reported::Waiting,
+        Polled::Here(phase) => Reported::Here(phase),
+        Polled::Ended(shown) => Reported::Ended(shown),
     }
 }
 
 // What parties are asked, what they answer, and how many members they have then.
-type Row = (Ask, Told, u32);
+type Row = (Ask, Reported, u32);
 
 // Parties do what a row says.
 fn plays<'a, R: Wait + Abort>(rt: &R, mut own: Parties<'a>, row: Row) -> Parties<'a> {
     let (ask, want, size) = row;
-    let told = match ask {
+    let reported = match ask {
         Ask::LeaveSome(n) => some_leave(rt, &mut own, n),
         Ask::Arrive => {
-            let (next, told) = all_arrive(rt, own);
+            let (next, reported) = all_arrive(rt, own);
             own = next;
-            told
+            reported
         }
         Ask::Poll => polled(&mut own),
     };
-    assert!(rt; told == want && own.size() == size);
+    assert!(rt; reported == want && own.size() == size);
     own
 }
 
 // Five members at the first leaf and three at the second. The first are rows with `true`. Of members that have arrived
 // none can leave, so the one that was to leave stays registered without the parties.
 const ROWS: [(bool, Row); 11] = [
-    (true, (Ask::LeaveSome(2), Told::Left(0, false), 3)),
-    (true, (Ask::Poll, Told::Here(0), 3)),
-    (false, (Ask::Arrive, Told::Done(0, false), 3)),
-    (false, (Ask::LeaveSome(1), Told::AlreadyArrived(0), 2)),
-    (true, (Ask::LeaveSome(1), Told::Left(0, false), 2)),
-    (false, (Ask::Poll, Told::Waiting, 2)),
-    (true, (Ask::Arrive, Told::Done(0, true), 2)),
-    (false, (Ask::Poll, Told::Passed(1), 2)),
-    (false, (Ask::LeaveSome(1), Told::Left(1, false), 1)),
-    (true, (Ask::Arrive, Told::Done(1, false), 2)),
-    (true, (Ask::Poll, Told::Waiting, 2)),
+    (true, (Ask::LeaveSome(2), Reported::Left(0, false), 3)),
+    (true, (Ask::Poll, Reported::Here(0), 3)),
+    (false, (Ask::Arrive, Reported::Done(0, false), 3)),
+    (false, (Ask::LeaveSome(1), Reported::AlreadyArrived(0), 2)),
+    (true, (Ask::LeaveSome(1), Reported::Left(0, false), 2)),
+    (false, (Ask::Poll, Reported::Waiting, 2)),
+    (true, (Ask::Arrive, Reported::Done(0, true), 2)),
+    (false, (Ask::Poll, Reported::Passed(1), 2)),
+    (false, (Ask::LeaveSome(1), Reported::Left(1, false), 1)),
+    (true, (Ask::Arrive, Reported::Done(1, false), 2)),
+    (true, (Ask::Poll, Reported::Waiting, 2)),
 ];
 
 // Both parties, one row after another.
@@ -117,7 +120,11 @@ fn both_play<'a, R: Wait + Abort>(
 // After an end by force nobody leaves.
 fn ends<'a, R: Wait + Abort>(rt: &R, mut guest: Guest<'a>, one: Parties<'a>) {
     assert!(rt; matches!(guest.force(16), Forced::Ended(-2147483647)));
-    let _ = plays(rt, one, (Ask::LeaveSome(1), Told::Ended(-2147483647), 1));
+    let _ = plays(
+        rt,
+        one,
+        (Ask::LeaveSome(1), Reported::Ended(-2147483647), 1),
+    );
 }
 
 // Plays with the parties of a tree of two leaves.

@@ -52,7 +52,7 @@ const ALIKE: [(u16, usize, &str); 3] = [
 ];
 
 // Returns the answer to a list of parents.
-fn told(alloc: Global, parents: &[u16]) -> &'static str {
+fn reported(alloc: Global, parents: &[u16]) -> &'static str {
     match Shape::from_parents(alloc, parents) {
         Ok(shape) if shape.count() == parents.len() => "taken",
         Ok(_shape) => "miscounted",
@@ -61,22 +61,22 @@ fn told(alloc: Global, parents: &[u16]) -> &'static str {
 }
 
 // Returns the answer to `count` tiers with this parent.
-fn told_alike(rt: &impl Abort, alloc: Global, parent: u16, count: usize) -> &'static str {
+fn reported_alike(rt: &impl Abort, alloc: Global, parent: u16, count: usize) -> &'static str {
     let parents = Vec::from_elem(alloc, parent, count).expect(rt, "memory");
-    told(alloc, &parents)
+    reported(alloc, &parents)
 }
 
 #[test]
 fn takes_and_refuses_parents(rt: HostRuntime) {
     for (parents, want) in PARENTS {
-        assert!(rt; told(rt.alloc(), parents) == want);
+        assert!(rt; reported(rt.alloc(), parents) == want);
     }
 }
 
 #[test]
 fn takes_and_refuses_tiers_of_one_parent(rt: HostRuntime) {
     for (parent, count, want) in ALIKE {
-        assert!(rt; told_alike(&rt, rt.alloc(), parent, count) == want);
+        assert!(rt; reported_alike(&rt, rt.alloc(), parent, count) == want);
     }
 }
 

@@ -4,6 +4,6 @@ mod duties;
 #[cfg(test)]
 mod random;
 #[cfg(test)]
-mod threads;
+mod reported;
 #[cfg(test)]
-mod told;
+mod threads;

@@ -74,13 +74,13 @@ fn goes<F: Fn(u32, u32) -> bool>(
     requires rule { Answers (F.pre tree.now.rule.closure) (F.post tree.now.rule.closure) (end_ends_at tree.now.rule.plan) }
     ensures { result.tree ≡ tree.now.tree }
 {
-    let told = if leaves {
+    let reported = if leaves {
         tree.arrive_and_deregister(crew, 16)
     } else {
         tree.arrive(crew, 16)
     };
     assert!(rt; log.load(Ordering::SeqCst) == want);
-    match told {
+    match reported {
         Arrived::Done(crew, _, _) => crew,
         _ => panic!(rt; "not passed"),
     }
@@ -135,7 +135,7 @@ fn two_crews_pass<F: Fn(u32, u32) -> bool>(
 }
 
 // Two crews pass on a tree of these widths, whose root has these numbers of parties at the first two advances.
-fn told_alone(
+fn reported_alone(
     rt: &impl Abort,
     alloc: Global,
     widths: &str,
@@ -156,8 +156,8 @@ fn told_alone(
 // On one tier all members are parties of the root; on the other tree its children are.
 #[test]
 fn one_thread_advances(rt: HostRuntime) {
-    told_alone(&rt, rt.alloc(), "flat", (0, 0), (4, 3));
-    told_alone(&rt, rt.alloc(), "2x2", (3, 6), (2, 2));
+    reported_alone(&rt, rt.alloc(), "flat", (0, 0), (4, 3));
+    reported_alone(&rt, rt.alloc(), "2x2", (3, 6), (2, 2));
 }
 
 // A member passes three phases, and leaves.
@@ -209,7 +209,7 @@ fn threads_pass<R: Threads + Wait + Abort + Sync, F: Fn(u32, u32) -> bool + Sync
 }
 
 // Returns what is written down while four threads pass.
-fn told_together<R: Threads + Wait + Abort + Sync>(rt: &R, alloc: Global) -> u64 {
+fn reported_together<R: Threads + Wait + Abort + Sync>(rt: &R, alloc: Global) -> u64 {
     let log = AtomicU64::new(1);
     let ends = |phase: u32, count: u32| {
         write(&log, phase, count);
@@ -225,7 +225,7 @@ fn told_together<R: Threads + Wait + Abort + Sync>(rt: &R, alloc: Global) -> u64
 #[test]
 fn four_threads_advance(rt: HostRuntime) {
     for _ in 0..100 {
-        let told = told_together(&rt, rt.alloc());
-        assert!(rt; told == written(&[(0, 2), (1, 2), (2, 2), (3, 0)]));
+        let reported = reported_together(&rt, rt.alloc());
+        assert!(rt; reported == written(&[(0, 2), (1, 2), (2, 2), (3, 0)]));
     }
 }

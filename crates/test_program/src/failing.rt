@@ -17,8 +17,8 @@ fn reads_fail<R: Threads + Wait + Sync>(
     text: &str,
     once: bool,
 ) -> bool {
-    for room in 0..text.len() + 1 {
-        let plan = dripping(room, once);
+    for capacity in 0..text.len() + 1 {
+        let plan = dripping(capacity, once);
         if !leaves(rt, alloc, words, text.as_bytes(), plan, (8, b"", FAILED)) {
             return false;
         }
@@ -54,8 +54,8 @@ fn writes_fail<R: Threads + Wait + Sync>(
     then: Then,
 ) -> bool {
     let whole = run_by(rt, alloc, words, text.as_bytes(), ALL);
-    for room in 0..whole.out.len() {
-        let (plan, front) = (taking(room, most, then), &whole.out[..room]);
+    for capacity in 0..whole.out.len() {
+        let (plan, front) = (taking(capacity, most, then), &whole.out[..capacity]);
         if !leaves(rt, alloc, words, text.as_bytes(), plan, (8, front, FAILED)) {
             return false;
         }
@@ -80,9 +80,9 @@ fn a_writer_that_fails_once_has_failed(rt: HostRuntime) {
 }
 
 // A writer of errors takes four bytes.
-fn curt(room: usize) -> Plan {
-    let mut plan = dripping(room, false);
-    plan.takes_errors.room = 4;
+fn curt(capacity: usize) -> Plan {
+    let mut plan = dripping(capacity, false);
+    plan.takes_errors.capacity = 4;
     plan.takes_errors.most = 3;
     plan
 }
@@ -100,9 +100,18 @@ const CURT: [(&str, &str, usize, u8, &[u8]); 7] = [
 
 #[test]
 fn a_writer_of_errors_that_fails_leaves_the_status(rt: HostRuntime) {
-    for (word, text, room, status, errors) in &CURT {
+    for (word, text, capacity, status, errors) in &CURT {
         let (words, want) = (["bsp", *word], (*status, b"".as_slice(), *errors));
-        assert!(rt; leaves(&rt, rt.alloc(), &words, text.as_bytes(), curt(*room), want));
+        assert!(rt;
+            leaves(
+                &rt,
+                rt.alloc(),
+                &words,
+                text.as_bytes(),
+                curt(*capacity),
+                want
+            )
+        );
     }
 }
 

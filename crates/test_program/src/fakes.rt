@@ -22,7 +22,7 @@ pub(crate) struct Gives {
     /// How many bytes it gives a read, at most.
     pub(crate) most: usize,
     /// How many reads go well before one fails.
-    pub(crate) room: usize,
+    pub(crate) capacity: usize,
     /// Whether the reads after that one succeed again.
     pub(crate) once: bool,
     /// How many reads are interrupted before each one that isn't.
@@ -60,13 +60,13 @@ impl Read for Source<'_> {
             return Err(io::ErrorKind::Interrupted.into());
         }
         self.left = self.gives.interrupts;
-        if self.gives.room == 0 {
+        if self.gives.capacity == 0 {
             if self.gives.once {
-                self.gives.room = usize::MAX;
+                self.gives.capacity = usize::MAX;
             }
             return Err(io::ErrorKind::Other.into());
         }
-        self.gives.room -= 1;
+        self.gives.capacity -= 1;
         Ok(give(&mut self.rest, buffer, self.gives.most))
     }
 }
@@ -88,7 +88,7 @@ pub(crate) struct Takes {
     /// How many bytes it takes a write, at most.
     pub(crate) most: usize,
     /// For how many bytes it has room.
-    pub(crate) room: usize,
+    pub(crate) capacity: usize,
     /// What it does then.
     pub(crate) then: Then,
     /// How many writes are interrupted before each one that isn't.
@@ -123,7 +123,7 @@ impl<'a> Sink<'a> {
             Then::Fails => Err(io::ErrorKind::Other.into()),
             Then::TakesNone => Ok(0),
             Then::FailsOnce => {
-                self.takes.room = usize::MAX;
+                self.takes.capacity = usize::MAX;
                 Err(io::ErrorKind::Other.into())
             }
         }
@@ -140,14 +140,14 @@ impl Write for Sink<'_> {
             return Err(io::ErrorKind::Interrupted.into());
         }
         self.left = self.takes.interrupts;
-        let count = bytes.len().min(self.takes.room).min(self.takes.most);
+        let count = bytes.len().min(self.takes.capacity).min(self.takes.most);
         if count == 0 {
             return self.without_room();
         }
         if self.taken.extend_from_slice(&bytes[..count]).is_err() {
             return Err(io::ErrorKind::Other.into());
         }
-        self.takes.room -= count;
+        self.takes.capacity -= count;
         Ok(count)
     }
 
@@ -167,7 +167,7 @@ pub(crate) struct Plan {
 // It takes all.
 const TAKES_ALL: Takes = Takes {
     most: usize::MAX,
-    room: usize::MAX,
+    capacity: usize::MAX,
     then: Then::Fails,
     interrupts: 0,
 };
@@ -176,7 +176,7 @@ const TAKES_ALL: Takes = Takes {
 pub(crate) const ALL: Plan = Plan {
     gives: Gives {
         most: usize::MAX,
-        room: usize::MAX,
+        capacity: usize::MAX,
         once: false,
         interrupts: 0,
     },
@@ -185,18 +185,18 @@ pub(crate) const ALL: Plan = Plan {
 };
 
 /// The reader gives a byte a read, and fails after `room` reads, for good or once.
-pub(crate) fn dripping(room: usize, once: bool) -> Plan {
+pub(crate) fn dripping(capacity: usize, once: bool) -> Plan {
     let mut plan = ALL;
     plan.gives.most = 1;
-    plan.gives.room = room;
+    plan.gives.capacity = capacity;
     plan.gives.once = once;
     plan
 }
 
 /// The writer has room for so many bytes, and takes `most` a write.
-pub(crate) fn taking(room: usize, most: usize, then: Then) -> Plan {
+pub(crate) fn taking(capacity: usize, most: usize, then: Then) -> Plan {
     let mut plan = ALL;
-    plan.takes.room = room;
+    plan.takes.capacity = capacity;
     plan.takes.most = most;
     plan.takes.then = then;
     plan

@@ -153,7 +153,7 @@ const ROWS: [Row; 5] = [
 const BY_FOUR: &[&str] = &["bsp", "run", "--progress", "--workers", "4"];
 
 #[test]
-fn progress_is_told_of_each_superstep_or_segment(rt: HostRuntime) {
+fn progress_is_reported_of_each_superstep_or_segment(rt: HostRuntime) {
     for (words, holds, want) in &ROWS {
         assert!(rt; tells(&rt, rt.alloc(), words, *holds, *want));
     }

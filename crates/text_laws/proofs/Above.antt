@@ -17,7 +17,7 @@ use Rattle.job_words.specs.Words.{Word, Words}
 use Rattle.job_words.proofs.SaidLemmas.{made-ok, and-true}
 use Rattle.job_words.proofs.GrowLemmas.{and-left}
 use Rattle.job_reader.specs.Trees.{JobTree}
-use Rattle.job_reader.proofs.ToldOuter.{bind-ok}
+use Rattle.job_reader.proofs.SpelledOuter.{bind-ok}
 use Rattle.job_reader.specs.Above.{Above}
 use Rattle.job_reader.specs.Reading.{◌>>=◌, at, refused, format_of, outer_of, declared_by, declared, read_from, unless_bad, job_in}
 use Rattle.text_laws.specs.Laws.{IsTextOfJob}
@@ -26,7 +26,7 @@ use Rattle.text_laws.specs.Refusals.{IsRefusedOfALine, IsABeginning, above, decl
 use Rattle.text_laws.proofs.Named.{open_name, so_far, lines-tell}
 use Rattle.text_laws.proofs.Lacking.{lacking-read, lacking-free, empty-declare, empty-whole, empty-allowed, empty-found, all-known, lines-found}
 use Rattle.text_laws.proofs.Seen.{SeenBody, Seen}
-use Rattle.text_laws.proofs.Folds.{IsFault, step, read, glance, see_first, see_words, see_lines, told, read-next, step-seen}
+use Rattle.text_laws.proofs.Folds.{IsFault, step, read, glance, see_first, see_words, see_lines, spelled_out, read-next, step-seen}
 use Rattle.text_laws.proofs.BadLines.{by-lines}
 use Rattle.text_laws.proofs.Closing.{IsClosed, lines-append, end_line, ends, ends-few, lines-within, closes}
 use Rattle.text_laws.proofs.Ended.{are_found, are_allowed, none-bad, text-read}
@@ -113,11 +113,11 @@ module _ (Front : List (List ℕ)) (v : Seen) (reads : see_lines None Front ≡ 
   Whole = Front ++ (replicate Ends end_line ++ empty_bodies Missing)
 
   all-read : length (Names ++ Missing) ≤ 64 → IsClosed (see_lines None Whole)
-  all-read room =
+  all-read capacity =
       let c = closes Front v reads in
       let names : so_far c.0 ≡ Names = (lines-tell Closed None (Some c.0) c.1).0 ∙ ends-declare Front Ends in
       let shape : c.0 ≡ record { format = c.0.format; arrays = c.0.arrays; bodies = Names; starts = c.0.starts; inside = None } = closed-as c.0 Names c.2 names in
-      let r = lacking-read c.0.format (named_in Front) c.0.arrays Names c.0.starts names-free room in (
+      let r = lacking-read c.0.format (named_in Front) c.0.arrays Names c.0.starts names-free capacity in (
         r.0,
         ap (see_lines None) (sym (append_assoc Front (replicate Ends end_line) (empty_bodies Missing)))
             ∙ lines-append Closed (empty_bodies Missing) None (Some c.0) c.1
@@ -127,8 +127,8 @@ module _ (Front : List (List ℕ)) (v : Seen) (reads : see_lines None Front ≡ 
       )
 
   all-found : length (Names ++ Missing) ≤ 64 → are_found (declared Whole) Whole ≡ true
-  all-found room =
-      let names : declared Whole ≡ Names ++ Missing = ap (take 64) (all-declare Front Ends Missing missing-free) ∙ take_all 64 (Names ++ Missing) room in
+  all-found capacity =
+      let names : declared Whole ≡ Names ++ Missing = ap (take 64) (all-declare Front Ends Missing missing-free) ∙ take_all 64 (Names ++ Missing) capacity in
       subst (λ (x : List Word). are_found x Whole ≡ true) (sym names)
       (all-joined _ Front Ends end_line (empty_bodies Missing) (lines-found (Names ++ Missing) Front (all-known Names (named_in Front))) refl
       (empty-found (Names ++ Missing) Missing missing-free))
@@ -144,14 +144,14 @@ module _ (Front : List (List ℕ)) (v : Seen) (reads : see_lines None Front ≡ 
 
   -- lines that are read may go on to a job
   beginning : IsABeginning Front
-  beginning = (Ends, few-ends, λ room short. let c = all-read room in text-read Whole c.0 all-whole all-allowed (all-found room) c.1 c.2 short)
+  beginning = (Ends, few-ends, λ capacity short. let c = all-read capacity in text-read Whole c.0 all-whole all-allowed (all-found capacity) c.1 c.2 short)
 
 fault-of : (text : List ℕ) (r : Refusal) → IsRefusedOfALine text r → bad_byte_line 1 text ≡ None → IsFault None 1 (lines_of text) r
 fault-of text r h clean =
     elim (by-byte (bad_byte_line 1 text) (read_from (declared (lines_of text)) 1 (lines_of text)) r (sym (short-read text h.short) ∙ h.refused)) [
       | inl bad ↦ let no : ◌≡◌ {A = Option ℕ} None (Some r.line) = sym clean ∙ bad in absurd cc
       | inr e ↦
-          elim (told (declared (lines_of text)) (lines_of text) (lines_of text) [] 1 None r refl refl (λ m t. absurd cc) e.1) [
+          elim (spelled_out (declared (lines_of text)) (lines_of text) (lines_of text) [] 1 None r refl refl (λ m t. absurd cc) e.1) [
             | inl f ↦ f
             | inr late ↦ absurd (not-late text r h late)
           ]

@@ -19,7 +19,7 @@ use Rattle.job_reader.specs.declared.outer.Outer.{Outer}
 use Rattle.job_reader.specs.declared.outer.Outer.TheVariants as outer
 use Rattle.job_reader.specs.Above.{nothing, statements_behind}
 use Rattle.job_reader.specs.Reading.{◌>>=◌, format_of, outer_of, array_of, body_of, are_apart, start_of, is_over}
-use Rattle.job_reader.proofs.ToldOuter.{bind-ok}
+use Rattle.job_reader.proofs.SpelledOuter.{bind-ok}
 use Rattle.job_reader.proofs.LocalsBehind.{behind-none}
 use Rattle.text_laws.proofs.Seen.{Kind, AnIf, AnElse, AWhile, SeenBody, Seen, seen, see_array, see_body, see_start, see_outer, see_step, see_else, see_behind, see_said, see_mentioning, see_any, see}
 use Rattle.text_laws.proofs.Folds.{see_first, see_words, see_lines, skip-ok}

@@ -31,7 +31,7 @@ use Rattle.job_reader.specs.Grammar.{
 use Rattle.job_reader.specs.Reading.{outer_of, declared_by, declared}
 use Rattle.job_reader.specs.Writing.{code_lines}
 use Rattle.job_reader.proofs.CodeLemmas.{block-code}
-use Rattle.job_reader.proofs.ToldNames.{names_in, skipped-none}
+use Rattle.job_reader.proofs.SpelledNames.{names_in, skipped-none}
 
 abbrev pub declared_in : List Words → List Word
 declared_in lines = filter_map declared_by lines

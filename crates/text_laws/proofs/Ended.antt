@@ -26,7 +26,7 @@ use Rattle.job_reader.specs.Reading.{
   declared,
   job_in,
 }
-use Rattle.job_reader.proofs.ToldOuter.{bind-ok}
+use Rattle.job_reader.proofs.SpelledOuter.{bind-ok}
 use Rattle.text_laws.specs.Laws.{IsAJobs}
 use Rattle.text_laws.proofs.Joined.{texts-are-read}
 use Rattle.text_laws.proofs.Seen.{Seen, seen_body, seen}

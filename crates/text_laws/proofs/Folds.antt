@@ -25,7 +25,7 @@ use Rattle.job_reader.specs.Reading.{
   read_lines,
   read_from,
 }
-use Rattle.job_reader.proofs.ToldOuter.{bind-ok}
+use Rattle.job_reader.proofs.SpelledOuter.{bind-ok}
 use Rattle.text_laws.specs.Refusals.{words_at}
 use Rattle.text_laws.proofs.Seen.{Seen, seen, see}
 use Rattle.text_laws.proofs.SeenLines.{line-seen}
@@ -177,11 +177,11 @@ module _ (bodies : List Word) (all : List (List ℕ)) where
   end-late n None r h e = let same : n ≡ r.line = cc in inl (omega (arith, same))
   end-late n (Some a) r h e = finished-late n a a.inside a.missing r h e
 
-  abbrev Told : ℕ → Option Above → List (List ℕ) → Refusal → Type 0
-  Told n p ls r = IsFault (glance p) n ls r ⊎ IsLate bodies all n ls r
+  abbrev SpelledOut : ℕ → Option Above → List (List ℕ) → Refusal → Type 0
+  SpelledOut n p ls r = IsFault (glance p) n ls r ⊎ IsLate bodies all n ls r
 
   further : (n : ℕ) (p q : Option Above) (l : List ℕ) (ls : List (List ℕ)) (r : Refusal) → step bodies n p (words_of l) ≡ Ok q
-      → Told (n + 1) q ls r → Told n p (l ∷ ls) r
+      → SpelledOut (n + 1) q ls r → SpelledOut n p (l ∷ ls) r
   further n p q l ls r s (inl f) =
       let one : see_words (glance p) (words_of l) ≡ Ok (glance q) = sym (step-seen bodies n p (words_of l)) ∙ ap (made glance) s in
       inl (record {
@@ -198,7 +198,7 @@ module _ (bodies : List Word) (all : List (List ℕ)) where
   further n p q l ls r s (inr (inr m)) = inr (inr m)
 
   here : (n : ℕ) (p : Option Above) (l : List ℕ) (ls : List (List ℕ)) (r : Refusal) (c : Code) → step bodies n p (words_of l) ≡ Err c
-      → n ≡ r.line → c ≡ r.code → Told n p (l ∷ ls) r
+      → n ≡ r.line → c ≡ r.code → SpelledOut n p (l ∷ ls) r
   here n p l ls r c s line code =
       inl (record {
         front = [];
@@ -213,8 +213,8 @@ module _ (bodies : List Word) (all : List (List ℕ)) where
 
   by-step : (l : List ℕ) (ls : List (List ℕ)) (n : ℕ) (p : Option Above) (r : Refusal) (s : Result (Option Above) Code)
       → step bodies n p (words_of l) ≡ s → (at n s >>= λ q. read bodies (n + 1) q ls) ≡ Err r
-      → ((q : Option Above) → step bodies n p (words_of l) ≡ Ok q → read bodies (n + 1) q ls ≡ Err r → Told (n + 1) q ls r)
-      → Told n p (l ∷ ls) r
+      → ((q : Option Above) → step bodies n p (words_of l) ≡ Ok q → read bodies (n + 1) q ls ≡ Err r → SpelledOut (n + 1) q ls r)
+      → SpelledOut n p (l ∷ ls) r
   by-step l ls n p r (Err c) s e later =
       let same : record { line = n; code = c } ≡ r = cc in here n p l ls r c s (ap (λ (x : Refusal). x.line) same) (ap (λ (x : Refusal). x.code) same)
   by-step l ls n p r (Ok q) s e later = further n p q l ls r s (later q s e)
@@ -228,13 +228,13 @@ module _ (bodies : List Word) (all : List (List ℕ)) where
       ∙ ap (λ (x : Option (List ℕ)). words_of (unwrap_or x [])) (get-behind done l ls)
 
   -- a refusal is of a line, or of the end, or of a body that isn't there
-  pub told : (ls done : List (List ℕ)) (n : ℕ) (p : Option Above) (r : Refusal) → all ≡ done ++ ls → n ≡ length done + 1 → AreMissing bodies all p
-      → read bodies n p ls ≡ Err r → Told n p ls r
-  told [] done n p r a e h f = inr (end-late n p r h f)
-  told (l ∷ ls) done n p r a e h f =
+  pub spelled_out : (ls done : List (List ℕ)) (n : ℕ) (p : Option Above) (r : Refusal) → all ≡ done ++ ls → n ≡ length done + 1 → AreMissing bodies all p
+      → read bodies n p ls ≡ Err r → SpelledOut n p ls r
+  spelled_out [] done n p r a e h f = inr (end-late n p r h f)
+  spelled_out (l ∷ ls) done n p r a e h f =
       by-step l ls n p r (step bodies n p (words_of l)) refl (sym (read-next bodies n p l ls) ∙ f)
       (λ q s g.
-      told ls (done ++ l ∷ []) (n + 1) q r (a ∙ sym (append_assoc done (l ∷ []) ls)) (omega (arith, e, length-append done (l ∷ [])))
+      spelled_out ls (done ++ l ∷ []) (n + 1) q r (a ∙ sym (append_assoc done (l ∷ []) ls)) (omega (arith, e, length-append done (l ∷ [])))
       (step-missing n p q (words_of l) h (at-words done l ls n a e) s) g)
 
 -- a fault of a line is one whatever follows it

@@ -12,7 +12,7 @@ use Rattle.job_reader.specs.Trees.{JobTree}
 use Rattle.job_reader.specs.Reading.{refused, declared, read_from, unless_bad, job_in}
 use Rattle.text_laws.proofs.Joined.{texts-are-read}
 use Rattle.text_laws.specs.Refusals.{IsRefusedOfALine, BeginAlike, RefusalsHoldForAllThatFollows, PlainTextsAreRefusedAlike, LinesAboveAreRead}
-use Rattle.text_laws.proofs.Folds.{IsFault, IsLate, told, stays}
+use Rattle.text_laws.proofs.Folds.{IsFault, IsLate, spelled_out, stays}
 use Rattle.text_laws.proofs.BadLines.{bad_line, by-lines, found-in-front, found-behind}
 use Rattle.job_reader.proofs.ReadJobs.{short-enough as short-text}
 
@@ -69,7 +69,7 @@ not-late text r h (inr m) = let no : true ≡ false = sym m.1 ∙ h.named m.0 in
 line-stays : (text : List ℕ) (r : Refusal) → IsRefusedOfALine text r → read_from (declared (lines_of text)) 1 (lines_of text) ≡ Err r
     → (bodies : List Word) (other : List (List ℕ)) → take r.line (lines_of text) ≡ take r.line other → read_from bodies 1 other ≡ Err r
 line-stays text r h e bodies other alike =
-    elim (told (declared (lines_of text)) (lines_of text) (lines_of text) [] 1 None r refl refl (λ m t. absurd cc) e) [
+    elim (spelled_out (declared (lines_of text)) (lines_of text) (lines_of text) [] 1 None r refl refl (λ m t. absurd cc) e) [
       | inl f ↦ fault-stays bodies (lines_of text) other r f alike
       | inr late ↦ absurd (not-late text r h late)
     ]

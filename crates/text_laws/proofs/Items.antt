@@ -138,7 +138,7 @@ module _ (bodies : List Word) (t : JobTree) (good : are_names bodies ≡ true) (
       record {
         free = free;
         fresh = behind-new (array_names k) name (array_names j) all;
-        room = omega (arith, length-append k.arrays ((name, cells) ∷ j.arrays));
+        capacity = omega (arith, length-append k.arrays ((name, cells) ∷ j.arrays));
       }
 
   free-body : (format : ℕ) (k : JobTree) (b : BodyTree) (is : List Item) → IsLegalBody b → joined k (job_of format (ABody b ∷ is)) ≡ t → IsFreeBody k b.name
@@ -152,7 +152,7 @@ module _ (bodies : List Word) (t : JobTree) (good : are_names bodies ≡ true) (
       record {
         free = legal.rules.name;
         fresh = behind-new (body_names k) b.name (body_names j) all;
-        room = omega (arith, length-append k.bodies (b ∷ j.bodies));
+        capacity = omega (arith, length-append k.bodies (b ∷ j.bodies));
       }
 
   free-start : (format : ℕ) (k : JobTree) (s : Start) (is : List Item) → joined k (job_of format (AStart s ∷ is)) ≡ t → length k.starts < 4096

@@ -9,7 +9,7 @@ use Rattle.job_reader.specs.Trees.{JobTree}
 use Rattle.job_reader.specs.Grammar.{canonical_text}
 use Rattle.job_reader.specs.Laws.{IsRefused}
 use Rattle.job_reader.specs.Reading.{refused, declared, read_from, unless_bad, job_in}
-use Rattle.job_reader.proofs.ToldWhole.{text-told}
+use Rattle.job_reader.proofs.SpelledWhole.{text-spelled-out}
 use Rattle.text_laws.proofs.CanonicalJob.{canonical-text}
 use Rattle.text_laws.proofs.ReadJobs.{read-jobs}
 use Rattle.text_laws.specs.Laws.{IsTextOfJob, IsAJobs, TextsAreReadAsTheirJobs, EachTextIsOneJobsOrRefused, CanonicalTextsAreRead, WritingTwiceIsWritingOnce}
@@ -32,7 +32,7 @@ pub read-text : (text : List ℕ) (j : JobTree) → job_in text ≡ Ok j → IsT
 unfolding job_in
 read-text text j e =
     let allowed = not-long (nat_lt 1048576 (length text)) (bad_byte_line 1 text) (read_from (declared (lines_of text)) 1 (lines_of text)) j e in
-    record { short = not-over (length text) allowed.0; clean = allowed.1; job = read-jobs text j e; written = text-told text j e }
+    record { short = not-over (length text) allowed.0; clean = allowed.1; job = read-jobs text j e; written = text-spelled-out text j e }
 
 pub texts-are-read : TextsAreReadAsTheirJobs
 texts-are-read text j = (read-text text j, text-of-job-read text j)

@@ -1,4 +1,4 @@
-pub mod Told
+pub mod SpelledOut
 pub mod TextOfLines
 pub mod PrintedLines
 pub mod MentionedLocals

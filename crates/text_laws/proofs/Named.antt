@@ -23,8 +23,8 @@ use Rattle.job_reader.specs.declared.outer.Outer.{Outer}
 use Rattle.job_reader.specs.declared.outer.Outer.TheVariants as outer
 use Rattle.job_reader.specs.Above.{nothing, statements_behind}
 use Rattle.job_reader.specs.Reading.{◌>>=◌, format_of, outer_of, name_if_body, declared_by, array_of, body_of, start_of, start_from, is_over}
-use Rattle.job_reader.proofs.ToldOuter.{bind-ok, outer-said}
-use Rattle.job_reader.proofs.ToldNames.{listed, listed-first, skipped-none, no-body, is-hash}
+use Rattle.job_reader.proofs.SpelledOuter.{bind-ok, outer-said}
+use Rattle.job_reader.proofs.SpelledNames.{listed, listed-first, skipped-none, no-body, is-hash}
 use Rattle.text_laws.specs.Refusals.{named_by, declared_in, named_in}
 use Rattle.text_laws.proofs.Seen.{Kind, SeenBody, Seen, seen, see_array, see_body, see_start, see_outer, see_step, see_else, see_behind, see_said, see_mentioning, see_any, see}
 use Rattle.text_laws.proofs.Folds.{see_first, see_words, see_lines}

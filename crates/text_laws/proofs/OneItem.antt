@@ -81,7 +81,7 @@ cells-read given cells c f =
 pub record IsFreeArray (k : JobTree) (name : Word) : Type 0 where
   pub free : is_free name ≡ true
   pub fresh : is_among (array_names k) name ≡ false
-  pub room : length (array_names k) < 16
+  pub capacity : length (array_names k) < 16
 
 pub array-passes : (bodies : List Word) (k : JobTree) (name : Word) (given cells : List ℤ) → IsFreeArray k name → AreCells cells → IsFilled given cells
     → Passes bodies (array_words name (length cells) given) (k, None) (put (AnArray name given cells) k, None)
@@ -95,7 +95,7 @@ array-passes bodies k name given cells h c f =
     record {
       read = ap (λ (r : Result (Word × List ℤ) Code). made (λ (i : JobTree). (i, None)) (r >>= with_array k)) read
           ∙ ap (λ (b : Bool). made (λ (i : JobTree). (i, None)) (if b then Err Twice else if nat_le 16 (length (array_names k)) then Err TooMany else Ok all)) h.fresh
-          ∙ ap (λ (b : Bool). made (λ (i : JobTree). (i, None)) (if b then Err TooMany else Ok all)) (le-false 16 (length (array_names k)) h.room);
+          ∙ ap (λ (b : Bool). made (λ (i : JobTree). (i, None)) (if b then Err TooMany else Ok all)) (le-false 16 (length (array_names k)) h.capacity);
       found = refl;
     }
 
@@ -103,7 +103,7 @@ array-passes bodies k name given cells h c f =
 pub record IsFreeBody (k : JobTree) (name : Word) : Type 0 where
   pub free : is_free name ≡ true
   pub fresh : is_among (body_names k) name ≡ false
-  pub room : length (body_names k) < 64
+  pub capacity : length (body_names k) < 64
 
 begin-passes : (bodies : List Word) (k : JobTree) (name : Word) (locals : List Word) → IsFreeBody k name → are_names locals ≡ true → length locals ≤ 32
     → Passes bodies (body_words k.format name locals) (k, None) (k, Some (begun (name, listed_in k.format locals)))
@@ -116,7 +116,7 @@ begin-passes bodies k name locals h names few =
       read = ap (λ (r : Result (Word × List Word) Code). made (λ (o : Inside). (k, Some o)) (r >>= new_body k)) (head-read k.format name locals h.free names)
           ∙ ap (λ (b : Bool). made (λ (o : Inside). (k, Some o)) (if b || not (are_apart head.1) then Err Twice else if nat_le 64 (length (body_names k)) || nat_lt 32 (length head.1) then Err TooMany else Ok (begun head))) h.fresh
           ∙ ap (λ (b : Bool). made (λ (o : Inside). (k, Some o)) (if b then Err Twice else if nat_le 64 (length (body_names k)) || nat_lt 32 (length head.1) then Err TooMany else Ok (begun head))) own
-          ∙ ap (λ (b : Bool). made (λ (o : Inside). (k, Some o)) (if b || nat_lt 32 (length head.1) then Err TooMany else Ok (begun head))) (le-false 64 (length (body_names k)) h.room)
+          ∙ ap (λ (b : Bool). made (λ (o : Inside). (k, Some o)) (if b || nat_lt 32 (length head.1) then Err TooMany else Ok (begun head))) (le-false 64 (length (body_names k)) h.capacity)
           ∙ ap (λ (b : Bool). made (λ (o : Inside). (k, Some o)) (if b then Err TooMany else Ok (begun head))) short;
       found = refl;
     }
@@ -158,7 +158,7 @@ pub start-passes : (bodies : List Word) (k : JobTree) (s : Start) → are_names 
     → length k.starts < 4096
     → Passes bodies (start_words bodies s) (k, None) (put (AStart s) k, None)
 unfolding outer_of
-start-passes bodies k s g h f room =
+start-passes bodies k s g h f capacity =
     let w : Word = name_at bodies s.body in
     let place : place_from 0 bodies w ≡ Some (0 + s.body) = place-name 0 bodies s.body g h in
     let number : 0 + s.body ≡ s.body = omega arith in
@@ -169,6 +169,6 @@ start-passes bodies k s g h f room =
     record {
       read = ap (λ (r : Result ℕ Code). made (λ (i : JobTree). (i, None)) (made start_from (both r (numbered (signed_decimal s.arg))) >>= with_start k)) body
           ∙ ap (λ (r : Result ℤ Code). made (λ (i : JobTree). (i, None)) (made start_from (both (Ok s.body) r) >>= with_start k)) (number-written s.arg (number-fits s.arg f))
-          ∙ ap (λ (b : Bool). made (λ (i : JobTree). (i, None)) (if b then Err TooMany else Ok (put (AStart s) k))) (le-false 4096 (length k.starts) room);
+          ∙ ap (λ (b : Bool). made (λ (i : JobTree). (i, None)) (if b then Err TooMany else Ok (put (AStart s) k))) (le-false 4096 (length k.starts) capacity);
       found = ap not (name-among bodies s.body g h);
     }

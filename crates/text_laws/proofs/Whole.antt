@@ -38,14 +38,14 @@ fit j h = record { arrays = h.arrays; cells = h.cells; bodies = h.each; args = h
 -- the lines of a job's text are read as the job
 text-lines-read : (ls : List (List ℕ)) (j : JobTree) → IsJobTree j → IsTextOf j (kept ls) → read_from (declared ls) 1 ls ≡ Ok j
 text-lines-read ls j job w =
-    let room : IsRoomy j = roomy j job in
+    let capacity : IsRoomy j = roomy j job in
     let names : List Word = body_names j in
     let few : length (body_names (job_of j.format w.items)) ≤ 64 =
     subst (λ (x : JobTree). length (body_names x) ≤ 64) (sym w.said)
-    (subst (λ (n : ℕ). n ≤ 64) (sym (length-map j.bodies (λ (b : BodyTree). b.name))) room.few_bodies) in
+    (subst (λ (n : ℕ). n ≤ 64) (sym (length-map j.bodies (λ (b : BodyTree). b.name))) capacity.few_bodies) in
     let looked : declared ls ≡ names = job-declared j.format ls names w.items w.written few ∙ ap body_names w.said in
     let items : AreItems w.items = items-fit j.format w.items (subst AreFit (sym w.said) (fit j job)) in
-    let reads : Reads names (items_lines j.format [] names w.items) (no_job j.format, None) (j, None) = items-read names j room.bodies room w.items (no_job j.format) (joined-none j.format w.items ∙ w.said) items w.sound in
+    let reads : Reads names (items_lines j.format [] names w.items) (no_job j.format, None) (j, None) = items-read names j capacity.bodies capacity w.items (no_job j.format) (joined-none j.format w.items ∙ w.said) items w.sound in
     ap (λ (x : List Word). read_from x 1 ls) looked
     ∙ header-read names j.format ls 1 (items_lines j.format [] names w.items) j job.format w.written
     (λ m behind e. lines-read names behind m (no_job j.format, None) (j, None) j (subst (λ (x : List Words). Reads names x (no_job j.format, None) (j, None)) (sym e) reads) refl)

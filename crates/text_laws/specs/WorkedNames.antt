@@ -15,7 +15,7 @@ abbrev pub IsFrom : ℕ → ℕ → ℕ → Type 0
 IsFrom a b c = (a ≤ c) × (c ≤ b)
 
 -- A text may have LF, and the 95 bytes from the space to the tilde.
-pub record BytesAreTold : Type 0 where
+pub record BytesAreSpelledOut : Type 0 where
   pub allowed : (c : ℕ) → (is_allowed c ≡ true) ↔ ((c ≡ 10) ⊎ IsFrom 32 126 c)
   pub below_line_end : bad_byte_line 1 (9 ∷ []) ≡ Some 1
   pub line_end : bad_byte_line 1 (10 ∷ []) ≡ None
@@ -29,7 +29,7 @@ abbrev pub printable : Word
 printable = codes " !\"#$%&'()*+,-./0123456789:;<=>?@ABCDEFGHIJKLMNOPQRSTUVWXYZ[\\]^_`abcdefghijklmnopqrstuvwxyz{|}~"
 
 -- Which first byte makes a line a comment, and which a word one that is meant as a number: in general, and of the 95 bytes one by one.
-pub record FirstBytesAreTold : Type 0 where
+pub record FirstBytesAreSpelledOut : Type 0 where
   pub skipped : (c : ℕ) (cs : Word) (ws : Words) → (is_skipped ((c ∷ cs) ∷ ws) ≡ true) ↔ (c ≡ 35)
   pub number : (c : ℕ) (cs : Word) → (begins_number (c ∷ cs) ≡ true) ↔ ((c ≡ 45) ⊎ IsFrom 48 57 c)
   pub count : length printable ≡ 95
@@ -47,7 +47,7 @@ words =
 
 -- A name has 1 to 16 bytes out of 37: 26 letters, one of them first, ten digits and the underscore. 17 words are no
 -- names.
-pub record NamesAreTold : Type 0 where
+pub record NamesAreSpelledOut : Type 0 where
   pub first : (c : ℕ) (cs : Word) → (begins_lower (c ∷ cs) ≡ true) ↔ IsFrom 97 122 c
   pub all : (c : ℕ) → (is_in_name c ≡ true) ↔ (IsFrom 97 122 c ⊎ (IsFrom 48 57 c ⊎ (c ≡ 95)))
   pub letters_begin : list_all (λ c. begins_lower (c ∷ [])) letters ≡ true

@@ -34,6 +34,6 @@ pub use upgrades::{
     second_format_is_worked_out, upgraded_texts_are_read, upgrading_twice_is_upgrading_once,
 };
 pub use worked::{
-    bytes_are_told, codes_are_numbered, faults_count_in_order, first_bytes_are_told,
-    names_are_told, names_are_worked_out, refusals_are_worked_out,
+    bytes_are_spelled_out, codes_are_numbered, faults_count_in_order, first_bytes_are_spelled_out,
+    names_are_spelled_out, names_are_worked_out, refusals_are_worked_out,
 };

@@ -63,7 +63,7 @@ module _ (id id' : TableId) (me mo : Seat) (v : View) (count s leaving : ℕ) (n
   pub pass_may : (joined : Seat) (next : Fields) (sights : List Sight) → IsLegal w → joined ≡ (mo.0 ++ me.0, mo.1) → sights ≡ sights_with (group_of id me v) (tokens_of id' mo) leaving w
       → next ≡ record w { parties = w.parties + s - leaving; unarrived = w.unarrived - count } → MayGo n.key v.tier w next joined sights
   pass_may joined next sights legal at is to =
-      let a = stay_long in let b = gone_long in let c = seated.long in let d = pool.long in let e = may.come in let f = seated.some in let g = may.enough in let h = may.few in let r = may.room in
+      let a = stay_long in let b = gone_long in let c = seated.long in let d = pool.long in let e = may.come in let f = seated.some in let g = may.enough in let h = may.few in let r = may.capacity in
       let u : Fields = record w { parties = w.parties + length mo.0 - length gone; unarrived = w.unarrived - (length stay + length gone) } in
       let q : Goes n.key v.tier w (mo.0 ++ (stay ++ gone)) u (sights_with (group_of id me v) (tokens_of id' mo) leaving w) =
       pass_goes n.key v.tier (new_view 0) v w mo.0 stay gone blank (take_alike n.key v (length me.0 - leaving) me.0 k) (drop_alike n.key v (length me.0 - leaving) me.0 k) may.may seated.view may.eager may.place legal may.some r (omega arith) (omega arith) (omega arith) in

@@ -36,16 +36,16 @@ leaves_are t v w (suc n) h = ap (passed t Departure) (leaves_are t v w n (omega 
 
 -- a token without members may join an open tier, after others have
 may_join : (k : Key) (t : ℕ) (u x : View) (w : Fields) (n : ℕ) → IsBlank x → t < length k.shape → w.ended ≡ false → 0 < w.parties → 0 < w.unarrived → w.parties + suc n ≤ 65535 → Needs k.shape (Join t 0 1) t (after_many (Join t 0 1) t u w n) x
-may_join k t u x w n blank place going some' waits room =
+may_join k t u x w n blank place going some' waits capacity =
     subst (λ (z : Fields). Needs k.shape (Join t 0 1) t z x) (sym (joins_are t u w some' n)) (
       record { here = refl; errand = blank.rests; none = blank.none; some = omega arith; few = omega arith; place = place },
-      record { going = going; waits = omega arith; empty = λ e. absurd (omega arith); room = omega arith },
+      record { going = going; waits = omega arith; empty = λ e. absurd (omega arith); capacity = omega arith },
     )
 
 pub join_goes : (k : Key) (tries t : ℕ) (u : View) (w : Fields) (l : List Sight) → tries ≤ 1 → AreBlank k l → t < length k.shape → w.ended ≡ false → 0 < w.parties → 0 < w.unarrived → w.parties + length l ≤ 65535
     → Goes k t w l (after_many (Join t 0 1) t u w (length l)) (all_stepped (Join t 0 1) tries t u w l)
-join_goes k tries t u w [] once blank place going some' waits room = stays w []
-join_goes k tries t u w (x ∷ xs) once blank place going some' waits room =
+join_goes k tries t u w [] once blank place going some' waits capacity = stays w []
+join_goes k tries t u w (x ∷ xs) once blank place going some' waits capacity =
     let n : ℕ = length xs in
     let z : Fields = after_many (Join t 0 1) t u w n in
     let z' : Fields = joined z 1 in
@@ -89,7 +89,7 @@ both_alike k v (x ∷ xs) m a b = (a.0, both_alike k v xs m a.1 b)
 pub pass_goes : (k : Key) (t : ℕ) (u v : View) (w : Fields) (news stay gone : List Sight) → AreBlank k news → AreAlike k v stay → AreAlike k v gone → CanPass t w v → IsOne v → IsEager v
     → t < length k.shape → IsLegal w → 0 < w.parties → w.parties + length news ≤ 65535 → length stay + length gone ≤ w.unarrived → 0 < length stay + length gone → 0 < length news + length stay
     → Goes k t w (news ++ (stay ++ gone)) (record w { parties = w.parties + length news - length gone; unarrived = w.unarrived - (length stay + length gone) }) (exchanged_all t u v w news stay gone)
-pass_goes k t u v w news stay gone blank alike-v alike-g can one-each eager place legal some' room few old more =
+pass_goes k t u v w news stay gone blank alike-v alike-g can one-each eager place legal some' capacity few old more =
     let s : ℕ = length news in
     let a : ℕ = length stay in
     let g : ℕ = length gone in
@@ -102,7 +102,7 @@ pass_goes k t u v w news stay gone blank alike-v alike-g can one-each eager plac
     let come' : List Sight = all_stepped Arrive 1 t v w2 come in
     let alike : AreAlike k v come = both_alike k v news' stay (joined_alike k 0 t u v w news some' blank can one-each eager) alike-v in
     let one : Goes k t w (news ++ (stay ++ gone)) w1 (news' ++ (stay ++ gone)) =
-    front_goes k t w w1 news news' (stay ++ gone) (subst (λ (z : Fields). Goes k t w news z news') (joins_are t u w some' s) (join_goes k 0 t u w news (omega arith) blank place can.going some' (omega arith) room)) in
+    front_goes k t w w1 news news' (stay ++ gone) (subst (λ (z : Fields). Goes k t w news z news') (joins_are t u w some' s) (join_goes k 0 t u w news (omega arith) blank place can.going some' (omega arith) capacity)) in
     let two : Goes k t w1 (come ++ gone) w2 (come ++ gone') =
     back_goes k t w1 w2 come gone gone' (leave_goes k t v w1 gone alike-g (can_later t w w1 v can refl refl) (omega arith)) in
     let three : Goes k t w2 (come ++ gone') (less w2 (length come)) (come' ++ gone') =

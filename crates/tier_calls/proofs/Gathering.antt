@@ -72,9 +72,9 @@ gathered all front t me {h} {one} {me'} same seat is joined =
 -- all of them, the last one first
 pub gathered_all : (all front : List Token) (t : Token) (me : Me Kind (List Sight)) {h : Holding} {one : Me Kind (List Sight)} → h ≡ held t → one ≡ (sight_held h ∷ [], []) → all ≡ front ++ t ∷ []
     → me.0 ≡ sights_in front ++ one.0 → me.0 ≡ sights_in all
-gathered_all all front t me {h} {one} same seat is told =
+gathered_all all front t me {h} {one} same seat is reported =
     let d : sights_in all ≡ sights_in front ++ sight_held (held t) ∷ [] = ap (map (λ (t : Token). sight_held (held t))) is ∙ map-append (λ (t : Token). sight_held (held t)) front (t ∷ []) in
-    told ∙ (ap (λ (m : Me Kind (List Sight)). sights_in front ++ m.0) seat ∙ (ap (λ (z : Holding). sights_in front ++ sight_held z ∷ []) same ∙ sym d))
+    reported ∙ (ap (λ (m : Me Kind (List Sight)). sights_in front ++ m.0) seat ∙ (ap (λ (z : Holding). sights_in front ++ sight_held z ∷ []) same ∙ sym d))
 
 sights_apart : (front : List GroupHeld) (g : GroupHeld) → sights_together (front ++ g ∷ []) ≡ sights_together front ++ g.tokens
 sights_apart [] g = append-nil g.tokens
@@ -91,16 +91,16 @@ gathered_group all front g me {one} {me'} seat is joined =
 -- all of them, the last one first, and then all tokens
 pub gathered_both : (tokens : List Token) (all front : List GroupHeld) (g : GroupHeld) (one me me' : Me Kind (List Sight)) → one ≡ (g.tokens, []) → all ≡ front ++ g ∷ [] → me.0 ≡ sights_together front ++ one.0 → me'.0 ≡ sights_in tokens ++ me.0
     → me'.0 ≡ sights_in tokens ++ sights_together all
-gathered_both tokens all front g one me me' seat is told both =
+gathered_both tokens all front g one me me' seat is reported both =
     let d : sights_together all ≡ sights_together front ++ g.tokens = ap sights_together is ∙ sights_apart front g in
-    both ∙ ap (λ (l : List Sight). sights_in tokens ++ l) (told ∙ (ap (λ (m : Me Kind (List Sight)). sights_together front ++ m.0) seat ∙ sym d))
+    both ∙ ap (λ (l : List Sight). sights_in tokens ++ l) (reported ∙ (ap (λ (m : Me Kind (List Sight)). sights_together front ++ m.0) seat ∙ sym d))
 
 pub shut_none : {k : Key} {numbers : List ℕ} (tokens : List Token) (groups : List GroupHeld) → groups ≡ [] → IsShut k numbers (sights_in tokens) → IsShut k numbers (sights_in tokens ++ sights_together groups)
 shut_none {k} {numbers} tokens groups none shut = subst (IsShut k numbers) (sym (ap (λ (gs : List GroupHeld). sights_in tokens ++ sights_together gs) none ∙ append-nil (sights_in tokens))) shut
 
-views_told : (tokens : List Token) → those (sights_in tokens) ≡ views_in tokens
-views_told [] = refl
-views_told (t ∷ ts) = ap (λ (vs : List View). (held t).view ∷ vs) (views_told ts)
+views_listed : (tokens : List Token) → those (sights_in tokens) ≡ views_in tokens
+views_listed [] = refl
+views_listed (t ∷ ts) = ap (λ (vs : List View). (held t).view ∷ vs) (views_listed ts)
 
 -- the views of one seat among those of all
 pub record Among (vs : List (List Sight)) (l : List Sight) : Type 0 where
@@ -218,7 +218,7 @@ unfolding last_of
 left_tally {k} {words} l left = let z = last_of {numbers = map packed words} (record { words = words; packed_so = refl; left = left }) in (z.rest, z.tally)
 
 pub closed_tally : {k : Key} {words : List Fields} (tokens : List Token) → IsLeftBy k words (sights_in tokens) → TallyWithOthers k.shape words (views_in tokens)
-closed_tally {k} {words} tokens left = subst (TallyWithOthers k.shape words) (views_told tokens) (left_tally (sights_in tokens) left)
+closed_tally {k} {words} tokens left = subst (TallyWithOthers k.shape words) (views_listed tokens) (left_tally (sights_in tokens) left)
 
 those_append : (l m : List Sight) → those (l ++ m) ≡ those l ++ those m
 those_append [] m = refl
@@ -226,13 +226,13 @@ those_append (x ∷ xs) m = ap (λ (vs : List View). x.view ∷ vs) (those_appen
 
 pub all_tally : {k : Key} {words : List Fields} (tokens : List Token) (groups : List GroupHeld) → IsLeftBy k words (sights_in tokens ++ sights_together groups) → TallyWithOthers k.shape words (views_in tokens ++ views_together groups)
 all_tally {k} {words} tokens groups left =
-    subst (TallyWithOthers k.shape words) (those_append (sights_in tokens) (sights_together groups) ∙ ap (λ (vs : List View). vs ++ views_together groups) (views_told tokens)) (left_tally (sights_in tokens ++ sights_together groups) left)
+    subst (TallyWithOthers k.shape words) (those_append (sights_in tokens) (sights_together groups) ∙ ap (λ (vs : List View). vs ++ views_together groups) (views_listed tokens)) (left_tally (sights_in tokens ++ sights_together groups) left)
 
 pub closed_left : {k : Key} {numbers : List ℕ} {items : List Fields} {count tier : ℕ} {l : List Sight} → (shut : IsShut k numbers l) → length k.shape ≡ count → count ≤ tier
     → ((ws : List Fields) → numbers ≡ map packed ws → ((t : ℕ) → t < length ws → IsLegal (word_at ws t)) → length ws ≡ count → items ≡ take tier ws)
     → IsLeftBy k items l
 unfolding last_of
-closed_left {k} {numbers} {items} {count} {tier} {l} shut is past told =
+closed_left {k} {numbers} {items} {count} {tier} {l} shut is past reported =
     let z = last_of shut in
     let long : length shut.words ≡ count = z.long ∙ is in
-    subst (λ (ws : List Fields). IsLeftBy k ws l) (sym (told shut.words shut.packed_so z.legal long ∙ take_whole shut.words tier (omega arith))) shut.left
+    subst (λ (ws : List Fields). IsLeftBy k ws l) (sym (reported shut.words shut.packed_so z.legal long ∙ take_whole shut.words tier (omega arith))) shut.left

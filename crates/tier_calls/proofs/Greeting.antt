@@ -175,7 +175,7 @@ may_join n {h'} {t} {size} door at inside many waits going admits =
         going = going;
         waits = (waits going).1;
         empty = λ z. absurd (let a = (waits going).0 in omega arith);
-        room = room_so (h'.word.parties + size) (sym (room_alone size h'.word (waits going)) ∙ admits);
+        capacity = room_so (h'.word.parties + size) (sym (room_alone size h'.word (waits going)) ∙ admits);
       },
     )
 

@@ -125,16 +125,16 @@ saw_allow_by {k} {j} {t} {count} {me} {v} slots id seated own key inside =
 -- what all have seen at a load
 pub all_saw : {k j : Key} {t t' n : ℕ} (me me' : Seat) (slots : ℕ) (z : Fields) → SawAll j (step slots t' 0 0 none) me n me' → ((w : Fields) → IsLegal w → packed w ≡ n → z ≡ w) → j ≡ k → t' ≡ t
     → (me'.1 ≡ []) × LookedAll k t z 0 me.0 me'.0
-all_saw {k} {j} {t} {t'} {n} me me' slots z told again same tier =
-    let r : LookedAll j t' told.0 0 me.0 me'.0 = subst (LookedAll j t' told.0 0 me.0) (sym (ap (λ (m : Seat). m.0) told.4)) told.5 in (
-      ap (λ (m : Seat). m.1) told.4,
+all_saw {k} {j} {t} {t'} {n} me me' slots z reported again same tier =
+    let r : LookedAll j t' reported.0 0 me.0 me'.0 = subst (LookedAll j t' reported.0 0 me.0) (sym (ap (λ (m : Seat). m.0) reported.4)) reported.5 in (
+      ap (λ (m : Seat). m.1) reported.4,
       subst (λ (c : Key). LookedAll c t z 0 me.0 me'.0) same
           (subst (λ (i : ℕ). LookedAll j i z 0 me.0 me'.0) tier
-          (subst (λ (w : Fields). LookedAll j t' w 0 me.0 me'.0) (sym (again told.0 told.1 (sym told.2))) r)),
+          (subst (λ (w : Fields). LookedAll j t' w 0 me.0 me'.0) (sym (again reported.0 reported.1 (sym reported.2))) r)),
     )
 
 pub saw_number : {j : Key} {t n : ℕ} (me me' : Seat) (slots : ℕ) → SawAll j (step slots t 0 0 none) me n me' → (w : Fields) × IsLegal w × (packed w ≡ n)
-saw_number {j} {t} {n} me me' slots told = (told.0, told.1, sym told.2)
+saw_number {j} {t} {n} me me' slots reported = (reported.0, reported.1, sym reported.2)
 
 -- the exchange is allowed
 pub go_allow : {k j : Key} {id' : TableId} {n : Named} {t t' old new : ℕ} {w u jf jt : Fields} {me : Seat} {m : List Sight} (slots id : ℕ)
@@ -156,23 +156,23 @@ go_allow {k} {j} {id'} {n} {t} {t'} {old} {new} {w} {u} {jf} {jt} {me} {m} slots
 
 went_as : {k j : Key} {t t' old new n : ℕ} {w u jf jt : Fields} {me me' : Seat} {m : List Sight} (slots : ℕ) → WentOrLooked j jf jt m (step slots t' old new none) me n me' → j ≡ k → jf ≡ w → jt ≡ u → t' ≡ t
     → WentOrLooked k w u m (step slots t old new none) me n me'
-went_as {k} {j} {t} {t'} {old} {new} {n} {w} {u} {jf} {jt} {me} {me'} {m} slots told key from to tier =
+went_as {k} {j} {t} {t'} {old} {new} {n} {w} {u} {jf} {jt} {me} {me'} {m} slots reported key from to tier =
     subst (λ (z : ℕ). WentOrLooked k w u m (step slots z old new none) me n me') tier
     (subst (λ (z : Fields). WentOrLooked k w z m (step slots t' old new none) me n me') to
     (subst (λ (z : Fields). WentOrLooked k z jt m (step slots t' old new none) me n me') from
-    (subst (λ (z : Key). WentOrLooked z jf jt m (step slots t' old new none) me n me') key told)))
+    (subst (λ (z : Key). WentOrLooked z jf jt m (step slots t' old new none) me n me') key reported)))
 
 pub have_gone : {k j : Key} {t t' old new n : ℕ} {w u jf jt : Fields} {me me' : Seat} {m : List Sight} (slots : ℕ) → WentOrLooked j jf jt m (step slots t' old new none) me n me' → j ≡ k → jf ≡ w → jt ≡ u → t' ≡ t
     → n ≡ old → HaveGone k t w u me me' m
-have_gone {k} {j} {t} {t'} {old} {new} {n} {w} {u} {jf} {jt} {me} {me'} {m} slots told key from to tier hit =
-    let q : WentOrLooked k w u m (step slots t old new none) me n me' = went_as {k = k} {t = t} {w = w} {u = u} slots told key from to tier in
+have_gone {k} {j} {t} {t'} {old} {new} {n} {w} {u} {jf} {jt} {me} {me'} {m} slots reported key from to tier hit =
+    let q : WentOrLooked k w u m (step slots t old new none) me n me' = went_as {k = k} {t = t} {w = w} {u = u} slots reported key from to tier in
     let r = q.won hit in
     record { bare = ap (λ (z : Seat). z.1) r.0; now = ap (λ (z : Seat). z.0) r.0; before = r.1; after = r.2 }
 
 pub have_lost : {k j : Key} {t t' old new n : ℕ} {w u jf jt : Fields} {me me' : Seat} {m : List Sight} (slots : ℕ) (z : Fields) → WentOrLooked j jf jt m (step slots t' old new none) me n me' → j ≡ k → jf ≡ w → jt ≡ u → t' ≡ t
     → n ≢ old → ((y : Fields) → IsLegal y → packed y ≡ n → z ≡ y) → HaveLost k t w z me me'
-have_lost {k} {j} {t} {t'} {old} {new} {n} {w} {u} {jf} {jt} {me} {me'} {m} slots z told key from to tier miss again =
-    let q : WentOrLooked k w u m (step slots t old new none) me n me' = went_as {k = k} {t = t} {w = w} {u = u} slots told key from to tier in
+have_lost {k} {j} {t} {t'} {old} {new} {n} {w} {u} {jf} {jt} {me} {me'} {m} slots z reported key from to tier miss again =
+    let q : WentOrLooked k w u m (step slots t old new none) me n me' = went_as {k = k} {t = t} {w = w} {u = u} slots reported key from to tier in
     let r = q.lost miss in
     let e : z ≡ r.0 = again r.0 r.1 (sym r.2) in
     record {
@@ -183,7 +183,7 @@ have_lost {k} {j} {t} {t'} {old} {new} {n} {w} {u} {jf} {jt} {me} {me'} {m} slot
 
 pub lost_number_all : {j : Key} {t old new n : ℕ} {jf jt : Fields} {me me' : Seat} {m : List Sight} (slots : ℕ) → WentOrLooked j jf jt m (step slots t old new none) me n me' → n ≢ old
     → (w : Fields) × IsLegal w × (packed w ≡ n)
-lost_number_all {j} {t} {old} {new} {n} {jf} {jt} {me} {me'} {m} slots told miss = let r = told.lost miss in (r.0, r.1, sym r.2)
+lost_number_all {j} {t} {old} {new} {n} {jf} {jt} {me} {me'} {m} slots reported miss = let r = reported.lost miss in (r.0, r.1, sym r.2)
 
 pub all_lost : {id one : TableId} {v u : View} {count : ℕ} {h : GroupHeld} {n : Named} {w z : Fields} (me me' : Seat) → AreSeated me v count → group_of id me v ≡ h → h.tree ≡ n → one ≡ id → HaveLost n.key v.tier w z me me' → u ≡ glanced v.tier z v
     → AllLost w z h (group_of one me' u)

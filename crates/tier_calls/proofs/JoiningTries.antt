@@ -14,7 +14,7 @@ use Rattle.tier_calls.proofs.ArrivingAll.{keeps_then, soon_then, first_look}
 -- the exchange was won
 pub joined_from : {old mid new : GroupHeld} {pool : TokensHeld} {n : Named} (word : Fields) (count : ℕ) → KeepsAll 0 old mid → IsEager mid.view → old.tree ≡ n → AreSat n count pool → word.parties + count ≤ 65535
     → new.tree ≡ mid.tree → new.view ≡ mid.view → new.tokens ≡ sights_joined mid pool word → HasJoined 1 count old new
-joined_from {old} {mid} {new} {pool} {n} word count kept eager own fresh room same view tokens = record {
+joined_from {old} {mid} {new} {pool} {n} word count kept eager own fresh capacity same view tokens = record {
   mid = mid;
   word = word;
   pool = pool;
@@ -23,7 +23,7 @@ joined_from {old} {mid} {new} {pool} {n} word count kept eager own fresh room sa
   kept = kept;
   eager = eager;
   fresh = subst (λ (z : Named). AreSat z count pool) (sym own) fresh;
-  room = room;
+  capacity = capacity;
   tree = same ∙ kept.tree;
   view = view;
   tokens = tokens;
@@ -39,7 +39,7 @@ joined_then {a} {b} {new} m o count few k p = record {
   kept = keeps_then m p.used (m + p.used) refl k p.kept;
   eager = p.eager;
   fresh = subst (λ (z : Named). AreSat z count p.pool) k.tree p.fresh;
-  room = p.room;
+  capacity = p.capacity;
   tree = p.tree ∙ k.tree;
   view = p.view;
   tokens = p.tokens;

@@ -48,7 +48,7 @@ module _ (id id' : TableId) (me mo : Seat) (v : View) (count s : ℕ) (n : Named
   joins_may joined next sights legal at is to =
       let all : Goes n.key v.tier w (mo.0 ++ me.0) (joined_more w (length mo.0)) (news ++ me.0) =
       front_goes n.key v.tier w (joined_more w (length mo.0)) mo.0 news me.0 (subst (λ (z : Fields). Goes n.key v.tier w mo.0 z news) (joins_are v.tier (new_view 0) w may.some (length mo.0))
-      (join_goes n.key 1 v.tier (new_view 0) w mo.0 (omega arith) may.blank may.place may.may.going may.some waits may.room)) in
+      (join_goes n.key 1 v.tier (new_view 0) w mo.0 (omega arith) may.blank may.place may.may.going may.some waits may.capacity)) in
       let word : joined_more w (length mo.0) ≡ next = ap (joined_more w) pool.long ∙ sym to in
       record {
         bare = ap (λ (z : Seat). z.1) at ∙ pool.bare;

@@ -158,8 +158,8 @@ module _ (id : TableId) (me : Seat) (v : View) (count : ℕ) (h : GroupHeld) (n 
   can = subst (λ (z : GroupHeld). CanPass z.view.tier w z.view) (sym is) may
 
   -- the seat's first sight has the view of all
-  told : all_stepped Leave 1 v.tier (sight_of me).view w me.0 ≡ all_stepped Leave 1 v.tier v w me.0
-  told = ap (λ (z : View). all_stepped Leave 1 v.tier z w me.0) (first_view {me = me} seated)
+  reported : all_stepped Leave 1 v.tier (sight_of me).view w me.0 ≡ all_stepped Leave 1 v.tier v w me.0
+  reported = ap (λ (z : View). all_stepped Leave 1 v.tier z w me.0) (first_view {me = me} seated)
 
   pub open_word : w.unarrived ≤ w.parties
   open_word = legal_open w legal some'
@@ -176,7 +176,7 @@ module _ (id : TableId) (me : Seat) (v : View) (count : ℕ) (h : GroupHeld) (n 
     legal = legal;
     own = alike_own n.key v me.0 alike;
     goes = subst (λ (z : Fields). Goes n.key v.tier w me.0 z (all_stepped Leave 1 v.tier (sight_of me).view w me.0)) (ap (λ (c : ℕ). passed v.tier Departure (before_last w c)) seated.long ∙ sym to)
-        (subst (Goes n.key v.tier w me.0 (passed v.tier Departure (before_last w (length me.0)))) (sym told) (leave_all_goes n.key v.tier v w me.0 alike can (let a = seated.long in let b = seated.some in omega arith) (let a = seated.long in let b = few in let c = open_word in omega arith)));
+        (subst (Goes n.key v.tier w me.0 (passed v.tier Departure (before_last w (length me.0)))) (sym reported) (leave_all_goes n.key v.tier v w me.0 alike can (let a = seated.long in let b = seated.some in omega arith) (let a = seated.long in let b = few in let c = open_word in omega arith)));
   }
 
   pub gone_long : (next : Fields) (gone : Seat) → HaveGone n.key v.tier w next me gone (all_stepped Leave 1 v.tier (sight_of me).view w me.0) → length gone.0 ≡ count
@@ -189,11 +189,11 @@ module _ (id : TableId) (me : Seat) (v : View) (count : ℕ) (h : GroupHeld) (n 
       let all : List Sight = all_stepped Leave 1 v.tier v w me.0 in
       let word : next ≡ passed v.tier Departure (before_last w (length me.0)) = to ∙ (ap (passed v.tier Departure) was ∙ ap (λ (c : ℕ). passed v.tier Departure (before_last w c)) (sym seated.long)) in
       let a = gone_seated_at n.key v.tier v w me.0 alike (let a = seated.long in let b = seated.some in omega arith) (let a = seated.long in let b = few in let c = open_word in omega arith) seated.view.one
-      (subst (λ (z : Fields). Among n.key.shape v.tier z (those all)) word (subst (λ (l : List Sight). Among n.key.shape v.tier next (those l)) told g.after)) in
+      (subst (λ (z : Fields). Among n.key.shape v.tier z (those all)) word (subst (λ (l : List Sight). Among n.key.shape v.tier next (those l)) reported g.after)) in
       let view : gone_view (parent_of n.key.shape v.tier) v.tier v w (length me.0) ≡ record v { size = 0; errand = e } =
       ap (gone_view (parent_of n.key.shape v.tier) v.tier v w) seated.long
       ∙ (λ i. record v { size = 0; errand = sym (owes ∙ ap (owed (parent_of n.key.shape v.tier) v.tier Departure) was) i }) in
-      subst (λ (z : Seat). IsSeated z (record v { size = 0; errand = e }) v.tier u) (sym (kept ∙ ap (λ (l : List Sight). let z : Seat = (front_of l, []) in z) (g.now ∙ told)))
+      subst (λ (z : Seat). IsSeated z (record v { size = 0; errand = e }) v.tier u) (sym (kept ∙ ap (λ (l : List Sight). let z : Seat = (front_of l, []) in z) (g.now ∙ reported)))
       (subst (λ (z : Fields). IsSeated (front_of all, []) (record v { size = 0; errand = e }) v.tier z) (sym (here ∙ word))
       (subst (λ (z : View). IsSeated (front_of all, []) z v.tier (passed v.tier Departure (before_last w (length me.0)))) view a))
 
@@ -220,9 +220,9 @@ module _ (id : TableId) (me : Seat) (v : View) (count : ℕ) (h : GroupHeld) (n 
       let all : List Sight = all_stepped Leave 1 v.tier v w me.0 in
       let f : Holding = holding one me' (record v { size = 0; errand = e }) v.tier u in
       let a : me' ≡ (sight_held f ∷ [], []) = held_seat {id = one} refl seat in
-      let front : sight_held f ∷ [] ≡ front_of all = sym (ap (λ (z : Seat). z.0) a) ∙ (ap (λ (z : Seat). z.0) kept ∙ ap front_of (g.now ∙ told)) in
+      let front : sight_held f ∷ [] ≡ front_of all = sym (ap (λ (z : Seat). z.0) a) ∙ (ap (λ (z : Seat). z.0) kept ∙ ap front_of (g.now ∙ reported)) in
       let key : (sight_of me').key ≡ (sight_of me).key =
-      ap (λ (z : Seat). (sight_of z).key) kept ∙ (ap (λ (l : List Sight). (first_of no_sight (front_of l)).key) (g.now ∙ told) ∙ front_key v.tier v w me.0) in
+      ap (λ (z : Seat). (sight_of z).key) kept ∙ (ap (λ (l : List Sight). (first_of no_sight (front_of l)).key) (g.now ∙ reported) ∙ front_key v.tier v w me.0) in
       let r : HaveLeft LeavesOnce 1 w (group_of id me v) f = record {
         tree = λ i. record { id = (same ∙ middle) i; key = key i };
         none = refl;

@@ -14,7 +14,7 @@ use Rattle.tier_core.specs.declared.call.Played.TheVariants.{GoesOn, Done}
 use Rattle.tier_core.specs.declared.call.Progress.{Progress}
 use Rattle.tier_core.specs.declared.call.Progress.TheVariants.{Idle, Begun, Seeking as ToSeek, Settling, GivingBack as ToGiveBack, Passing, Owing, Due, Refreshing}
 use Rattle.tier_core.specs.declared.call.Turn.{Turn}
-use Rattle.tier_core.specs.Turn.{pass_turn, climb_turn, own_kind, end_shown, lags, goes_on, told, errand_place, place, turn_by}
+use Rattle.tier_core.specs.Turn.{pass_turn, climb_turn, own_kind, end_shown, lags, goes_on, reported, errand_place, place, turn_by}
 use Rattle.tier_core.specs.Machine.{CallFits, is_going}
 use Rattle.tier_core.proofs.Turns.{by_test}
 use Rattle.tier_rule.specs.Look.{glance, looking}
@@ -69,8 +69,8 @@ module _ (ps : List ℕ) (own : Passage) (P C : View → Type 0) (Q R : List Kin
 
   -- how the call goes on from what is owed
   made_as_owed : (phase n above t : ℕ) (w : Fields) (passage passage' : Passage) (b : Bool) (ks : List Kind) → b ≡ false → R ks
-      → MadeAt Q R b (told phase n (owed above t passage w)) (goes_on passage' (owed above t passage w)) ks
-  made_as_owed phase n above t w passage passage' b ks is r = owed_cases (λ e. MadeAt Q R b (told phase n e) (goes_on passage' e) ks) above t passage w (unled b ks is r) r (λ to up. r)
+      → MadeAt Q R b (reported phase n (owed above t passage w)) (goes_on passage' (owed above t passage w)) ks
+  made_as_owed phase n above t w passage passage' b ks is r = owed_cases (λ e. MadeAt Q R b (reported phase n e) (goes_on passage' e) ks) above t passage w (unled b ks is r) r (λ to up. r)
 
   climb_made : (passage' : Passage) (above t : ℕ) (passage : Passage) (w : Fields) (u : View) (ks : List Kind) → u.led ≡ false → R ks
       → let r = pass_turn ps passage' t passage (Climb passage) (Owing passage') (Done u.phase) w u in MadeAt Q R (view_after above r.kind t w u).led r.answer r.next (r.kind ∷ ks)

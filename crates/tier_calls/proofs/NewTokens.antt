@@ -29,13 +29,13 @@ sit_all_allow {k} {j} {n} {id} slots seat count me blank key is some' =
     (subst (λ (m : Seat). Allows (Kept k) slots seat m 0 (λ c. c) (SatAll k count (step slots 0 0 0 none) m)) (sym blank) (sits_all_allow k slots seat count some'))
 
 pub sat_pool : {found count n : ℕ} (j : Key) (blank me : Seat) (slots : ℕ) → blank ≡ ([], []) → SatAll j count (step slots 0 0 0 none) blank found me → count ≡ n → AreTokens me n
-sat_pool {found} {count} {n} j blank me slots empty told is =
-    let r = told empty in
+sat_pool {found} {count} {n} j blank me slots empty reported is =
+    let r = reported empty in
     record { bare = ap (λ (z : Seat). z.1) r.3; long = ap (λ (z : Seat). length z.0) r.3 ∙ (length-replicate count (sat_sight j r.0) ∙ is) }
 
 pub sat_now : {j : Key} {m : Named} {found count n : ℕ} (one : TableId) (blank me : Seat) (slots : ℕ) → blank ≡ ([], []) → SatAll j count (step slots 0 0 0 none) blank found me → count ≡ n → j ≡ m.key → one ≡ m.id → AreSat m n (tokens_of one me)
-sat_now {j} {m} {found} {count} {n} one blank me slots empty told is key same =
-    let r = told empty in
+sat_now {j} {m} {found} {count} {n} one blank me slots empty reported is key same =
+    let r = reported empty in
     record {
       table = same;
       word = r.0;

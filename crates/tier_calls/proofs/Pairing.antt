@@ -52,21 +52,21 @@ looked_is {me} {mo} {joined} {v} {u} {t} {t'} {w} {w'} seat seat' is = joined_is
 
 pub parts_ok : {k : Key} {n : ℕ} {me mo joined looked' : Seat} {v u : View} {t t' : ℕ} {w w' : Fields} (s : Step Kind) (id : ℕ) → IsSeated me v t w → IsSeated mo u t' w' → joined ≡ (me.0 ++ mo.0, me.1)
     → SawBoth s joined n looked' → Splits (Kept k) id looked'.0 (front_of looked'.0) (rest_of looked'.0)
-parts_ok {k} {n} {me} {mo} {joined} {looked'} {v} {u} {t} {t'} {w} {w'} s id seat seat' is told =
-    let r = told (sight_of me) (sight_of mo) (looked_is {me = me} {mo = mo} {joined = joined} seat seat' is) in
+parts_ok {k} {n} {me} {mo} {joined} {looked'} {v} {u} {t} {t'} {w} {w'} s id seat seat' is reported =
+    let r = reported (sight_of me) (sight_of mo) (looked_is {me = me} {mo = mo} {joined = joined} seat seat' is) in
     subst (λ (m : Seat). Splits (Kept k) id m.0 (front_of m.0) (rest_of m.0)) (sym r.2) (parts_allow k id r.0 r.1)
 
 -- they found the number of some word
 pub pair_number : {n : ℕ} {me mo joined looked' : Seat} {v u : View} {t t' : ℕ} {w w' : Fields} (s : Step Kind) → IsSeated me v t w → IsSeated mo u t' w' → joined ≡ (me.0 ++ mo.0, me.1)
     → SawBoth s joined n looked' → (z : Fields) × IsLegal z × (packed z ≡ n)
-pair_number {n} {me} {mo} {joined} {looked'} {v} {u} {t} {t'} {w} {w'} s seat seat' is told =
-    let r = told (sight_of me) (sight_of mo) (looked_is {me = me} {mo = mo} {joined = joined} seat seat' is) in (r.3, r.4, sym r.5)
+pair_number {n} {me} {mo} {joined} {looked'} {v} {u} {t} {t'} {w} {w'} s seat seat' is reported =
+    let r = reported (sight_of me) (sight_of mo) (looked_is {me = me} {mo = mo} {joined = joined} seat seat' is) in (r.3, r.4, sym r.5)
 
 pub paired : {n : ℕ} {me mo joined looked' : Seat} {v u : View} {t t' : ℕ} {w w' : Fields} (s : Step Kind) {me' mo' : Seat} {o : Option Fields} → IsSeated me v t w → IsSeated mo u t' w' → joined ≡ (me.0 ++ mo.0, me.1)
     → SawBoth s joined n looked' → me' ≡ (front_of looked'.0, looked'.1) → mo' ≡ (rest_of looked'.0, []) → ((z : Fields) → IsLegal z → packed z ≡ n → o ≡ Some z)
     → Pair n me mo me' mo' v u o
-paired {n} {me} {mo} {joined} {looked'} {v} {u} {t} {t'} {w} {w'} s {me'} {mo'} {o} seat seat' is told mine others again =
-    let r = told (sight_of me) (sight_of mo) (looked_is {me = me} {mo = mo} {joined = joined} seat seat' is) in
+paired {n} {me} {mo} {joined} {looked'} {v} {u} {t} {t'} {w} {w'} s {me'} {mo'} {o} seat seat' is reported mine others again =
+    let r = reported (sight_of me) (sight_of mo) (looked_is {me = me} {mo = mo} {joined = joined} seat seat' is) in
     let a : me' ≡ (r.0 ∷ [], []) = mine ∙ ap (λ (m : Seat). let z : Seat = (front_of m.0, m.1) in z) r.2 in
     let b : mo' ≡ (r.1 ∷ [], []) = others ∙ ap (λ (m : Seat). let z : Seat = (rest_of m.0, []) in z) r.2 in
     record {

@@ -16,7 +16,7 @@ use Rattle.tier_core.specs.declared.call.Played.TheVariants.{GoesOn, Done}
 use Rattle.tier_core.specs.declared.call.Progress.{Progress}
 use Rattle.tier_core.specs.declared.call.Progress.TheVariants.{Idle, Begun, Seeking as ToSeek, Settling, GivingBack as ToGiveBack, Passing, Owing, Due, Refreshing}
 use Rattle.tier_core.specs.declared.call.Turn.{Turn}
-use Rattle.tier_core.specs.Turn.{pass_turn, climb_turn, own_kind, end_shown, lags, goes_on, told, errand_place, place, turn_by}
+use Rattle.tier_core.specs.Turn.{pass_turn, climb_turn, own_kind, end_shown, lags, goes_on, reported, errand_place, place, turn_by}
 use Rattle.tier_core.specs.Machine.{CallFits, is_going}
 use Rattle.tier_core.proofs.Turns.{by_test, not_both}
 use Rattle.tier_rule.specs.Look.{glance, looking}
@@ -135,9 +135,9 @@ root_of ps t w v b e = ended_root ps b.words (b.front ++ v ∷ b.back) t b.tally
 module _ (ps : List ℕ) (own : Passage) (P C : View → Type 0) (stays : (u u' : View) → P u → IsSame u u' → P u') (keeps : (u u' : View) → C u → IsSame u u' → C u')
     (counts : (above t : ℕ) (w : Fields) (u : View) → u.arrived < u.size → P u → C (view_after above (own_kind own) t w u)) where
   -- how the call goes on from what is owed
-  goes_as_owed : (phase n above t : ℕ) (w : Fields) (passage passage' : Passage) (u : View) → C u → u.led ≡ false → phase ≡ u.phase → PassAt own P C u (told phase n (owed above t passage w)) (goes_on passage' (owed above t passage w))
+  goes_as_owed : (phase n above t : ℕ) (w : Fields) (passage passage' : Passage) (u : View) → C u → u.led ≡ false → phase ≡ u.phase → PassAt own P C u (reported phase n (owed above t passage w)) (goes_on passage' (owed above t passage w))
   goes_as_owed phase n above t w passage passage' u c l same =
-      owed_cases (λ e. PassAt own P C u (told phase n e) (goes_on passage' e)) above t passage w (c, same) (c, l) (λ to up. (c, l))
+      owed_cases (λ e. PassAt own P C u (reported phase n e) (goes_on passage' e)) above t passage w (c, same) (c, l) (λ to up. (c, l))
 
   -- a climb
   climb_shown : (passage' : Passage) (above t : ℕ) (passage : Passage) (w : Fields) (u : View) → above ≡ parent_of ps t → C u → u.led ≡ false
@@ -147,7 +147,7 @@ module _ (ps : List ℕ) (own : Passage) (P C : View → Type 0) (stays : (u u' 
       by_cond (λ r. PassAt own P C (view_after above r.kind t w u) r.answer r.next) w.ended _ _
       (λ e. let s = (ended_look w u e).0 in (keeps u (looked w u) c s, sym s.phase))
       (λ e. by_cond (λ r. PassAt own P C (view_after above r.kind t w u) r.answer r.next) (lags w u) _ _ (λ f. (c, l))
-      (λ f. subst (λ (a : ℕ). PassAt own P C (record u { errand = owed a t passage w }) (told u.phase (passed t passage w).parties (owed (parent_of ps t) t passage w)) (goes_on passage' (owed (parent_of ps t) t passage w))) (sym is)
+      (λ f. subst (λ (a : ℕ). PassAt own P C (record u { errand = owed a t passage w }) (reported u.phase (passed t passage w).parties (owed (parent_of ps t) t passage w)) (goes_on passage' (owed (parent_of ps t) t passage w))) (sym is)
       (goes_as_owed u.phase (passed t passage w).parties (parent_of ps t) t w passage passage' (record u { errand = owed (parent_of ps t) t passage w })
       (keeps u (record u { errand = owed (parent_of ps t) t passage w }) c (record { tier = refl; size = refl; phase = refl; arrived = refl })) l refl)))
 

@@ -122,19 +122,19 @@ module _ (n : Named) (tries : ℕ) (g g' : Going) (h : Holding) (at : IsAt n g) 
   next : NextBy ps before.words g.progress g.token.view h.word r
   next = let b = before in next_by ps b.words b.front b.back g.progress g.token.view h.word false b.shape b.tally at.fits going b.word
 
-  told_steps : g'.token.steps ≡ kind ∷ g.token.steps
-  told_steps = ap (λ (z : Holding). z.steps) is ∙ took.steps
+  steps_grown : g'.token.steps ≡ kind ∷ g.token.steps
+  steps_grown = ap (λ (z : Holding). z.steps) is ∙ took.steps
 
   word : g'.token.word ≡ h.word
   word = ap (λ (z : Holding). z.word) is
 
-  told : (g'.progress ≡ cond (is_look r.kind) r.next g.progress) × (g'.answer ≡ cond (is_look r.kind) r.answer GoesOn)
-  told = subst (λ (z : Fields).
+  reported : (g'.progress ≡ cond (is_look r.kind) r.next g.progress) × (g'.answer ≡ cond (is_look r.kind) r.answer GoesOn)
+  reported = subst (λ (z : Fields).
       (g'.progress ≡ cond (is_look (turn_by ps false z g.progress g.token.view).kind) (turn_by ps false z g.progress g.token.view).next g.progress)
       × (g'.answer ≡ cond (is_look (turn_by ps false z g.progress g.token.view).kind) (turn_by ps false z g.progress g.token.view).answer GoesOn)) word then_
 
   same_progress : is_look r.kind ≡ false → g'.progress ≡ g.progress
-  same_progress e = told.0 ∙ ap (λ (b : Bool). cond b r.next g.progress) e
+  same_progress e = reported.0 ∙ ap (λ (b : Bool). cond b r.next g.progress) e
 
   stands : is_look r.kind ≡ false → Stands n.key g'
   stands e = let a = same_progress e in record {
@@ -149,27 +149,27 @@ module _ (n : Named) (tries : ℕ) (g g' : Going) (h : Holding) (at : IsAt n g) 
       × CallFits ps g'.progress g'.token.view
       × ((g'.progress ≡ Idle) ⊎ (Stands n.key g' ⊎ (is_back g'.progress ≡ true)))
   here true e =
-      let a : g'.progress ≡ r.next = told.0 ∙ ap (λ (b : Bool). cond b r.next g.progress) e in (
+      let a : g'.progress ≡ r.next = reported.0 ∙ ap (λ (b : Bool). cond b r.next g.progress) e in (
         a,
-        told.1 ∙ ap (λ (b : Bool). cond b r.answer GoesOn) e,
+        reported.1 ∙ ap (λ (b : Bool). cond b r.answer GoesOn) e,
         subst (λ (z : View). CallFits ps g'.progress z) (sym (view ∙ ap (λ (z : Kind). view_after (parent_of ps t) z t h.word g.token.view) (look.turn e)))
             (subst (λ (z : Progress). CallFits ps z (view_after (parent_of ps t) r.kind t h.word g.token.view)) (sym a) next.keeps),
         ⊎_elim (λ (z : r.next ≡ Idle). inl (a ∙ z)) (λ (z : is_back r.next ≡ true). inr (inr (ap is_back a ∙ z))) (look_ends ps h.word g.progress g.token.view at.fits going e),
       )
   here false e =
-      let a : g'.progress ≡ g.progress = told.0 ∙ ap (λ (b : Bool). cond b r.next g.progress) e in (
+      let a : g'.progress ≡ g.progress = reported.0 ∙ ap (λ (b : Bool). cond b r.next g.progress) e in (
         a,
-        told.1 ∙ ap (λ (b : Bool). cond b r.answer GoesOn) e,
+        reported.1 ∙ ap (λ (b : Bool). cond b r.answer GoesOn) e,
         subst (λ (z : View). CallFits ps g'.progress z) (sym view) (subst (λ (z : Progress). CallFits ps z u) (sym a) (look.fits e)),
         inr (inl (stands e)),
       )
 
   went : (b : Bool) → is_look r.kind ≡ b → position g' ≡ after_look ps h.word (position g)
   went true e = let x = here true e in
-      (λ i. record { progress = x.0 i; view = view i; answer = x.1 i; steps = told_steps i })
+      (λ i. record { progress = x.0 i; view = view i; answer = x.1 i; steps = steps_grown i })
       ∙ sym (ap (λ (b : Bool). cond b (record { progress = r.next; view = u; answer = r.answer; steps = kind ∷ g.token.steps }) (record { progress = g.progress; view = u; answer = GoesOn; steps = kind ∷ g.token.steps })) e)
   went false e = let x = here false e in
-      (λ i. record { progress = x.0 i; view = view i; answer = x.1 i; steps = told_steps i })
+      (λ i. record { progress = x.0 i; view = view i; answer = x.1 i; steps = steps_grown i })
       ∙ sym (ap (λ (b : Bool). cond b (record { progress = r.next; view = u; answer = r.answer; steps = kind ∷ g.token.steps }) (record { progress = g.progress; view = u; answer = GoesOn; steps = kind ∷ g.token.steps })) e)
 
   pub looks_on : LooksOn n tries g g'

@@ -72,8 +72,8 @@ pub record Seats (k : Key) (n : ℕ) (me : Me Kind (List Sight)) (o : Option Fie
 
 pub sits : {k : Key} {n : ℕ} {blank me : Me Kind (List Sight)} {o : Option Fields} → blank ≡ ([], []) → Sat k (step 0 0 0 0 none) blank n me
     → ((w : Fields) → IsLegal w → packed w ≡ n → o ≡ Some w) → Seats k n me o
-sits {k} {n} {blank} {me} {o} empty told again =
-    let r = told empty in record {
+sits {k} {n} {blank} {me} {o} empty reported again =
+    let r = reported empty in record {
       word = r.0;
       some = again r.0 r.1 (sym r.2);
       at = r.3;

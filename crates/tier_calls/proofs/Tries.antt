@@ -14,7 +14,7 @@ use Rattle.tier_core.specs.declared.call.Played.TheVariants.{GoesOn, Done}
 use Rattle.tier_core.specs.declared.call.Progress.{Progress}
 use Rattle.tier_core.specs.declared.call.Progress.TheVariants.{Idle, Begun, Seeking as ToSeek, Settling, GivingBack as ToGiveBack, Passing, Owing, Due, Refreshing}
 use Rattle.tier_core.specs.declared.call.Turn.{Turn}
-use Rattle.tier_core.specs.Turn.{pass_turn, climb_turn, own_kind, end_shown, goes_on, told, lags, errand_place, place, turn_by}
+use Rattle.tier_core.specs.Turn.{pass_turn, climb_turn, own_kind, end_shown, goes_on, reported, lags, errand_place, place, turn_by}
 use Rattle.tier_core.specs.Machine.{CallFits, is_going}
 use Rattle.tier_core.proofs.Turns.{by_test, not_both}
 use Rattle.tier_rule.specs.declared.sight.Key.{Key}
@@ -54,7 +54,7 @@ module _ (p : Progress) (w : Fields) (v : View) (p' : Progress) (a : Played) (ov
         kind = kind;
         tier = t;
         next = goes_on own (owed (parent_of ps t) t passage w);
-        answer = told v.phase (passed t passage w).parties (owed (parent_of ps t) t passage w);
+        answer = reported v.phase (passed t passage w).parties (owed (parent_of ps t) t passage w);
       }) quiet e))
 
   missed_due : (own : Passage) (b : Bool) → over ≡ Done v.phase → Is (record { kind = cond w.ended Look (Advance b); tier = 0; next = Idle; answer = Done v.phase })

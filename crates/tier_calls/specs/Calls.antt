@@ -5,10 +5,10 @@ use Rattle.tier_core.specs.Machine.{CallFits}
 use Rattle.tier_rule.specs.Tell.{Beside}
 use Rattle.tier_calls.specs.Holding.{Named, Holding}
 use Rattle.tier_calls.specs.declared.going.Going.{Going}
-use Rattle.tier_calls.specs.declared.going.Course.{Course}
+use Rattle.tier_calls.specs.declared.going.CallCourse.{CallCourse}
 
 -- a token in a call
-abbrev pub under : Holding → Course → Going
+abbrev pub under : Holding → CallCourse → Going
 under h c = record { token = h; progress = c.progress; answer = c.answer }
 
 -- The call fits what its token knows, and some state of its tree has the token's view and word.

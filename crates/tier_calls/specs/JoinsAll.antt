@@ -28,7 +28,7 @@ pub record MayJoin (n : Named) (w : Fields) (c : GroupHeld) (p : TokensHeld) : T
   pub place : c.view.tier < length n.key.shape
   pub some : 0 < w.parties
   pub enough : length c.tokens ≤ w.unarrived
-  pub room : w.parties + length p.tokens ≤ 65535
+  pub capacity : w.parties + length p.tokens ≤ 65535
 
 -- What the tokens know after one member of each new token has joined at the group's tier, by one exchange from the word w: first the new ones, then the old ones,
 -- which know what they knew.
@@ -53,7 +53,7 @@ pub record HasJoined (tries n : ℕ) (old new : GroupHeld) : Type 0 where
   pub eager : IsEager mid.view
   -- the tokens are new, and there was room for them at the tier
   pub fresh : AreSat old.tree n pool
-  pub room : word.parties + n ≤ 65535
+  pub capacity : word.parties + n ≤ 65535
   pub tree : new.tree ≡ old.tree
   pub view : new.view ≡ mid.view
   pub tokens : new.tokens ≡ sights_joined mid pool word

@@ -1,4 +1,4 @@
-pub mod Told
+pub mod WordOfNumber
 pub mod Holding
 pub mod Calls
 pub mod Next

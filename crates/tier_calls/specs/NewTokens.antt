@@ -57,7 +57,7 @@ pub record MayExchange (n : Named) (leaving : ℕ) (w : Fields) (c : GroupHeld) 
   pub eager : IsEager c.view
   pub place : c.view.tier < length n.key.shape
   pub some : 0 < w.parties
-  pub room : w.parties + length p.tokens ≤ 65535
+  pub capacity : w.parties + length p.tokens ≤ 65535
   pub enough : length c.tokens ≤ w.unarrived
   pub few : leaving ≤ length c.tokens
   pub come : leaving < length p.tokens + length c.tokens

@@ -7,7 +7,7 @@ ghost use Rattle.tier_calls.specs.Calls.{under};
 ghost use Rattle.tier_calls.specs.Led.{LedWaited, LedOnWaited};
 ghost use Rattle.tier_calls.specs.Arrives.{Arrives, FindsArrived, Resumes, HasEnded, MaySettle, MayEnd, Settles, Ends};
 
-use crate::going::{Course, Going};
+use crate::going::{CallCourse, Going};
 use crate::seated::Seated;
 use crate::tiers::Tiers;
 use crate::tokens::{Crew, Door, Errand};
@@ -54,10 +54,10 @@ pub enum Resumed {
 
 /// Joins a token and how far its call has come.
 #[inline(always)]
-fn going(token: Seated, course: Course) -> Going
+fn going(token: Seated, course: CallCourse) -> Going
     ensures { result ≡ under token course }
 {
-    let Course { progress, answer } = course;
+    let CallCourse { progress, answer } = course;
     Going {
         token,
         progress,
@@ -149,7 +149,7 @@ impl Tiers {
         if view.arrived == view.size {
             return Arrived::AlreadyArrived(Crew { token }, view.phase);
         }
-        let mut course = Course {
+        let mut course = CallCourse {
             progress: Progress::Passing(own),
             answer: Played::GoesOn,
         };
@@ -177,7 +177,7 @@ impl Tiers {
             progress,
             answer,
         } = at;
-        let mut course = Course { progress, answer };
+        let mut course = CallCourse { progress, answer };
         self.go_owing(&mut token, &mut course, rule, tries);
         answer_resumed(going(token, course))
     }

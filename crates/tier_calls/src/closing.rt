@@ -57,7 +57,7 @@ fn plain(token: &Token) -> ClosedToken
 /// them.
 pub fn plain_all(tokens: &[Token], plains: &mut Vec<ClosedToken>)
     requires empty { plains.old.items ≡ [] }
-    requires room { length tokens.now ≤ vec_capacity plains.old }
+    requires capacity { length tokens.now ≤ vec_capacity plains.old }
     ensures { plains.new.items ≡ plain_tokens tokens.now }
 {
     for token in tokens {
@@ -83,7 +83,7 @@ fn plain_group(group: &Group) -> ClosedToken
 /// empty and have room for them.
 pub fn plain_groups(groups: &[Group], plains: &mut Vec<ClosedToken>)
     requires empty { plains.old.items ≡ [] }
-    requires room { length groups.now ≤ vec_capacity plains.old }
+    requires capacity { length groups.now ≤ vec_capacity plains.old }
     ensures { plains.new.items ≡ closes.plain_groups groups.now }
 {
     for group in groups {
@@ -97,7 +97,7 @@ fn words_of(closed: ClosedTable<Kind, Global>, count: usize, mut words: Vec<Word
     requires whole { (slots_len closed.slots ≡ 0) × IsFull closed.words × (slots_len closed.words ≡ count) }
     requires shut { (k : Key) × (l : List Sight) × IsShut k (slots_items closed.words) l × (length k.shape ≡ count) }
     requires empty { words.items ≡ [] }
-    requires room { count ≤ vec_capacity words }
+    requires capacity { count ≤ vec_capacity words }
     ensures { (k : Key) → (l : List Sight) → IsShut k (slots_items closed.words) l → length k.shape ≡ count → IsLeftBy k result.items l }
 {
     for tier in 0..count {
@@ -181,7 +181,7 @@ impl Tiers {
     pub fn close(self, tokens: Vec<Token>, words: Vec<Word>) -> Vec<Word>
         requires tokens { All (λ t. (held t).tree ≡ self) tokens.items }
         requires empty { words.items ≡ [] }
-        requires room { length self.key.shape ≤ vec_capacity words }
+        requires capacity { length self.key.shape ≤ vec_capacity words }
         ensures tally { TallyWithOthers self.key.shape result.items (views_in tokens.items) }
         ensures left { IsLeftBy self.key result.items (sights_in tokens.items) }
     {
@@ -195,7 +195,7 @@ impl Tiers {
         requires tokens { All (λ t. (held t).tree ≡ self) tokens.items }
         requires groups { All (λ g. g.tree ≡ self) groups.items }
         requires empty { words.items ≡ [] }
-        requires room { length self.key.shape ≤ vec_capacity words }
+        requires capacity { length self.key.shape ≤ vec_capacity words }
         ensures tally { TallyWithOthers self.key.shape result.items (views_in tokens.items ++ views_together groups.items) }
         ensures left { IsLeftBy self.key result.items (sights_in tokens.items ++ sights_together groups.items) }
     {

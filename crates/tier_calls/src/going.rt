@@ -23,7 +23,7 @@ use tier_steps::view::{Passage, View};
 
 /// How far a call has come, apart from its token.
 #[derive(Clone, Copy)]
-pub struct Course {
+pub struct CallCourse {
     /// How far the call has come.
     pub progress: Progress,
     /// The answer of its last step.
@@ -136,7 +136,7 @@ impl Tiers {
     pub(crate) fn planned<F: Fn(u32, u32) -> bool>(
         &self,
         token: &Seated,
-        course: &Course,
+        course: &CallCourse,
         rule: &StoredAdvance<F>,
     ) -> bool
         requires rule { Answers (F.pre rule.now.closure) (F.post rule.now.closure) (end_ends_at rule.now.plan) }
@@ -155,7 +155,7 @@ impl Tiers {
     pub(crate) fn go_on<F: Fn(u32, u32) -> bool>(
         &self,
         token: &mut Seated,
-        course: &mut Course,
+        course: &mut CallCourse,
         rule: &StoredAdvance<F>,
         tries: u32,
     )
@@ -183,7 +183,7 @@ impl Tiers {
     pub(crate) fn go_owing<F: Fn(u32, u32) -> bool>(
         &self,
         token: &mut Seated,
-        course: &mut Course,
+        course: &mut CallCourse,
         rule: &StoredAdvance<F>,
         tries: u32,
     )
@@ -211,7 +211,7 @@ impl Tiers {
     fn start<F: Fn(u32, u32) -> bool>(
         &self,
         token: &mut Seated,
-        course: &mut Course,
+        course: &mut CallCourse,
         own: Passage,
         rule: &StoredAdvance<F>,
         tries: u32,
@@ -240,7 +240,7 @@ impl Tiers {
     pub(crate) fn go_straight<F: Fn(u32, u32) -> bool>(
         &self,
         token: &mut Seated,
-        course: &mut Course,
+        course: &mut CallCourse,
         own: Passage,
         rule: &StoredAdvance<F>,
         tries: u32,

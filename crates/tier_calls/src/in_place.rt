@@ -13,7 +13,7 @@ ghost use Rattle.tier_calls.specs.Led.{LedInPlaceWaited};
 ghost use Rattle.tier_calls.specs.InPlace.{ArrivesInPlace, FindsArrived, HasEnded, MayCome, Comes, RanOver};
 
 use crate::TRIES;
-use crate::going::Course;
+use crate::going::CallCourse;
 use crate::next::goes_on;
 use crate::seated::Seated;
 use crate::tiers::Tiers;
@@ -45,7 +45,7 @@ pub enum ArrivedInPlace {
 
 /// Returns the answer of an arrival that is over.
 #[inline(always)]
-fn answer_over(token: &Seated, course: Course) -> ArrivedInPlace
+fn answer_over(token: &Seated, course: CallCourse) -> ArrivedInPlace
     requires { MayCome (under token.now course) }
     ensures { Comes (under token.now course) result }
 {
@@ -67,7 +67,7 @@ impl Tiers {
         &self,
         rt: &R,
         token: &mut Seated,
-        course: &mut Course,
+        course: &mut CallCourse,
         rule: &StoredAdvance<F>,
     )
         requires at { IsAt self.now (under token.old course.old) }
@@ -91,7 +91,7 @@ impl Tiers {
     fn begin_arrival<F: Fn(u32, u32) -> bool>(
         &self,
         token: &mut Seated,
-        course: &mut Course,
+        course: &mut CallCourse,
         rule: &StoredAdvance<F>,
     )
         requires at { IsAt self.now (under token.old course.old) }
@@ -114,7 +114,7 @@ impl Tiers {
         &self,
         rt: &R,
         token: &mut Seated,
-        course: &mut Course,
+        course: &mut CallCourse,
         rule: &StoredAdvance<F>,
     )
         requires at { IsAt self.now (under token.old course.old) }
@@ -158,7 +158,7 @@ impl Tiers {
         if view.arrived == view.size {
             return ArrivedInPlace::AlreadyArrived(view.phase);
         }
-        let mut course = Course {
+        let mut course = CallCourse {
             progress: Progress::Passing(Passage::Arrival),
             answer: Played::GoesOn,
         };

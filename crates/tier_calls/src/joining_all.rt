@@ -58,7 +58,7 @@ pub enum JoinedAll {
 #[inline(always)]
 fn after_joins(word: Word, count: u32) -> Word
     requires some { 0 < word.parties }
-    requires room { word.parties + count ≤ MOST_PARTIES }
+    requires capacity { word.parties + count ≤ MOST_PARTIES }
     ensures after { result ≡ joined_more word count }
     ensures legal { IsLegal word }
 {
@@ -80,7 +80,7 @@ impl Tiers {
         requires place { group.view.tier < length self.now.key.shape }
         requires some { 0 < word.parties }
         requires enough { length group.tokens ≤ word.unarrived }
-        requires room { word.parties + length new_tokens.tokens ≤ MOST_PARTIES }
+        requires capacity { word.parties + length new_tokens.tokens ≤ MOST_PARTIES }
         requires ends { (J.key ≡ self.now.key) × (J.from ≡ word) × (J.to ≡ joined_more word (length new_tokens.tokens)) }
         requires sights { J.sights ≡ sights_joined group new_tokens word }
         ensures { TriesJoining group new_tokens word result }
@@ -125,7 +125,7 @@ impl Tiers {
         requires place { group.view.tier < length self.now.key.shape }
         requires some { 0 < word.parties }
         requires enough { length group.tokens ≤ word.unarrived }
-        requires room { word.parties + length new_tokens.tokens ≤ MOST_PARTIES }
+        requires capacity { word.parties + length new_tokens.tokens ≤ MOST_PARTIES }
         ensures { TriesJoining group new_tokens word result }
     {
         self.exchange_joins_as::<Brand>(group, new_tokens, word)

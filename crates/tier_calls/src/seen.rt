@@ -17,13 +17,13 @@ impl Model for Seen {
     ghost use Rattle.std.specs.Prelude.{◌≡◌};
     ghost use Rattle.phaser_word.specs.Fields.{Fields, IsLegal};
     ghost use Rattle.phaser_word.specs.Packed.{packed};
-    ghost use Rattle.tier_calls.specs.Told.{told};
+    ghost use Rattle.tier_calls.specs.WordOfNumber.{word_of_number};
 
     ghost Value = { Fields };
 
-    ghost view = { λ s. told s.number };
+    ghost view = { λ s. word_of_number s.number };
 
-    ghost invariant = { λ s. IsLegal (told s.number) × (packed (told s.number) ≡ s.number) };
+    ghost invariant = { λ s. IsLegal (word_of_number s.number) × (packed (word_of_number s.number) ≡ s.number) };
 
     ghost inverse = { λ w. record { number = packed w } };
 }

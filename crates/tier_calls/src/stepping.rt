@@ -13,7 +13,7 @@ ghost use Rattle.tier_calls.specs.Calls.{IsAt, under};
 ghost use Rattle.tier_calls.specs.Next.{is_passing};
 ghost use Rattle.tier_calls.specs.Goes.{Stands, WentOn, EndsAsPlanned, Stood, Ran, over_at};
 
-use crate::going::Course;
+use crate::going::CallCourse;
 use crate::next::goes_on;
 use crate::seated::Seated;
 use crate::tiers::Tiers;
@@ -27,7 +27,7 @@ use tier_steps::view::{Errand, Passage};
 
 /// Records that a call's step was lost and only looked. It found `word`, and the token was in `phase` before.
 #[inline(always)]
-fn missed(course: &mut Course, phase: u32, word: Word)
+fn missed(course: &mut CallCourse, phase: u32, word: Word)
     ensures progress { course.new.progress ≡ (if word.ended then progress.Idle else course.old.progress) }
     ensures answer { course.new.answer ≡ (if word.ended then over_at course.old.progress phase word else played.GoesOn) }
 {
@@ -45,7 +45,7 @@ fn missed(course: &mut Course, phase: u32, word: Word)
 impl Tiers {
     /// Looks at the tier of the call's next step, unless the token saw that tier last.
     #[inline(always)]
-    fn stand_to(&self, token: &mut Seated, course: &mut Course, tier: u16)
+    fn stand_to(&self, token: &mut Seated, course: &mut CallCourse, tier: u16)
         requires at { IsAt self.now (under token.old course.old) }
         requires passing { is_passing course.old.progress ≡ true }
         requires tier { tier ≡ place self.now.key.shape course.old.progress token.old.view }
@@ -62,7 +62,7 @@ impl Tiers {
 
     /// Makes one try of the call's next step.
     #[inline(always)]
-    fn try_turn(&self, token: &mut Seated, course: &mut Course, turn: Turn, ends: bool)
+    fn try_turn(&self, token: &mut Seated, course: &mut CallCourse, turn: Turn, ends: bool)
         requires at { IsAt self.now (under token.old course.old) }
         requires stands { Stands self.now.key (under token.old course.old) }
         requires passing { is_passing course.old.progress ≡ true }
@@ -85,7 +85,7 @@ impl Tiers {
     fn pass_tier(
         &self,
         token: &mut Seated,
-        course: &mut Course,
+        course: &mut CallCourse,
         own: Passage,
         passage: Passage,
         kind: Kind,
@@ -124,7 +124,7 @@ impl Tiers {
     /// Makes one try of an arrival at the tier that its token saw last. If that tier lags, the try refreshes it instead.
     /// If others are still to arrive there, the call is then over. If it was the last at the root, the advance is due.
     #[inline(always)]
-    fn arrive_at(&self, token: &mut Seated, course: &mut Course)
+    fn arrive_at(&self, token: &mut Seated, course: &mut CallCourse)
         requires at { IsAt self.now (under token.old course.old) }
         requires stands { Stands self.now.key (under token.old course.old) }
         requires passing { course.old.progress ≡ progress.Passing Arrival }
@@ -162,7 +162,7 @@ impl Tiers {
 
     /// Takes the step of an arrival or a departure at its crew's tier. Makes at most one try.
     #[inline(always)]
-    pub(crate) fn pass_own(&self, token: &mut Seated, course: &mut Course, own: Passage)
+    pub(crate) fn pass_own(&self, token: &mut Seated, course: &mut CallCourse, own: Passage)
         requires at { IsAt self.now (under token.old course.old) }
         requires passing { course.old.progress ≡ progress.Passing own }
         ensures { Ran self.now 1 (under token.old course.old) (under token.new course.new) }
@@ -197,7 +197,7 @@ impl Tiers {
     /// Takes the step of an arrival at its crew's tier. Makes at most one try, and decides at once if others are still
     /// to arrive there.
     #[inline(always)]
-    pub(crate) fn arrive_own(&self, token: &mut Seated, course: &mut Course)
+    pub(crate) fn arrive_own(&self, token: &mut Seated, course: &mut CallCourse)
         requires at { IsAt self.now (under token.old course.old) }
         requires passing { course.old.progress ≡ progress.Passing Arrival }
         ensures { Ran self.now 1 (under token.old course.old) (under token.new course.new) }
@@ -212,7 +212,7 @@ impl Tiers {
 
     /// Takes the next step of the call's climb. Makes at most one try.
     #[inline(always)]
-    pub(crate) fn climb(&self, token: &mut Seated, course: &mut Course, own: Passage)
+    pub(crate) fn climb(&self, token: &mut Seated, course: &mut CallCourse, own: Passage)
         requires at { IsAt self.now (under token.old course.old) }
         requires owing { course.old.progress ≡ progress.Owing own }
         ensures { Ran self.now 1 (under token.old course.old) (under token.new course.new) }
@@ -250,7 +250,7 @@ impl Tiers {
     pub(crate) fn advance<F: Fn(u32, u32) -> bool>(
         &self,
         token: &mut Seated,
-        course: &mut Course,
+        course: &mut CallCourse,
         rule: &StoredAdvance<F>,
     )
         requires at { IsAt self.now (under token.old course.old) }

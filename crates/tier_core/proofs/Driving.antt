@@ -5,13 +5,13 @@ use Rattle.tier_core.specs.declared.call.Answer.{Answer}
 use Rattle.tier_core.specs.Machine.{State}
 use Rattle.tier_core.specs.Run.{Step, answer_to, after, answers, run, AreSteps, IsStepOfCalls}
 
-pub next_told : (m : State) (told : List Answer) {n : State} {r : Answer} {more all : List Answer} (xs : List Step) (i : ℕ) (d : Step) → i < length xs → told ++ answers (drop i xs) m ≡ all
-    → r ≡ answer_to m (get_or xs i d) → n ≡ after m (get_or xs i d) → more ≡ told ++ r ∷ [] → more ++ answers (drop (i + 1) xs) n ≡ all
-next_told m told {n} {r} {more} {all} xs i d h before is next grown =
+pub next_reported : (m : State) (reported : List Answer) {n : State} {r : Answer} {more all : List Answer} (xs : List Step) (i : ℕ) (d : Step) → i < length xs → reported ++ answers (drop i xs) m ≡ all
+    → r ≡ answer_to m (get_or xs i d) → n ≡ after m (get_or xs i d) → more ≡ reported ++ r ∷ [] → more ++ answers (drop (i + 1) xs) n ≡ all
+next_reported m reported {n} {r} {more} {all} xs i d h before is next grown =
     let rest = drop (i + 1) xs in
     let step : r ∷ answers rest n ≡ answers (drop i xs) m =
     ap (λ (a : Answer). a ∷ answers rest n) is ∙ (ap (λ (s : State). answer_to m (get_or xs i d) ∷ answers rest s) next ∙ sym (ap (λ (l : List Step). answers l m) (drop_more xs i d h))) in
-    ap (λ (l : List Answer). l ++ answers rest n) grown ∙ (append_assoc told (r ∷ []) (answers rest n) ∙ (ap (λ (l : List Answer). told ++ l) step ∙ before))
+    ap (λ (l : List Answer). l ++ answers rest n) grown ∙ (append_assoc reported (r ∷ []) (answers rest n) ∙ (ap (λ (l : List Answer). reported ++ l) step ∙ before))
 
 pub next_rest : (m : State) {n s : State} (xs : List Step) (i : ℕ) (d : Step) → i < length xs → run (drop i xs) m ≡ s → n ≡ after m (get_or xs i d) → run (drop (i + 1) xs) n ≡ s
 next_rest m {n} {s} xs i d h before next =
@@ -27,9 +27,9 @@ append_none : {X : Type 0} (xs : List X) → xs ++ [] ≡ xs
 append_none [] = refl
 append_none (x ∷ xs) = ap (λ ys. x ∷ ys) (append_none xs)
 
-pub all_told : (m : State) {told all : List Answer} (xs : List Step) (i : ℕ) → length xs ≤ i → told ++ answers (drop i xs) m ≡ all → told ≡ all
-all_told m {told} {all} xs i h before =
-    sym (append_none told) ∙ (sym (ap (λ (l : List Step). told ++ answers l m) (drop_all i xs h)) ∙ before)
+pub all_reported : (m : State) {reported all : List Answer} (xs : List Step) (i : ℕ) → length xs ≤ i → reported ++ answers (drop i xs) m ≡ all → reported ≡ all
+all_reported m {reported} {all} xs i h before =
+    sym (append_none reported) ∙ (sym (ap (λ (l : List Step). reported ++ answers l m) (drop_all i xs h)) ∙ before)
 
 pub all_run : {m s : State} (xs : List Step) (i : ℕ) → length xs ≤ i → run (drop i xs) m ≡ s → m ≡ s
 all_run {m} {s} xs i h before = sym (ap (λ (l : List Step). run l m) (drop_all i xs h)) ∙ before

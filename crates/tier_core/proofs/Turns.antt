@@ -19,7 +19,7 @@ use Rattle.tier_shape.specs.Parents.{IsShape}
 use Rattle.tier_steps.specs.declared.kind.Kind.TheVariants.{Look, Glance, Refuse, Join, Arrive, Leave, Advance, Claim, Climb, Refresh}
 use Rattle.tier_steps.specs.declared.kind.Kind.{Kind}
 use Rattle.tier_steps.specs.Step.{CanPass, CanClimb, Admits, Refuses, IsFree, IsDue, opening, added, owed, looked, moved, dropped, given_up, passed, is_going_back, refused, view_after}
-use Rattle.tier_core.specs.Turn.{Call, Progress, Played, GoesOn, Done, Passed, Waiting, Held, Full, AlreadyArrived, Ended, MustAdvance, IsInRange, Idle, Begun, ToSeek, Settling, ToGiveBack, Passing, Owing, Due, Refreshing, Turn, turn, turn_by, place, pass_turn, finish_turn, first_turn, seek_turn, settle_turn, give_back_turn, climb_turn, last_look, claimed_by, lags, has_no_room, is_refusing, is_claimable, refusal, is_refusal, cause_of, polled, end_shown, giving_back, settling, unless_claimed, goes_on, told, own_kind, errand_place}
+use Rattle.tier_core.specs.Turn.{Call, Progress, Played, GoesOn, Done, Passed, Waiting, Held, Full, AlreadyArrived, Ended, MustAdvance, IsInRange, Idle, Begun, ToSeek, Settling, ToGiveBack, Passing, Owing, Due, Refreshing, Turn, turn, turn_by, place, pass_turn, finish_turn, first_turn, seek_turn, settle_turn, give_back_turn, climb_turn, last_look, claimed_by, lags, has_no_room, is_refusing, is_claimable, refusal, is_refusal, cause_of, polled, end_shown, giving_back, settling, unless_claimed, goes_on, reported, own_kind, errand_place}
 use Rattle.tier_core.specs.Machine.{IsWanted, BegunFits, CallFits, IsNext, TurnsAreSteps, is_going, OneWordIsEnough, OneWordTellsRanges}
 use Rattle.tier_core.specs.declared.call.Call.TheVariants as call
 use Rattle.tier_steps.proofs.Legal.{legal_empty, passed_legal}
@@ -269,7 +269,7 @@ admits t more w going legal kept unclaimable =
                 (both_hold (eqb w.parties 0) (eqb w.unarrived 1) (eq-eqb w.parties 0 none) (eq-eqb w.unarrived 1 one))) unclaimable) (cases_eq t 0),
             one,
           ));
-      room = (let r = ltb-false 65535 (w.parties + more) a.0 in omega arith);
+      capacity = (let r = ltb-false 65535 (w.parties + more) a.0 in omega arith);
     }
 
 free : (t : ℕ) (w : Fields) → is_claimable t w ≡ true → IsFree t w
@@ -418,7 +418,7 @@ pass ps ws front back v passage tally rest some =
       kind = own_kind passage;
       tier = v.tier;
       next = goes_on passage (owed (parent_of ps v.tier) v.tier passage (word_at ws v.tier));
-      answer = told v.phase (passed v.tier passage (word_at ws v.tier)).parties (owed (parent_of ps v.tier) v.tier passage (word_at ws v.tier));
+      answer = reported v.phase (passed v.tier passage (word_at ws v.tier)).parties (owed (parent_of ps v.tier) v.tier passage (word_at ws v.tier));
     }))
     (λ _. ends_look ps ws v tally.some rest)
     (λ going. by_cond (Goes ps ws v) (lags (word_at ws v.tier) v)
@@ -427,7 +427,7 @@ pass ps ws front back v passage tally rest some =
       kind = own_kind passage;
       tier = v.tier;
       next = goes_on passage (owed (parent_of ps v.tier) v.tier passage (word_at ws v.tier));
-      answer = told v.phase (passed v.tier passage (word_at ws v.tier)).parties (owed (parent_of ps v.tier) v.tier passage (word_at ws v.tier));
+      answer = reported v.phase (passed v.tier passage (word_at ws v.tier)).parties (owed (parent_of ps v.tier) v.tier passage (word_at ws v.tier));
     })
     (λ e. let l = lag_parts (word_at ws v.tier) v e in record {
       within = h;
@@ -459,7 +459,7 @@ climb ps ws front back v own t passage tally q =
       kind = Climb passage;
       tier = t;
       next = goes_on own (owed (parent_of ps t) t passage (word_at ws t));
-      answer = told v.phase (passed t passage (word_at ws t)).parties (owed (parent_of ps t) t passage (word_at ws t));
+      answer = reported v.phase (passed t passage (word_at ws t)).parties (owed (parent_of ps t) t passage (word_at ws t));
     }))
     (λ e. let z = is_root ps ws (front ++ v ∷ back) t tally h e in record {
       within = tally.some;
@@ -473,7 +473,7 @@ climb ps ws front back v own t passage tally q =
       kind = Climb passage;
       tier = t;
       next = goes_on own (owed (parent_of ps t) t passage (word_at ws t));
-      answer = told v.phase (passed t passage (word_at ws t)).parties (owed (parent_of ps t) t passage (word_at ws t));
+      answer = reported v.phase (passed t passage (word_at ws t)).parties (owed (parent_of ps t) t passage (word_at ws t));
     })
     (λ e. let l = lag_parts (word_at ws t) v e in record {
       within = h;
@@ -547,7 +547,7 @@ pass_place ps own t passage kind here over w v =
       kind = kind;
       tier = t;
       next = goes_on own (owed (parent_of ps t) t passage w);
-      answer = told v.phase (passed t passage w).parties (owed (parent_of ps t) t passage w);
+      answer = reported v.phase (passed t passage w).parties (owed (parent_of ps t) t passage w);
     } in
     at_place t w (last_look over) (cond (lags w v) wait goes) refl (by_cond (λ r. r.tier ≡ t) (lags w v) wait goes (λ _. refl) (λ _. refl))
 
@@ -672,11 +672,11 @@ pass_range ps own t passage kind here over w v last phase legal =
       kind = kind;
       tier = t;
       next = goes_on own (owed (parent_of ps t) t passage w);
-      answer = told v.phase (passed t passage w).parties (owed (parent_of ps t) t passage w);
+      answer = reported v.phase (passed t passage w).parties (owed (parent_of ps t) t passage w);
     } in
     by_cond (λ r. IsInRange r.answer) w.ended (last_look over) (cond (lags w v) wait goes) (λ _. last)
     (λ _. by_cond (λ r. IsInRange r.answer) (lags w v) wait goes (λ _. tt)
-    (λ _. owed_is (λ e. IsInRange (told v.phase (passed t passage w).parties e)) (parent_of ps t) t passage w tt
+    (λ _. owed_is (λ e. IsInRange (reported v.phase (passed t passage w).parties e)) (parent_of ps t) t passage w tt
     (λ _. (phase, (passed_legal t passage w legal).parties)) (λ _ _. tt)))
 
 pub turn_range : (ps : List ℕ) (ws : List Fields) (front : List View) (v : View) (back : List View) (p : Progress) → Tallies ps ws (front ++ v ∷ back)

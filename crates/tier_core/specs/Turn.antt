@@ -132,11 +132,11 @@ goes_on passage Advancing = Due passage
 goes_on passage (Climbing t up) = Owing passage
 goes_on passage (Opening tier claimed stage size) = Idle
 
-abbrev pub told : ℕ → ℕ → Errand → Played
-told phase parties Rest = Done phase
-told phase parties Advancing = MustAdvance phase parties
-told phase parties (Climbing t up) = GoesOn
-told phase parties (Opening tier claimed stage size) = GoesOn
+abbrev pub reported : ℕ → ℕ → Errand → Played
+reported phase parties Rest = Done phase
+reported phase parties Advancing = MustAdvance phase parties
+reported phase parties (Climbing t up) = GoesOn
+reported phase parties (Opening tier claimed stage size) = GoesOn
 
 -- The step of an arrival or a departure that passes a tier. If the root has ended, the token looks instead. A lagging tier is refreshed first.
 abbrev pub pass_turn : List ℕ → Passage → ℕ → Passage → Kind → Progress → Played → Fields → View → Turn
@@ -147,7 +147,7 @@ pass_turn parents own t passage kind here over w v =
       kind = kind;
       tier = t;
       next = goes_on own (owed (parent_of parents t) t passage w);
-      answer = told v.phase (passed t passage w).parties (owed (parent_of parents t) t passage w);
+      answer = reported v.phase (passed t passage w).parties (owed (parent_of parents t) t passage w);
     })
 
 -- the step of such a call's climb, after it was counted at its token's tier

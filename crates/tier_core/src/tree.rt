@@ -311,10 +311,10 @@ impl Core {
     {
         // Only for the prover: brings in what every `Core` keeps.
         let _ = &self.shape;
-        let mut told = Vec::with_capacity(alloc, steps.len())?;
+        let mut reported = Vec::with_capacity(alloc, steps.len())?;
         for step in steps {
-            told.push_reserved(self.step(*step));
+            reported.push_reserved(self.step(*step));
         }
-        Ok(told)
+        Ok(reported)
     }
 }

@@ -26,7 +26,7 @@ ghost use Rattle.tier_core.specs.Turn.{
   settle_turn,
   give_back_turn,
   goes_on,
-  told,
+  reported,
   pass_turn,
   own_kind,
   climb_turn,
@@ -316,7 +316,7 @@ pub fn then_climb(own: Passage, errand: Errand) -> Progress
 /// Returns the answer of a step that passes a tier, by what its token owes afterwards.
 #[inline(always)]
 pub fn passed_answer(phase: u32, parties: u32, errand: Errand) -> Played
-    ensures { result ≡ told phase parties errand }
+    ensures { result ≡ reported phase parties errand }
 {
     match errand {
         Errand::Rest => Played::Done(phase),

@@ -19,16 +19,16 @@ played_of (answer.Played a) other = a
 played_of answer.NotNow other = other
 
 -- a turn that may be taken, or not
-told_by : (s : State) (f : Flat) (i : ℕ) (r : Turn) (b : Bool) (a : Played) → cond b (answer.Played r.answer) answer.NotNow ≡ answer.Played a
+reported_by : (s : State) (f : Flat) (i : ℕ) (r : Turn) (b : Bool) (a : Played) → cond b (answer.Played r.answer) answer.NotNow ≡ answer.Played a
     → (m : Moment) × (cond (eqb i i) (cond b (moment_of i s f r ∷ []) []) [] ≡ m ∷ []) × (m.state ≡ s) × (m.before ≡ f) × (m.turn.answer ≡ a)
-told_by s f i r true a e =
+reported_by s f i r true a e =
     (moment_of i s f r, ap (λ b. cond b (moment_of i s f r ∷ []) []) (eq-eqb i i refl), refl, refl, ap (λ x. played_of x r.answer) e)
-told_by s f i r false a e = absurd (let b : answer.NotNow ≡ answer.Played a = e in cc)
+reported_by s f i r false a e = absurd (let b : answer.NotNow ≡ answer.Played a = e in cc)
 
 pub moments_are_answers : MomentsAreAnswers
 moments_are_answers s f (Begin i c) a e =
     by_test (λ b. cond b answer.Begun answer.NotNow ≡ answer.Played a
     → (m : Moment) × (own_turn i s f (Begin i c) ≡ m ∷ []) × (m.state ≡ s) × (m.before ≡ f) × (m.turn.answer ≡ a)) (may_begin s i c)
     (λ _ q. absurd (let b : answer.Begun ≡ answer.Played a = q in cc)) (λ _ q. absurd (let b : answer.NotNow ≡ answer.Played a = q in cc)) e
-moments_are_answers s f (Go i) a e = told_by s f i (turn_at s i) (may_go s i) a e
-moments_are_answers s f (Finish i) a e = told_by s f i (finish_at s i (plan_ends s)) (may_finish s i) a e
+moments_are_answers s f (Go i) a e = reported_by s f i (turn_at s i) (may_go s i) a e
+moments_are_answers s f (Finish i) a e = reported_by s f i (finish_at s i (plan_ends s)) (may_finish s i) a e

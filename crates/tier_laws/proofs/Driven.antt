@@ -40,7 +40,7 @@ pub runs_answer_as_the_flat_phaser : RunsAnswerAsTheFlatPhaser
 runs_answer_as_the_flat_phaser s steps f core are alike = record {
   flat = the_tree_is_flat s steps f core are alike;
   answered = λ front x back e. ap (λ xs. answers xs s) e ∙ answered front x back s;
-  told = λ front token c during back e may own.
+  reported = λ front token c during back e may own.
       let are' : AreSteps (front ++ Begin token c ∷ (during ++ back)) = subst (λ (xs : List Step). AreSteps xs) e are in
       let rest = back_steps front (Begin token c ∷ (during ++ back)) are' in
       let here = the_tree_is_flat s front f core (front_steps front (Begin token c ∷ (during ++ back)) are') alike in

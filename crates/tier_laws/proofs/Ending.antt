@@ -23,7 +23,7 @@ use Rattle.tier_core.specs.declared.call.Step.{Step}
 use Rattle.tier_core.specs.declared.call.Step.TheVariants.{Begin, Go, Finish}
 use Rattle.tier_core.specs.Run.{may_go, may_finish, finish_at, plan_ends, after}
 use Rattle.tier_laws.specs.Moments.{Moment, Event, Takes, Enters, flat_after}
-use Rattle.tier_laws.specs.Told.{HasEnded}
+use Rattle.tier_laws.specs.Reports.{HasEnded}
 
 -- a moment beside the flat phasers that the tree represents
 abbrev pub at : ℕ → State → Turn → Moment

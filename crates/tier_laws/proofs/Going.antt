@@ -27,7 +27,7 @@ use Rattle.tier_core.specs.Turn.{own_kind, last_look, pass_turn}
 use Rattle.tier_core.specs.Machine.{State, IsCore, view_at, is_active, played}
 use Rattle.tier_core.proofs.Places.{MayPlay, played_core}
 use Rattle.tier_laws.specs.Moments.{Moment, flat_after}
-use Rattle.tier_laws.specs.Told.{IsCounted, MakesDue, IsDoneIn, Tells}
+use Rattle.tier_laws.specs.Reports.{IsCounted, MakesDue, IsDoneIn, Tells}
 use Rattle.tier_laws.proofs.Ending.{at, owing_is_ready}
 use Rattle.tier_laws.proofs.Memory.{any_here, call_of, Remembers, Goal, no_last, done_later}
 use Rattle.tier_laws.proofs.Passing.{by_passing, passed_turn, refresh_turn}
@@ -88,15 +88,15 @@ pass_tells s i c past own t passage kind here over core is past_end stays active
     let v : View = view_at s.views i in
     let goes : Errand → Turn = passed_turn own t passage kind w v in
     by_passing (Goal s i c past) s.parents own t passage kind here over w v
-    (λ e may. record { told = record { tells = past_end e (last_look over) may; ends = λ _. refl }; keeps = tt })
-    (λ _ _ may. record { told = record { tells = active; ends = λ x. no_last x }; keeps = stays (at i s (refresh_turn t here)) })
-    (λ _ _ may. record { told = record { tells = is.done (goes Rest) refl; ends = λ _. refl }; keeps = tt })
+    (λ e may. record { reported = record { tells = past_end e (last_look over) may; ends = λ _. refl }; keeps = tt })
+    (λ _ _ may. record { reported = record { tells = active; ends = λ x. no_last x }; keeps = stays (at i s (refresh_turn t here)) })
+    (λ _ _ may. record { reported = record { tells = is.done (goes Rest) refl; ends = λ _. refl }; keeps = tt })
     (λ going z owes may. record {
-      told = record { tells = (refl, makes_due s i c past t passage kind (goes Advancing) core is may going z refl refl owes); ends = λ x. no_last x };
+      reported = record { tells = (refl, makes_due s i c past t passage kind (goes Advancing) core is may going z refl refl owes); ends = λ x. no_last x };
       keeps = subst (λ (n : ℕ). IsDoneIn i c n (at i s (goes Advancing) ∷ past)) (sym is.phase) (is.done (goes Advancing) refl);
     })
     (λ _ j _ _ may. record {
-      told = record { tells = refl; ends = λ x. no_last x };
+      reported = record { tells = refl; ends = λ x. no_last x };
       keeps = subst (λ (n : ℕ). IsDoneIn i c n (at i s (goes (Climbing (parent_of s.parents t) j)) ∷ past)) (sym is.phase)
           (is.done (goes (Climbing (parent_of s.parents t) j)) refl);
     })

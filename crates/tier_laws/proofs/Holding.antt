@@ -12,7 +12,7 @@ use Rattle.tier_steps.specs.declared.view.OpeningStage.TheVariants.{Seeking, Joi
 use Rattle.tier_steps.specs.declared.view.Passage.TheVariants.{Arrival, Departure}
 use Rattle.tier_steps.specs.View.{new_view, ancestor, absent, only_at, late_share, party_share, errand_parties, errand_late, is_hidden, advance_share, errand_advances}
 use Rattle.tier_steps.specs.Tally.{word_at, root_phase, counted, children_among, children, Tallies, ViewFits, ErrandFits, is_zero}
-use Rattle.tier_steps.specs.Told.{is_under_way}
+use Rattle.tier_steps.specs.SpelledOut.{is_under_way}
 use Rattle.tier_steps.specs.Image.{is_climbing}
 use Rattle.tier_steps.proofs.Advance.{all_arrived, is_done, IsDone, zero_field}
 use Rattle.tier_steps.proofs.Chains.{both}

@@ -27,7 +27,7 @@ use Rattle.tier_core.specs.declared.call.Progress.{Progress}
 use Rattle.tier_core.specs.declared.call.Progress.TheVariants.{Idle, Begun, Seeking as ToSeek, Settling, GivingBack as ToGiveBack, Passing, Owing, Due, Refreshing}
 use Rattle.tier_core.specs.declared.call.Step.TheVariants.{Finish}
 use Rattle.tier_core.specs.declared.call.Turn.{Turn}
-use Rattle.tier_core.specs.Turn.{end_shown, lags, own_kind, goes_on, told, last_look, pass_turn, climb_turn, errand_place}
+use Rattle.tier_core.specs.Turn.{end_shown, lags, own_kind, goes_on, reported, last_look, pass_turn, climb_turn, errand_place}
 use Rattle.tier_core.specs.Machine.{State, IsCore, view_at, call_at, is_due, turn_at, played}
 use Rattle.tier_core.specs.Run.{may_finish, finish_at, plan_ends, after}
 use Rattle.tier_core.proofs.Turns.{by_test, not_both, looked_size, looked_tier, looked_rests, looked_ended}
@@ -181,7 +181,7 @@ climbs_keep_members s i own core h e =
       kind = Climb fits.1;
       tier = fits.0;
       next = goes_on own (owed (parent_of s.parents fits.0) fits.0 fits.1 w);
-      answer = told v.phase (passed fits.0 fits.1 w).parties (owed (parent_of s.parents fits.0) fits.0 fits.1 w);
+      answer = reported v.phase (passed fits.0 fits.1 w).parties (owed (parent_of s.parents fits.0) fits.0 fits.1 w);
     })) (λ _. refl) (λ going. not_both (word_at s.words fits.0).ended ended going)) g))
     (λ (going : (word_at s.words fits.0).ended ≡ false).
     pass_goes s i own fits.0 fits.1 (Climb fits.1) (Owing own) (Done v.phase) (IsClimbStep s i own) going refl
@@ -312,8 +312,8 @@ unclaimable false b c e = refl
 
 -- a tier that is open, waits for a party and has room refuses nothing
 pub admits : (w : Fields) (more : ℕ) → 0 < w.parties → 0 < w.unarrived → w.parties + more ≤ 65535 → is_refusing more w ≡ false
-admits w more some waits room =
-    let a : has_no_room more w ≡ false = not_yet 65535 (w.parties + more) room in
+admits w more some waits capacity =
+    let a : has_no_room more w ≡ false = not_yet 65535 (w.parties + more) capacity in
     let b : eqb w.unarrived 0 ≡ false = ne_eqb w.unarrived 0 (omega arith) in
     let c : is_being_opened w ≡ false = ap (λ x. cond x (eqb w.unarrived 2) false) (ne_eqb w.parties 0 (omega arith)) in
     ap (λ x. x || ((eqb w.unarrived 0) || is_being_opened w)) a ∙ (ap (λ x. x || is_being_opened w) b ∙ c)
@@ -323,7 +323,7 @@ no_claim t w some = unclaimable (ltb 0 t) (eqb w.parties 0) (eqb w.unarrived 1) 
 
 -- a join at a good tier
 pub open_tiers_admit : OpenTiersAdmit
-open_tiers_admit s i tier size core h going e rests some waits room =
+open_tiers_admit s i tier size core h going e rests some waits capacity =
     let v : View = view_at s.views i in
     let w : Fields = word_at s.words tier in
     let fits = fitting s i (ToSeek tier size) core h e in
@@ -332,7 +332,7 @@ open_tiers_admit s i tier size core h going e rests some waits room =
     (word_at s.words (ancestor s.parents tier k)) v)) (ap claimed_by rests) (gone s i (ToSeek tier size) core h e refl) in
     by_search (λ r. Gone s i r → IsAdmitted s i tier size) tier 0 size tier w v
     (λ q. not_both w.ended q (still_going s tier core going within))
-    (λ _ q. not_both (is_refusing size w) q (admits w size some waits room))
+    (λ _ q. not_both (is_refusing size w) q (admits w size some waits capacity))
     (λ _ _ q. not_both (is_claimable tier w) q (no_claim tier w some))
     (λ _ _ _ j. let phase = joined_phase s tier size core within j.may.needs.1 in
     record {

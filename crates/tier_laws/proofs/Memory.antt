@@ -17,7 +17,7 @@ use Rattle.tier_core.specs.Machine.{State, view_at, is_active}
 use Rattle.tier_core.proofs.Places.{MayPlay}
 use Rattle.tier_laws.specs.Moments.{Moment, flat_at}
 use Rattle.tier_steps.specs.Marks.{sees_root}
-use Rattle.tier_laws.specs.Told.{IsAwaiting, HasPassed, HasEnded, IsHeldBy, IsFullWith, last_seen, IsDoneIn, Tells, is_last, IsTold}
+use Rattle.tier_laws.specs.Reports.{IsAwaiting, HasPassed, HasEnded, IsHeldBy, IsFullWith, last_seen, IsDoneIn, Tells, is_last, IsReported}
 use Rattle.tier_laws.proofs.Ending.{at}
 
 pub any_here : {X : Type 0} (P : X → Type 0) (x : X) (xs : List X) → P x → Any P (x ∷ xs)
@@ -60,7 +60,7 @@ Remembers token c ms (Refreshing has_moved) v = (c ≡ call.Poll) × PollTells t
 
 -- a turn that says what it answers, and after which the call remembers what it has to
 pub record Good (s : State) (i : ℕ) (c : Call) (past : List Moment) (r : Turn) : Type 0 where
-  pub told : IsTold i c (at i s r) past
+  pub reported : IsReported i c (at i s r) past
   pub keeps : Remembers i c (at i s r ∷ past) r.next (stepped_view s.parents s.words r.kind r.tier (view_at s.views i))
 
 abbrev pub Goal : State → ℕ → Call → List Moment → Turn → Type 0
@@ -114,14 +114,14 @@ pub refused_good : (s : State) (i : ℕ) (c : Call) (past : List Moment) (r : Tu
 refused_good s i c past r zero a next answer d =
     let v : View = stepped_view s.parents s.words r.kind r.tier (view_at s.views i) in
     record {
-      told = record {
+      reported = record {
         tells = subst (λ (x : Played). Tells i c (at i s r) past x) (sym answer) (refusal_tells i c (at i s r) past a d);
         ends = λ _. next;
       };
       keeps = subst (λ (x : Progress). Remembers i c (at i s r ∷ past) x (stepped_view s.parents s.words r.kind r.tier (view_at s.views i))) (sym next) tt;
     }
 refused_good s i c past r (suc claimed) a next answer d = record {
-  told = record {
+  reported = record {
     tells = subst (λ (x : Played). Tells i c (at i s r) past x) (sym answer) (ap is_active next);
     ends = λ e. no_last (ap is_last (sym answer) ∙ e);
   };
@@ -133,11 +133,11 @@ pub joined_good : (s : State) (i : ℕ) (c : Call) (past : List Moment) (r : Tur
     → r.answer ≡ unless_claimed claimed (Done p) → (stepped_view s.parents s.words r.kind r.tier (view_at s.views i)).phase ≡ p
     → IsDoneIn i c p (at i s r ∷ past) → Good s i c past r
 joined_good s i c past r zero p next answer phase d = record {
-  told = record { tells = subst (λ (x : Played). Tells i c (at i s r) past x) (sym answer) d; ends = λ _. next };
+  reported = record { tells = subst (λ (x : Played). Tells i c (at i s r) past x) (sym answer) d; ends = λ _. next };
   keeps = subst (λ (x : Progress). Remembers i c (at i s r ∷ past) x (stepped_view s.parents s.words r.kind r.tier (view_at s.views i))) (sym next) tt;
 }
 joined_good s i c past r (suc claimed) p next answer phase d = record {
-  told = record {
+  reported = record {
     tells = subst (λ (x : Played). Tells i c (at i s r) past x) (sym answer) (ap is_active next);
     ends = λ e. no_last (ap is_last (sym answer) ∙ e);
   };

@@ -471,9 +471,9 @@ LatestSays i c (m ∷ past) = Says c m.turn.answer (view_after_turn i m) (m ∷ 
 abbrev Story : ℕ → Call → List Moment → Progress → View → Type 0
 Story i c past p v = Keeps c past p v × LatestSays i c past
 
-told_after : (s : State) (i : ℕ) (c : Call) (past : List Moment) (r : Turn) → i < length s.views → Fits s i c past r
+reported_after : (s : State) (i : ℕ) (c : Call) (past : List Moment) (r : Turn) → i < length s.views → Fits s i c past r
     → Keeps c (at i s r ∷ past) r.next (stepped_view s.parents s.words r.kind r.tier (view_at s.views i)) × LatestSays i c (at i s r ∷ past)
-told_after s i c past r h fits = (
+reported_after s i c past r h fits = (
   fits.keeps,
   subst (λ (v : View). Says c r.answer v (at i s r ∷ past))
       (sym (get_or-set_same s.views i (stepped_view s.parents s.words r.kind r.tier (view_at s.views i)) (new_view 0) h)) fits.says,
@@ -482,9 +482,9 @@ told_after s i c past r h fits = (
 stories : (i : ℕ) (c : Call) → Carries i (OfToken i (Story i c))
 stories i c = of_token i (Story i c)
     (λ s past core h active may here.
-    told_after s i c past (turn_at s i) h (turn_fits s i c past (call_at s.calls i) active (core.calls i h) here.0))
+    reported_after s i c past (turn_at s i) h (turn_fits s i c past (call_at s.calls i) active (core.calls i h) here.0))
     (λ s past core h due may here.
-    told_after s i c past (finish_at s i (plan_ends s)) h (last_fits s i c past (plan_ends s) (call_at s.calls i) due here.0))
+    reported_after s i c past (finish_at s i (plan_ends s)) h (last_fits s i c past (plan_ends s) (call_at s.calls i) due here.0))
 
 says : (s : State) (i : ℕ) (c : Call) (events : List Event) → IsCore s → IsCall c → may_begin s i c ≡ true → AreEvents events → AreOfCall i events
     → LatestSays i c (imaged i events (begun s i c) [])

@@ -129,7 +129,7 @@ record Joining (old s : State) (i tier size : ℕ) (ms : List Moment) : Type 0 w
   others : (j : ℕ) → j ≢ i → view_at s.views j ≡ view_at old.views j
   tokens : length s.views ≡ length old.views
   sizes : sum_by (λ v. v.size) s.views ≡ sum_by (λ v. v.size) old.views + (view_at s.views i).size
-  room : sum_by (λ v. v.size) old.views + size + length s.parents ≤ 65535
+  capacity : sum_by (λ v. v.size) old.views + size + length s.parents ≤ 65535
   some : 0 < size
   stands : Stands tier size (root_phase old.words) ms (call_at s.calls i) (view_at s.views i)
 
@@ -168,7 +168,7 @@ goes old s i tier size ms r is g quiet word stands =
           let b : sum_by (λ (x : View). x.size) s'.views ≡ sum_by (λ (x : View). x.size) (set s.views i v') = ap (sum_by (λ (x : View). x.size)) g.views in
           let c : (view_at s'.views i).size ≡ v'.size = ap (λ (x : View). x.size) g.view in
           let d = is.sizes in omega arith);
-      room = subst (λ (ps : List ℕ). sum_by (λ v. v.size) old.views + size + length ps ≤ 65535) (sym g.parents) is.room;
+      capacity = subst (λ (ps : List ℕ). sum_by (λ v. v.size) old.views + size + length ps ≤ 65535) (sym g.parents) is.capacity;
       some = is.some;
       stands = subst (λ (p : Progress). Stands tier size now (own_imaged i s (Go i) ++ ms) p (view_at s'.views i)) (sym g.call)
           (subst (λ (x : View). Stands tier size now (own_imaged i s (Go i) ++ ms) r.next x) (sym g.view) stands);
@@ -217,7 +217,7 @@ room_at old s i tier size k t ms is errand none h =
     (λ (q : j ≡ i). ap (λ m. is_climbing (view_at s.views m).errand) q ∙ (ap is_climbing errand ∙ opening_is tier k size))
     (λ (q : j ≢ i). ap is_climbing (rests old s i tier size ms is j q l))
     (cases_eq j i))) in
-    let a = added_le k size is.some in let b = is.sizes in let c = is.room in omega arith
+    let a = added_le k size is.some in let b = is.sizes in let c = is.capacity in omega arith
 
 -- a tier that gets members
 joined_fresh : (now n : ℕ) (w : Fields) → 0 < n → w.phase ≡ now → IsFreshWord now w → IsFreshWord now (joined w n)
@@ -231,17 +231,17 @@ joined_fresh now n w some phase fresh = ⊎_elim
     fresh
 
 empty_admits : (w : Fields) (more : ℕ) → w.parties ≡ 0 → w.unarrived ≡ 1 → w.parties + more ≤ 65535 → is_refusing more w ≡ false
-empty_admits w more none one room =
-    let a : has_no_room more w ≡ false = not_yet 65535 (w.parties + more) room in
+empty_admits w more none one capacity =
+    let a : has_no_room more w ≡ false = not_yet 65535 (w.parties + more) capacity in
     let b : eqb w.unarrived 0 ≡ false = ne_eqb w.unarrived 0 (omega arith) in
     let c : is_being_opened w ≡ false = ap (λ x. cond x (eqb w.unarrived 2) false) (eq-eqb w.parties 0 none) ∙ ne_eqb w.unarrived 2 (omega arith) in
     ap (λ x. x || ((eqb w.unarrived 0) || is_being_opened w)) a ∙ (ap (λ x. x || is_being_opened w) b ∙ c)
 
 -- it refuses nothing if it is fresh and has room
 welcomes : (now more : ℕ) (w : Fields) → IsFreshWord now w → w.parties + more ≤ 65535 → is_refusing more w ≡ false
-welcomes now more w fresh room = ⊎_elim
-    (λ e. empty_admits w more e.0 e.1 room)
-    (λ e. admits w more e.0 (let a = e.0 in let b = e.1 in omega arith) room)
+welcomes now more w fresh capacity = ⊎_elim
+    (λ e. empty_admits w more e.0 e.1 capacity)
+    (λ e. admits w more e.0 (let a = e.0 in let b = e.1 in omega arith) capacity)
     fresh
 
 -- a step that looks for the tier
@@ -258,14 +258,14 @@ seek_goes old s i tier size k ms is e q =
     let errand : (view_at s.views i).errand ≡ opening tier k Seeking size = fits.0 ∙ ap (λ n. opening tier n Seeking size) (sym q) in
     let within : t < length s.words = subst (λ (n : ℕ). t < n) (sym is.core.tally.long) (ancestor_within s.parents tier k is.core.shape fits.1.place) in
     let plain = not_opened old s i tier size k ms is errand fits.1.place within in
-    let room = room_at old s i tier size k t ms is errand fits.1.none within in
+    let capacity = room_at old s i tier size k t ms is errand fits.1.none within in
     let fresh : IsFreshWord now w = ⊎_elim (λ (f : IsFreshWord now w). f) (λ (o : is_being_opened w ≡ true). not_both (is_being_opened w) o plain)
     (is.words t within) in
     let claim : Turn = claim_turn tier k size t in
     let join : Turn = join_turn tier k size t w in
     let Q : Turn → Type 0 = λ r. Gone s i r → Joining old (after s (Go i)) i tier size (own_imaged i s (Go i) ++ ms) in
     by_search Q tier k size t w v (λ x. not_both w.ended x (still_going s t is.core is.going within))
-    (λ _ x. not_both (is_refusing (added k size) w) x (welcomes now (added k size) w fresh room))
+    (λ _ x. not_both (is_refusing (added k size) w) x (welcomes now (added k size) w fresh capacity))
     (λ _ _ _ g. goes old s i tier size ms claim is g refl (inr refl) (refl, refl))
     (λ _ _ _ g.
     let here : w.phase ≡ now = joined_phase s t (added k size) is.core within g.may.needs.1 ∙ is.phase in
@@ -429,7 +429,7 @@ joined_alike old new i tier size ms ns h is = record {
 }
 
 pub joins_are_done_alone : JoinsAreDoneAlone
-joins_are_done_alone s i tier size tiers core fresh h none place some room =
+joins_are_done_alone s i tier size tiers core fresh h none place some capacity =
     let c : Call = call.Join tier size in
     let may = may_join s i tier size h (fresh.idle i h) none place in
     let here : after s (Begin i (call.Join tier size)) ≡ begun s i (call.Join tier size) = ap (λ b. cond b (begun s i (call.Join tier size)) s) may in
@@ -446,7 +446,7 @@ joins_are_done_alone s i tier size tiers core fresh h none place some room =
       others = λ j n. refl;
       tokens = refl;
       sizes = omega arith;
-      room = room;
+      capacity = capacity;
       some = some;
       stands = subst (λ (p : Progress). Stands tier size (root_phase s.words) [] p (view_at s.views i)) (sym call_is) refl;
     } in

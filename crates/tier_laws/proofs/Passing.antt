@@ -14,7 +14,7 @@ use Rattle.tier_core.specs.declared.call.Turn.{Turn}
 use Rattle.tier_core.specs.declared.call.Played.{Played}
 use Rattle.tier_core.specs.declared.call.Played.TheVariants.{GoesOn}
 use Rattle.tier_core.specs.declared.call.Progress.{Progress}
-use Rattle.tier_core.specs.Turn.{lags, last_look, goes_on, told, pass_turn}
+use Rattle.tier_core.specs.Turn.{lags, last_look, goes_on, reported, pass_turn}
 use Rattle.tier_laws.proofs.Memory.{by_turn}
 
 -- the refresh of the tier
@@ -23,7 +23,7 @@ refresh_turn t here = record { kind = Refresh; tier = t; next = here; answer = G
 
 -- the step itself, after which the token owes this
 abbrev pub passed_turn : Passage → ℕ → Passage → Kind → Fields → View → Errand → Turn
-passed_turn own t passage kind w v e = record { kind = kind; tier = t; next = goes_on own e; answer = told v.phase (passed t passage w).parties e }
+passed_turn own t passage kind w v e = record { kind = kind; tier = t; next = goes_on own e; answer = reported v.phase (passed t passage w).parties e }
 
 -- What holds of the look at an ended root, of the refresh, and of the step by what its token owes afterwards, holds of the turn.
 pub by_passing : (P : Turn → Type 0) (ps : List ℕ) (own : Passage) (t : ℕ) (passage : Passage) (kind : Kind) (here : Progress) (over : Played) (w : Fields) (v : View)

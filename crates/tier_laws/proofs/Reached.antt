@@ -26,7 +26,7 @@ use Rattle.tier_core.proofs.Runs.{finish_may, step_moves}
 use Rattle.tier_core.proofs.Opening.{token_core}
 use Rattle.tier_laws.specs.Frame.{flat_of}
 use Rattle.tier_laws.specs.Moments.{Moment, Event, Takes, Enters, moment_of, own_turn, moments, AreEvents, LooksLikeTheTree, MomentsLookLikeTheTree}
-use Rattle.tier_laws.specs.Told.{IsCounted, IsFirstLook, IsAwaiting, AreAllHere, HasPassed, HasEnded, MakesDue, IsCause, IsHeldBy, IsFullWith, last_seen, IsDoneIn, Tells, LatestTells, is_last}
+use Rattle.tier_laws.specs.Reports.{IsCounted, IsFirstLook, IsAwaiting, AreAllHere, HasPassed, HasEnded, MakesDue, IsCause, IsHeldBy, IsFullWith, last_seen, IsDoneIn, Tells, LatestTells, is_last}
 use Rattle.tier_core.specs.declared.call.Progress.TheVariants.{Idle}
 use Rattle.tier_laws.proofs.Planning.{known_active, known_due}
 use Rattle.tier_laws.proofs.Ending.{at, own_imaged, imaged}
@@ -193,7 +193,7 @@ held_by token c now why n f g before afterwards is = record {
   claimed = is.claimed;
   size = is.size;
   refusal = record { call = is.refusal.call; kind = is.refusal.kind; next = is.refusal.next };
-  room = is.room;
+  capacity = is.capacity;
   cause = is_cause token now n f g why is.cause;
 }
 

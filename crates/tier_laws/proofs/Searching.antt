@@ -42,4 +42,4 @@ by_search P tier k size t w v over refuse claim join =
     let free : Turn = cond (is_claimable t w) (claim_turn tier k size t) (join_turn tier k size t w) in
     by_turn P w.ended (over_turn k w) (cond (is_refusing (added k size) w) (refuse_turn tier k size t w v) free) over
     (λ going. by_turn P (is_refusing (added k size) w) (refuse_turn tier k size t w v) free (refuse going)
-    (λ room. by_turn P (is_claimable t w) (claim_turn tier k size t) (join_turn tier k size t w) (claim going room) (join going room)))
+    (λ capacity. by_turn P (is_claimable t w) (claim_turn tier k size t) (join_turn tier k size t w) (claim going capacity) (join going capacity)))

@@ -32,7 +32,7 @@ use Rattle.tier_core.proofs.Places.{MayPlay}
 use Rattle.tier_laws.specs.Frame.{flat_of}
 use Rattle.tier_laws.specs.Moments.{Moment}
 use Rattle.tier_steps.specs.Marks.{sees_root}
-use Rattle.tier_laws.specs.Told.{IsCounted, HasEnded, refusing, IsClaimedByAnother, IsFullyArrived, IsCause, IsHeldBy, IsFullWith, last_seen, IsDoneIn}
+use Rattle.tier_laws.specs.Reports.{IsCounted, HasEnded, refusing, IsClaimedByAnother, IsFullyArrived, IsCause, IsHeldBy, IsFullWith, last_seen, IsDoneIn}
 use Rattle.tier_laws.proofs.Holding.{fits_at}
 use Rattle.tier_laws.proofs.Counting.{looked_empty}
 use Rattle.tier_laws.proofs.Ending.{at, ended_stays}
@@ -145,7 +145,7 @@ refuses s i past tier k size t r a core h due why within seen kind here next e =
         claimed = k;
         size = size;
         refusal = record { call = refl; kind = kind; next = next ∙ ap (giving_back k) q };
-        room = subst (λ (x : Fields). x.parties + added k size ≤ 65535) (sym word) (ltb-false 65535 (w.parties + added k size) fitting);
+        capacity = subst (λ (x : Fields). x.parties + added k size ≤ 65535) (sym word) (ltb-false 65535 (w.parties + added k size) fitting);
         cause = is;
       },
     ) in
@@ -163,32 +163,32 @@ refuses s i past tier k size t r a core h due why within seen kind here next e =
       here = ap (λ (x : Fields). x.parties) word;
       many = ltb-true 65535 (w.parties + added k size) full;
     }))
-    (λ (room : has_no_room (added k size) w ≡ false).
-    let q : a ≡ Held p (cause_of t p w) = e ∙ ap (λ b. cond b (Full w.parties) (Held p (cause_of t p w))) room in
+    (λ (capacity : has_no_room (added k size) w ≡ false).
+    let q : a ≡ Held p (cause_of t p w) = e ∙ ap (λ b. cond b (Full w.parties) (Held p (cause_of t p w))) capacity in
     ⊎_elim
     (λ (z : w.unarrived ≡ 0).
     let q0 : a ≡ Held p (cond (eqb t 0) cause.Advancing (cond (eqb w.phase p) cause.AllArrived cause.Lagging)) =
     q ∙ ap (λ b. Held p (cond b (cond (eqb t 0) cause.Advancing (cond (eqb w.phase p) cause.AllArrived cause.Lagging)) cause.BeingOpened))
     (eq-eqb w.unarrived 0 z) in
     ⊎_elim
-    (λ (root : t ≡ 0). heldby room cause.Advancing
+    (λ (root : t ≡ 0). heldby capacity cause.Advancing
     (q0 ∙ ap (λ b. Held p (cond b cause.Advancing (cond (eqb w.phase p) cause.AllArrived cause.Lagging))) (eq-eqb t 0 root))
     (here ∙ root, ap (λ (x : Fields). x.unarrived) word ∙ z))
     (λ (n : t ≢ 0).
     let q1 : a ≡ Held p (cond (eqb w.phase p) cause.AllArrived cause.Lagging) =
     q0 ∙ ap (λ b. Held p (cond b cause.Advancing (cond (eqb w.phase p) cause.AllArrived cause.Lagging))) (ne_eqb t 0 n) in
     ⊎_elim
-    (λ (same : w.phase ≡ p). heldby room cause.AllArrived (q1 ∙ ap (λ b. Held p (cond b cause.AllArrived cause.Lagging)) (eq-eqb w.phase p same))
+    (λ (same : w.phase ≡ p). heldby capacity cause.AllArrived (q1 ∙ ap (λ b. Held p (cond b cause.AllArrived cause.Lagging)) (eq-eqb w.phase p same))
     (below n z, ap (λ (x : Fields). x.phase) word ∙ same))
-    (λ (other : w.phase ≢ p). heldby room cause.Lagging (q1 ∙ ap (λ b. Held p (cond b cause.AllArrived cause.Lagging)) (ne_eqb w.phase p other))
+    (λ (other : w.phase ≢ p). heldby capacity cause.Lagging (q1 ∙ ap (λ b. Held p (cond b cause.AllArrived cause.Lagging)) (ne_eqb w.phase p other))
     (below n z, λ x. other (sym (ap (λ (y : Fields). y.phase) word) ∙ x)))
     (cases_eq w.phase p))
     (cases_eq t 0))
     (λ (n : w.unarrived ≢ 0).
     let opened : is_being_opened w ≡ true = ⊎_elim
-    (λ (m : 65535 < w.parties + added k size). absurd (let b = ltb-false 65535 (w.parties + added k size) room in omega arith))
+    (λ (m : 65535 < w.parties + added k size). absurd (let b = ltb-false 65535 (w.parties + added k size) capacity in omega arith))
     (λ x. ⊎_elim (λ (z : w.unarrived ≡ 0). absurd (n z)) (λ (o : is_being_opened w ≡ true). o) x) why.1 in
-    heldby room cause.BeingOpened
+    heldby capacity cause.BeingOpened
     (q ∙ ap (λ b. Held p (cond b (cond (eqb t 0) cause.Advancing (cond (eqb w.phase p) cause.AllArrived cause.Lagging)) cause.BeingOpened))
     (ne_eqb w.unarrived 0 n)) (
       ap is_being_opened word ∙ opened,
@@ -222,7 +222,7 @@ seek_tells s i past tier k size t core h due within seen =
     (any_here (HasEnded i (shown_of w.phase true)) (at i s over) past (ended_there s i t over core h may within e)))
     (λ _ _ may. refused_good s i c past no k (refusal t (added k size) p w) refl refl
     (refuses s i past tier k size t no (refusal t (added k size) p w) core h due may.needs.1 within seen refl refl refl refl))
-    (λ _ _ _ may. record { told = record { tells = refl; ends = λ x. no_last x }; keeps = (refl, seen) })
+    (λ _ _ _ may. record { reported = record { tells = refl; ends = λ x. no_last x }; keeps = (refl, seen) })
     (λ _ _ _ may. joined_good s i c past join k w.phase refl refl refl
     (any_here (IsCounted i c w.phase) (at i s join) past record { label = refl; phase = sym (joined_phase s t (added k size) core within may.needs.1) }))
 
@@ -240,7 +240,7 @@ settle_tells s i c past tier k size q done =
 pub give_back_tells : (s : State) (i : ℕ) (c : Call) (past : List Moment) (tier k size : ℕ) (a : Played)
     → (view_at s.views i).errand ≡ Opening tier (suc k) GoingBack size → RefusalTells i c past a
     → Goal s i c past (give_back_turn s.parents a (view_at s.views i).errand)
-give_back_tells s i c past tier k size a q told =
+give_back_tells s i c past tier k size a q reported =
     subst (λ (e : Errand). Goal s i c past (give_back_turn s.parents a e)) (sym q)
     (λ may. let r : Turn = give_back_turn s.parents a (Opening tier (suc k) GoingBack size) in
-    refused_good s i c past (give_back_turn s.parents a (Opening tier (suc k) GoingBack size)) k a refl refl (refusal_later i c (at i s r) past a refl told))
+    refused_good s i c past (give_back_turn s.parents a (Opening tier (suc k) GoingBack size)) k a refl refl (refusal_later i c (at i s r) past a refl reported))

@@ -27,7 +27,7 @@ use Rattle.tier_laws.proofs.Along.{Carries, along, view_stays, call_stays, begun
 use Rattle.tier_laws.proofs.Ranks.{Within, some_left, Lowers, turn_lowers, left_stays}
 
 -- a call that has made some steps, and has at most this many to come
-pub record Course (i : ℕ) (c : Call) (s : State) (past : List Moment) : Type 0 where
+pub record ShortCourse (i : ℕ) (c : Call) (s : State) (past : List Moment) : Type 0 where
   pub tiers : IsTiers s.parents
   pub rest : ℕ
   pub left : Within s.parents s.words (call_at s.calls i) (view_at s.views i) rest
@@ -74,8 +74,8 @@ moved_left s s' i n p v call view same left =
     (subst (λ (q : Progress). Within s.parents s'.words q (view_at s'.views i) n) (sym call)
     (subst (λ (x : View). Within s.parents s'.words p x n) (sym view) left))
 
-course_goes : (s : State) (i : ℕ) (c : Call) (past : List Moment) (r : Turn) → IsCore s → i < length s.views → (course : Course i c s past)
-    → MayPlay s i r → is_idle (call_at s.calls i) ≡ false → Lowers s i course.rest r → Course i c (played s i r) (at i s r ∷ past)
+course_goes : (s : State) (i : ℕ) (c : Call) (past : List Moment) (r : Turn) → IsCore s → i < length s.views → (course : ShortCourse i c s past)
+    → MayPlay s i r → is_idle (call_at s.calls i) ≡ false → Lowers s i course.rest r → ShortCourse i c (played s i r) (at i s r ∷ past)
 course_goes s i c past r core h course may going lowers =
     let some = some_left s.parents s.words (call_at s.calls i) (view_at s.views i) course.rest going (core.calls i h) course.left in
     record {
@@ -88,7 +88,7 @@ course_goes s i c past r core h course may going lowers =
       count = (let a = course.count in omega arith);
     }
 
-courses : (i : ℕ) (c : Call) → Carries i (Course i c)
+courses : (i : ℕ) (c : Call) → Carries i (ShortCourse i c)
 courses i c = record {
   goes = λ s past core h active may course. course_goes s i c past (turn_at s i) core h course may (active_going (call_at s.calls i) active)
       (turn_lowers s i course.rest (call_at s.calls i) course.tiers core h active (core.calls i h) course.left);
@@ -126,7 +126,7 @@ most call.Force = omega arith
 pub calls_are_short : CallsAreShort
 calls_are_short s i c events tiers core is may are own =
     let h = begun_known s i c may in
-    let end = along i (Course i c) (courses i c) events (begun s i c) [] (begun_core s i c core is may) h (record {
+    let end = along i (ShortCourse i c) (courses i c) events (begun s i c) [] (begun_core s i c core is may) h (record {
       tiers = tiers;
       rest = most_steps c;
       left = moved_left s (begun s i c) i (most_steps c) (Begun c) (view_at s.views i)

@@ -35,7 +35,7 @@ use Rattle.tier_core.specs.Machine.{State, IsCore, CallFits, view_at, call_at, i
 use Rattle.tier_core.specs.Run.{is_idle, may_go, may_finish, finish_at, plan_ends, after, answer_to}
 use Rattle.tier_core.proofs.Turns.{not_both, refusal_is}
 use Rattle.tier_core.proofs.Places.{turn_may, played_core}
-use Rattle.tier_laws.specs.Told.{is_last}
+use Rattle.tier_laws.specs.Reports.{is_last}
 use Rattle.tier_laws.specs.Count.{going_on, IsAnsweredWithin, SixteenStepsAreEnough}
 use Rattle.tier_laws.proofs.Holding.{part, fits_at}
 use Rattle.tier_laws.proofs.Ranks.{Within, climbs_to, climb_most, shallow, some_left, turn_lowers}

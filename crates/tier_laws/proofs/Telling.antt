@@ -30,7 +30,7 @@ use Rattle.tier_core.proofs.Turns.{by_test, not_both}
 use Rattle.tier_core.proofs.Runs.{begun_core}
 use Rattle.tier_laws.specs.Frame.{flat_of}
 use Rattle.tier_laws.specs.Moments.{Moment, flat_at, moments}
-use Rattle.tier_laws.specs.Told.{IsAwaiting, AreAllHere, HasPassed, HasEnded, Tells, LatestTells, AnswersTell}
+use Rattle.tier_laws.specs.Reports.{IsAwaiting, AreAllHere, HasPassed, HasEnded, Tells, LatestTells, AnswersTell}
 use Rattle.tier_laws.proofs.Holding.{fits_at}
 use Rattle.tier_laws.proofs.Counting.{members_owned, arrived_own, looked_is, looked_empty}
 use Rattle.tier_laws.proofs.Ending.{at, ended_stays, forced, imaged}
@@ -98,7 +98,7 @@ pass_first s i past passage core h is some =
     by_test (λ b. Goal s i c past (make (cond b Idle (cond (eqb (looked w v).arrived v.size) Idle (Passing passage)))
     (cond b (end_shown w) (cond (eqb (looked w v).arrived v.size) (AlreadyArrived (looked w v).phase) GoesOn)))) w.ended
     (λ e may. record {
-      told = record {
+      reported = record {
         tells = any_here (HasEnded i (shown_of w.phase true)) (at i s (make Idle (end_shown w))) past (ended_stays s i (make Idle (end_shown w)) core h may e);
         ends = λ _. refl;
       };
@@ -108,7 +108,7 @@ pass_first s i past passage core h is some =
     (eqb (looked w v).arrived v.size)
     (λ e may. let f = first_all w v going some e in
     record {
-      told = record {
+      reported = record {
         tells = any_here (AreAllHere i c (looked w v).phase) (at i s (make Idle (AlreadyArrived (looked w v).phase))) past record {
           look = record { first = is; going = going; phase = sym f.0 };
           all = all_arrived s i (looked w v).phase core h (f.1 ∙ sym f.0) f.2;
@@ -117,7 +117,7 @@ pass_first s i past passage core h is some =
       };
       keeps = tt;
     })
-    (λ e may. record { told = record { tells = refl; ends = λ x. no_last x }; keeps = refl }))
+    (λ e may. record { reported = record { tells = refl; ends = λ x. no_last x }; keeps = refl }))
 
 poll_first : (s : State) (i : ℕ) (past : List Moment) → IsCore s → i < length s.views → call_at s.calls i ≡ Begun call.Poll
     → 0 < (view_at s.views i).size
@@ -133,7 +133,7 @@ poll_first s i past core h is some =
     (cond b Idle (cond (eqb (looked w v).arrived v.size) Idle (cond lag (Refreshing f) Idle)))
     (cond b (end_shown w) (cond (eqb (looked w v).arrived v.size) Waiting (cond lag GoesOn (polled f p)))))) w.ended
     (λ e may. record {
-      told = record {
+      reported = record {
         tells = any_here (HasEnded i (shown_of w.phase true)) (at i s (make Idle (end_shown w))) past (ended_stays s i (make Idle (end_shown w)) core h may e);
         ends = λ _. refl;
       };
@@ -143,7 +143,7 @@ poll_first s i past core h is some =
     (eqb (looked w v).arrived v.size)
     (λ e may. let g = first_all w v going some e in
     record {
-      told = record {
+      reported = record {
         tells = any_here (λ n. AreAllHere i call.Poll (flat_at n).phase n) (at i s (make Idle Waiting)) past record {
           look = record { first = is; going = going; phase = refl };
           all = all_arrived s i w.phase core h g.1 g.2;
@@ -154,11 +154,11 @@ poll_first s i past core h is some =
     })
     (λ e. by_test (λ b. Goal s i call.Poll past (make (cond b (Refreshing f) Idle) (cond b GoesOn (polled f p)))) lag
     (λ _ may. record {
-      told = record { tells = refl; ends = λ x. no_last x };
+      reported = record { tells = refl; ends = λ x. no_last x };
       keeps = (refl, poll_seen s i past (make (Refreshing f) GoesOn) core h is going some e);
     })
     (λ _ may. record {
-      told = record {
+      reported = record {
         tells = polled_tells i (at i s (make Idle (polled f p))) past f p (poll_seen s i past (make Idle (polled f p)) core h is going some e);
         ends = λ _. refl;
       };
@@ -182,12 +182,12 @@ join_first s i past tier size core h none =
       answer = cond x (end_shown w) GoesOn;
     }) w.ended
     (λ e may. record {
-      told = record { tells = any_here (HasEnded i (shown_of w.phase true)) (at i s over) past (ended_stays s i over core h may e); ends = λ _. refl };
+      reported = record { tells = any_here (HasEnded i (shown_of w.phase true)) (at i s over) past (ended_stays s i over core h may e); ends = λ _. refl };
       keeps = tt;
     })
     (λ going. by_test (λ x. Goal s i c past record { kind = cond x (Refuse 0 0 size) Look; tier = 0; next = ToSeek tier size; answer = GoesOn }) b
-    (λ _ may. record { told = record { tells = refl; ends = λ x. no_last x }; keeps = (refl, looked_empty w v going all) })
-    (λ _ may. record { told = record { tells = refl; ends = λ x. no_last x }; keeps = (refl, looked_empty w v going all) }))
+    (λ _ may. record { reported = record { tells = refl; ends = λ x. no_last x }; keeps = (refl, looked_empty w v going all) })
+    (λ _ may. record { reported = record { tells = refl; ends = λ x. no_last x }; keeps = (refl, looked_empty w v going all) }))
 
 first_tells : (s : State) (i : ℕ) (past : List Moment) (c : Call) → IsCore s → i < length s.views → call_at s.calls i ≡ Begun c
     → BegunFits s.parents c (view_at s.views i)
@@ -200,7 +200,7 @@ first_tells s i past call.Force core h is fits = λ may.
     let w : Fields = word_at s.words 0 in
     let r : Turn = record { kind = Force; tier = 0; next = Idle; answer = end_shown w } in
     record {
-      told = record { tells = any_here (HasEnded i (shown_of w.phase true)) (at i s r) past (forced s i r core h may refl); ends = λ _. refl };
+      reported = record { tells = any_here (HasEnded i (shown_of w.phase true)) (at i s r) past (forced s i r core h may refl); ends = λ _. refl };
       keeps = tt;
     }
 
@@ -249,7 +249,7 @@ turn_tells s i c past (Refreshing has_moved) core h is active fits knows =
     let v : View = view_at s.views i in
     let r : Turn = turn s.parents s.words (Refreshing has_moved) v in
     λ may. record {
-      told = record {
+      reported = record {
         tells = subst (λ (x : Call). Tells i x (at i s (turn s.parents s.words (Refreshing has_moved) (view_at s.views i))) past (polled has_moved v.phase))
             (sym knows.0)
             (polled_tells i (at i s (turn s.parents s.words (Refreshing has_moved) (view_at s.views i))) past has_moved v.phase
@@ -270,7 +270,7 @@ last_tells s i c past ends (ToGiveBack answer) due knows = not_both false due re
 last_tells s i c past ends (Passing passage) due knows = not_both false due refl
 last_tells s i c past ends (Owing own) due knows = not_both false due refl
 last_tells s i c past ends (Due own) due knows = record {
-  told = record { tells = done_later i c (view_at s.views i).phase (at i s (finish_at s i ends)) past knows; ends = λ _. refl };
+  reported = record { tells = done_later i c (view_at s.views i).phase (at i s (finish_at s i ends)) past knows; ends = λ _. refl };
   keeps = tt;
 }
 last_tells s i c past ends (Refreshing has_moved) due knows = not_both false due refl
@@ -282,9 +282,9 @@ Story i c past p v = Remembers i c past p v × LatestTells i c past
 pub stories : (i : ℕ) (c : Call) → Carries i (OfToken i (Story i c))
 stories i c = of_token i (Story i c)
     (λ s past core h active may here.
-    let good = turn_tells s i c past (call_at s.calls i) core h refl active (core.calls i h) here.0 may in (good.keeps, good.told))
+    let good = turn_tells s i c past (call_at s.calls i) core h refl active (core.calls i h) here.0 may in (good.keeps, good.reported))
     (λ s past core h due may here.
-    let good = last_tells s i c past (plan_ends s) (call_at s.calls i) due here.0 in (good.keeps, good.told))
+    let good = last_tells s i c past (plan_ends s) (call_at s.calls i) due here.0 in (good.keeps, good.reported))
 
 pub begun_story : (s : State) (i : ℕ) (c : Call) → IsCore s → may_begin s i c ≡ true → OfToken i (Story i c) (begun s i c) []
 begun_story s i c core may = begun_own i (Story i c) s c core may (refl, tt)

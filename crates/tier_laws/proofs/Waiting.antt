@@ -11,7 +11,7 @@ use Rattle.tier_steps.specs.declared.kind.Kind.{Kind}
 use Rattle.tier_steps.specs.declared.kind.Kind.TheVariants.{Look, Glance, Refuse, Join, Arrive, Leave, Advance, Force, Claim, Settle, SettleBack, Climb, Refresh}
 use Rattle.tier_steps.specs.View.{ancestor, claims_on, errand_claims, claim_share, errand_advances, advance_share}
 use Rattle.tier_steps.specs.Tally.{blank, word_at, root_phase, bit}
-use Rattle.tier_steps.specs.Told.{is_under_way}
+use Rattle.tier_steps.specs.SpelledOut.{is_under_way}
 use Rattle.tier_steps.specs.Step.{Needs, word_after}
 use Rattle.tier_steps.specs.Laws.{words_after}
 use Rattle.tier_steps.proofs.Advance.{zero_field}
@@ -30,8 +30,8 @@ use Rattle.tier_core.proofs.Runs.{due_advances, finish_may, begun_core}
 use Rattle.tier_laws.specs.Frame.{flat_of}
 use Rattle.tier_laws.specs.Hold.{IsStill}
 use Rattle.tier_laws.specs.Moments.{Moment, run_of, moments}
-use Rattle.tier_laws.specs.Told.{Tells}
-use Rattle.tier_laws.specs.Waits.{HasRoot, TheRootWaits, IsAsTold, LatestIsKept, AdvancesAreAwaited}
+use Rattle.tier_laws.specs.Reports.{Tells}
+use Rattle.tier_laws.specs.Waits.{HasRoot, TheRootWaits, IsAsReported, LatestIsKept, AdvancesAreAwaited}
 use Rattle.tier_laws.proofs.Framing.{after_either}
 use Rattle.tier_laws.proofs.Planning.{known_active, known_due}
 use Rattle.tier_laws.proofs.Holding.{part, fits_at, advances_are_alone}
@@ -147,7 +147,7 @@ not_done : (phase now parties : ℕ) → {A : Type 0} → Done phase ≡ MustAdv
 not_done phase now parties e = absurd (let a : Done phase ≡ MustAdvance now parties = e in cc)
 
 latest_stays : (i : ℕ) (s s' : State) (past : List Moment)
-    → ((phase parties : ℕ) → IsAsTold s i phase parties → IsAsTold s' i phase parties) → LatestIsKept i s past → LatestIsKept i s' past
+    → ((phase parties : ℕ) → IsAsReported s i phase parties → IsAsReported s' i phase parties) → LatestIsKept i s past → LatestIsKept i s' past
 latest_stays i s s' [] keeps h = tt
 latest_stays i s s' (m ∷ past) keeps h = λ phase parties e. keeps phase parties (h phase parties e)
 
@@ -158,11 +158,11 @@ kept i c = record {
       record {
         story = story;
         latest = λ phase parties e.
-            let told : Tells i c (at i s (turn_at s i)) past (MustAdvance phase parties) =
+            let reported : Tells i c (at i s (turn_at s i)) past (MustAdvance phase parties) =
             subst (λ (a : Played). Tells i c (at i s (turn_at s i)) past a) e story.1.tells in
             record {
-              due = ap is_due (get_or-set_same s.calls i (turn_at s i).next Idle (let l = core.long in omega arith)) ∙ told.0;
-              root = record { phase = told.1.phase; parties = told.1.root };
+              due = ap is_due (get_or-set_same s.calls i (turn_at s i).next Idle (let l = core.long in omega arith)) ∙ reported.0;
+              root = record { phase = reported.1.phase; parties = reported.1.root };
             };
       };
   ends = λ s past core h due may here. record {
@@ -172,26 +172,26 @@ kept i c = record {
   others = λ s past j r core h k n may here. record {
     story = (stories i c).others s past j r core h k n may here.story;
     latest = latest_stays i s (played s j r) past
-        (λ phase parties told. record {
-          due = ap is_due (get_or-set_other s.calls j i r.next Idle n) ∙ told.due;
+        (λ phase parties reported. record {
+          due = ap is_due (get_or-set_other s.calls j i r.next Idle n) ∙ reported.due;
           root = has_root s (played s j r) phase parties
-              (turn_keeps s i j r core h (owes_at s i core h told.due) k (λ q. n (sym q)) may) told.root;
+              (turn_keeps s i j r core h (owes_at s i core h reported.due) k (λ q. n (sym q)) may) reported.root;
         }) here.latest;
   };
   begins = λ s past j d core h n here. record {
     story = (stories i c).begins s past j d core h n here.story;
     latest = latest_stays i s (begun s j d) past
-        (λ phase parties told. record {
-          due = ap is_due (get_or-set_other s.calls j i (Begun d) Idle n) ∙ told.due;
-          root = record { phase = told.root.phase; parties = told.root.parties };
+        (λ phase parties reported. record {
+          due = ap is_due (get_or-set_other s.calls j i (Begun d) Idle n) ∙ reported.due;
+          root = record { phase = reported.root.phase; parties = reported.root.parties };
         }) here.latest;
   };
   enters = λ s past core h here. record {
     story = (stories i c).enters s past core h here.story;
     latest = latest_stays i s (with_token s) past
-        (λ phase parties told. record {
-          due = ap is_due (call_stays s i core h) ∙ told.due;
-          root = record { phase = told.root.phase; parties = told.root.parties };
+        (λ phase parties reported. record {
+          due = ap is_due (call_stays s i core h) ∙ reported.due;
+          root = record { phase = reported.root.phase; parties = reported.root.parties };
         }) here.latest;
   };
 }

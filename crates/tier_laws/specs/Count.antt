@@ -9,7 +9,7 @@ use Rattle.tier_core.specs.declared.call.Answer.TheVariants as answer
 use Rattle.tier_core.specs.declared.call.Played.{Played}
 use Rattle.tier_core.specs.declared.call.Step.{Step}
 use Rattle.tier_core.specs.declared.call.Step.TheVariants.{Go, Finish}
-use Rattle.tier_laws.specs.Told.{is_last}
+use Rattle.tier_laws.specs.Reports.{is_last}
 use Rattle.tier_laws.specs.Frame.{flat_of}
 use Rattle.tier_laws.specs.Moments.{Moment, Event, run_of, moments, AreEvents, AreOfCall}
 

@@ -13,7 +13,7 @@ use Rattle.tier_core.specs.Machine.{State, IsCore, opened, with_token}
 use Rattle.tier_core.specs.Run.{may_begin, begun, after, answer_to, answers, run, labels, AreSteps, IsFlat}
 use Rattle.tier_laws.specs.Frame.{flat_of}
 use Rattle.tier_laws.specs.Moments.{Takes, moments, AreOfCall}
-use Rattle.tier_laws.specs.Told.{LatestTells}
+use Rattle.tier_laws.specs.Reports.{LatestTells}
 
 pub record IsDriven (s : State) (steps : List Step) (f : Flat) : Type 0 where
   -- the labels are a run of the flat phaser, and what it leaves looks like the tree
@@ -22,7 +22,7 @@ pub record IsDriven (s : State) (steps : List Step) (f : Flat) : Type 0 where
   pub answered : (front : List Step) (x : Step) (back : List Step) → steps ≡ front ++ x ∷ back
       → answers steps s ≡ answers front s ++ answer_to (run front s) x ∷ answers back (after (run front s) x)
   -- and each answer of each call says what the table says of the flat phasers that the labels have reached
-  pub told : (front : List Step) (token : ℕ) (c : Call) (during back : List Step) → steps ≡ front ++ Begin token c ∷ (during ++ back)
+  pub reported : (front : List Step) (token : ℕ) (c : Call) (during back : List Step) → steps ≡ front ++ Begin token c ∷ (during ++ back)
       → may_begin (run front s) token c ≡ true → AreOfCall token (map (λ x. Takes x) during)
       → LatestTells token c (moments token (map (λ x. Takes x) during) (begun (run front s) token c) (flat_run (labels front s) f) [])
 

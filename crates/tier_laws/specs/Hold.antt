@@ -5,7 +5,7 @@ use Rattle.tier_steps.specs.declared.view.View.{View}
 use Rattle.tier_steps.specs.declared.view.Errand.TheVariants.{Rest, Advancing}
 use Rattle.tier_steps.specs.View.{absent}
 use Rattle.tier_steps.specs.Tally.{word_at, Compared}
-use Rattle.tier_steps.specs.Told.{is_under_way}
+use Rattle.tier_steps.specs.SpelledOut.{is_under_way}
 use Rattle.tier_steps.specs.Image.{is_climbing}
 use Rattle.tier_core.specs.Machine.{State, IsCore, view_at, call_at, is_due, turn_at}
 use Rattle.tier_core.specs.Run.{may_go}

@@ -14,7 +14,7 @@ use Rattle.tier_core.specs.Run.{may_begin, begun, IsCall}
 use Rattle.tier_laws.specs.Frame.{flat_of}
 use Rattle.tier_laws.specs.Moments.{Moment, Event, moments, AreEvents, AreOfCall}
 use Rattle.tier_laws.specs.Calls.{IsPlaced}
-use Rattle.tier_laws.specs.Told.{refusing}
+use Rattle.tier_laws.specs.Reports.{refusing}
 
 -- the steps that register members, or count an arrival or a departure
 abbrev pub is_counting : Kind → Bool

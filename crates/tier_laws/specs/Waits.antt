@@ -21,13 +21,13 @@ TheRootWaits =
     → HasRoot s phase parties → HasRoot (after s step) phase parties
 
 -- the token that was last to be asked to advance the root still has to, and the root is as the token's answer said
-pub record IsAsTold (s : State) (token phase parties : ℕ) : Type 0 where
+pub record IsAsReported (s : State) (token phase parties : ℕ) : Type 0 where
   pub due : is_due (call_at s.calls token) ≡ true
   pub root : HasRoot s phase parties
 
 abbrev pub LatestIsKept : ℕ → State → List Moment → Type 0
 LatestIsKept token s [] = Unit {0}
-LatestIsKept token s (m ∷ past) = (phase parties : ℕ) → m.turn.answer ≡ MustAdvance phase parties → IsAsTold s token phase parties
+LatestIsKept token s (m ∷ past) = (phase parties : ℕ) → m.turn.answer ≡ MustAdvance phase parties → IsAsReported s token phase parties
 
 -- Until a token takes the advance that its answer asks for, the root is in the phase and has the parties that the
 -- answer says.

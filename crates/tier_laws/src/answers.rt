@@ -2,7 +2,7 @@
 //! parameters that does nothing.
 
 ghost use Rattle.tier_laws.specs.Moments.{MomentsAreAnswers, MomentsLookLikeTheTree};
-ghost use Rattle.tier_laws.specs.Told.{AnswersTell};
+ghost use Rattle.tier_laws.specs.Reports.{AnswersTell};
 ghost use Rattle.tier_laws.specs.Driven.{RunsAnswerAsTheFlatPhaser, NewTreesAdvanceWhenAllArrived};
 ghost use Rattle.tier_laws.specs.Once.{CallsCountOnce, JoinsPlaceWhereAsked, RefusalsAreNoted};
 ghost use Rattle.tier_laws.specs.Count.{CallsAreShort, SixteenStepsAreEnough};

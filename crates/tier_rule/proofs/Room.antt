@@ -169,7 +169,7 @@ joins_root ps ws front back v t size tally needs =
     let a = tally.parties 0 tally.some (λ z. admits.going) in
     let b = are_parties ps (front ++ v ∷ back) in
     let c = sum_around members_at_root front back v in
-    let d = admits.room in omega arith
+    let d = admits.capacity in omega arith
 
 root_or_not : (kind : Kind) → ((size : ℕ) × (kind ≡ Join 0 0 size)) ⊎ ((tier size : ℕ) → kind ≡ Join tier 0 size → tier ≢ 0)
 root_or_not Look = inr (λ n s e. absurd (cc))
@@ -198,7 +198,7 @@ root_or_not Refresh = inr (λ n s e. absurd (cc))
 
 room_after : (ps : List ℕ) (ws : List Fields) (front back : List View) (v : View) (t : ℕ) (kind : Kind) → Tallies ps ws (front ++ v ∷ back) → Needs ps kind t (word_at ws t) v
     → sum_by members_at_root (front ++ v ∷ back) ≤ 65535 → sum_by members_at_root (front ++ view_after (parent_of ps t) kind t (word_at ws t) v ∷ back) ≤ 65535
-room_after ps ws front back v t kind tally needs room =
+room_after ps ws front back v t kind tally needs capacity =
     let u : View = view_after (parent_of ps t) kind t (word_at ws t) v in
     let c = sum_around members_at_root front back v in
     let d = sum_around members_at_root front back u in

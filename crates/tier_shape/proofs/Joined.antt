@@ -122,8 +122,8 @@ one_more (v ∷ ws) w piece left same = ap (λ ps. decimal v ∷ ps) (one_more w
 
 pub read_kept : (text kept piece : List ℕ) (left : List (List ℕ)) (deep : Bool) (w : ℕ) → IsReadTo text (piece ∷ left) kept deep → length kept < 6 → IsWidth w → decimal w ≡ piece
     → IsReadTo text left (kept ++ (w ∷ [])) deep
-read_kept text kept piece left true w so room is same = absurd (let f = so.full refl in omega (arith, f.0))
-read_kept text kept piece left false w so room is same = record {
+read_kept text kept piece left true w so capacity is same = absurd (let f = so.full refl in omega (arith, f.0))
+read_kept text kept piece left false w so capacity is same = record {
   widths = so.widths ++ (w ∷ []);
   each = all_push IsWidth so.widths w so.each is;
   split = so.split ∙ one_more so.widths w piece left same;
@@ -134,7 +134,7 @@ read_kept text kept piece left false w so room is same = record {
 
 pub read_over : (text kept piece : List ℕ) (left : List (List ℕ)) (deep : Bool) (w : ℕ) → IsReadTo text (piece ∷ left) kept deep → 6 ≤ length kept → IsWidth w → decimal w ≡ piece
     → IsReadTo text left kept true
-read_over text kept piece left deep w so room is same = record {
+read_over text kept piece left deep w so capacity is same = record {
   widths = so.widths ++ (w ∷ []);
   each = all_push IsWidth so.widths w so.each is;
   split = so.split ∙ one_more so.widths w piece left same;

@@ -3,5 +3,5 @@ pub mod Paths
 pub mod Leaves
 pub mod Faults
 pub mod Widths
-pub mod Told
+pub mod InText
 pub mod Preferred

@@ -6,7 +6,7 @@
 //!
 //! * `leaves.rt`: leaves by number (`specs/Preferred.antt`); `widths.rt`: texts of widths.
 //! * `specs/Parents.antt`: the shape as a list; `Paths.antt`, `Leaves.antt`, `Widths.antt`: what a text of widths
-//!   says; `Told.antt`: the same as a function.
+//!   says; `InText.antt`: the same as a function.
 #![tactic(auto)]
 
 ghost use Rattle.std.specs.Prelude.{◌≡◌, ℕ, ◌+◌, ◌<◌, ◌≤◌, ◌↔◌, ◌&&◌, List, length, false, nat_lt, if◌then◌else◌};
@@ -17,7 +17,7 @@ ghost use Rattle.tier_shape.specs.Faults.{fault_number, fault_name, IsRefusedTex
 ghost use Rattle.tier_shape.specs.Leaves.{IsLeaf, is_leaf_of, leaves_of, LeavesAreChildless, TreesHaveALeaf};
 ghost use Rattle.tier_shape.specs.Widths.{IsBadText, IsDeepText, IsWideText, IsTreeText, IsGoodText};
 ghost use Rattle.tier_shape.specs.Widths.{TextsSayOneTree, TreesHaveTheirLevels, LeavesAreTheLastLevel, TextsSayShapes};
-ghost use Rattle.tier_shape.specs.Told.{shape_told, TextsAreTold};
+ghost use Rattle.tier_shape.specs.InText.{shape_in_text, TextsAreSpelledOut};
 
 pub mod leaves;
 mod widths;
@@ -211,8 +211,8 @@ impl Shape {
         ensures not_earlier { IsErrOf result ShapeFault.ParentNotEarlier → ⊥ }
         ensures memory { (e : AllocError) → IsErrOf result (ShapeFault.Memory e) → IsGoodText text.now }
         ensures ok { IfOk result (λ shape. IsTreeText text.now shape × IsTiers shape) }
-        ensures told { IfOk result (λ shape. shape_told text.now ≡ Ok shape) }
-        ensures refused { IfErr result (λ fault. (fault_number fault ≡ None → ⊥) → shape_told text.now ≡ Err fault) }
+        ensures spelled_out { IfOk result (λ shape. shape_in_text text.now ≡ Ok shape) }
+        ensures refused { IfErr result (λ fault. (fault_number fault ≡ None → ⊥) → shape_in_text text.now ≡ Err fault) }
     {
         Self::from_width_bytes(alloc, text.as_bytes())
     }
@@ -226,8 +226,8 @@ impl Shape {
         ensures not_earlier { IsErrOf result ShapeFault.ParentNotEarlier → ⊥ }
         ensures memory { (e : AllocError) → IsErrOf result (ShapeFault.Memory e) → IsGoodText text.now }
         ensures ok { IfOk result (λ shape. IsTreeText text.now shape × IsTiers shape) }
-        ensures told { IfOk result (λ shape. shape_told text.now ≡ Ok shape) }
-        ensures refused { IfErr result (λ fault. (fault_number fault ≡ None → ⊥) → shape_told text.now ≡ Err fault) }
+        ensures spelled_out { IfOk result (λ shape. shape_in_text text.now ≡ Ok shape) }
+        ensures refused { IfErr result (λ fault. (fault_number fault ≡ None → ⊥) → shape_in_text text.now ≡ Err fault) }
     {
         read_shape(alloc, text)
     }
@@ -302,8 +302,8 @@ pub fn texts_say_one_tree()
 {}
 
 /// The definition of a text's tree as a function agrees with the one as a relation.
-pub fn texts_are_told()
-    ensures { TextsAreTold }
+pub fn texts_are_spelled_out()
+    ensures { TextsAreSpelledOut }
 {}
 
 /// The tree of some widths has one level for each width, and the children of each tier are numbered in a row.

@@ -100,7 +100,7 @@ fn push_level(
     children: u16,
 ) -> Result<(), AllocError>
     requires width { 0 < width }
-    requires room { first + children < 65536 }
+    requires capacity { first + children < 65536 }
     ensures { OnOk result (parents.new.items ≡ parents.old.items ++ map (λ place. first + place / width) (range_with_len 0 children)) }
 {
     for place in 0..children {

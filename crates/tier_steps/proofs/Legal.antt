@@ -46,7 +46,7 @@ passed_legal (suc t) Departure w legal = is_legal (left_one w) legal.phase (let 
     (λ h. let a = legal_open w legal (omega arith) in grind arith)
 
 pub joined_legal : (t n : ℕ) (w : Fields) → IsLegal w → 0 < n → Admits t n w → IsLegal (joined w n)
-joined_legal t n w legal some can = is_legal (joined w n) legal.phase can.room (λ e. absurd (omega arith))
+joined_legal t n w legal some can = is_legal (joined w n) legal.phase can.capacity (λ e. absurd (omega arith))
     (λ h. ⊎_elim
     (λ (z : w.parties ≡ 0). let a : (joined w n).unarrived ≡ n = ap (λ b. cond b n (w.unarrived + n)) (eq-eqb w.parties 0 z) in omega arith)
     (λ (k : w.parties ≢ 0).

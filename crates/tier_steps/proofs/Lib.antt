@@ -15,7 +15,7 @@ pub mod Due
 pub mod Label
 pub mod Closing
 pub mod FlatLaw
-pub mod Told
+pub mod SpelledOut
 pub mod Seats
 pub mod Known
 pub mod Start

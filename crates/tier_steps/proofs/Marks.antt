@@ -5,7 +5,7 @@ use Rattle.tier_steps.specs.Word.{Fields}
 use Rattle.tier_steps.specs.View.{View, parent_of}
 use Rattle.tier_steps.specs.Tally.{word_at}
 use Rattle.tier_steps.specs.Step.{Kind, Look, Glance, Refuse, Join, Arrive, Leave, Advance, Force, Claim, Settle, SettleBack, Climb, Refresh, looked, moved, dropped, is_going_back, view_after}
-use Rattle.tier_steps.specs.Marks.{sees_root, is_refusal, LedIsTold, NoteIsTold, MarksAreTold}
+use Rattle.tier_steps.specs.Marks.{sees_root, is_refusal, LedIsSpelledOut, NoteIsSpelledOut, MarksAreSpelledOut}
 use Rattle.tier_steps.specs.Due.{is_advance}
 use Rattle.tier_steps.proofs.Looking.{move_keeps}
 
@@ -33,10 +33,10 @@ looked_note w v =
     ]
 
 -- the tests of a step that neither advances, looks at the root nor refuses are all false
-abbrev Told : ℕ → Fields → Kind → View → View → Type 0
-Told t w kind old new = LedIsTold t kind old new × NoteIsTold t w kind old new
+abbrev SpelledOut : ℕ → Fields → Kind → View → View → Type 0
+SpelledOut t w kind old new = LedIsSpelledOut t kind old new × NoteIsSpelledOut t w kind old new
 
-led_same : (t : ℕ) (kind : Kind) (old new : View) → is_advance kind ≡ false → sees_root t kind ≡ false → new.led ≡ old.led → LedIsTold t kind old new
+led_same : (t : ℕ) (kind : Kind) (old new : View) → is_advance kind ≡ false → sees_root t kind ≡ false → new.led ≡ old.led → LedIsSpelledOut t kind old new
 led_same t kind old new plain blind e = record {
   advance = λ h. wrong (sym h ∙ plain);
   look = λ h. wrong (sym h ∙ blind);
@@ -44,7 +44,7 @@ led_same t kind old new plain blind e = record {
 }
 
 note_same : (t : ℕ) (w : Fields) (kind : Kind) (old new : View) → is_refusal kind ≡ false → sees_root t kind ≡ false → new.note ≡ old.note
-    → NoteIsTold t w kind old new
+    → NoteIsSpelledOut t w kind old new
 note_same t w kind old new taken blind e = record {
   refused = λ h. wrong (sym h ∙ taken);
   look = λ h _ _. wrong (sym h ∙ blind);
@@ -52,7 +52,7 @@ note_same t w kind old new taken blind e = record {
   other = λ _ _. e;
 }
 
-marks_of : (above : ℕ) (kind : Kind) (t : ℕ) (w : Fields) (v : View) → Told t w kind v (view_after above kind t w v)
+marks_of : (above : ℕ) (kind : Kind) (t : ℕ) (w : Fields) (v : View) → SpelledOut t w kind v (view_after above kind t w v)
 marks_of above Look t w v = (
   record { advance = λ h. wrong' h; look = λ _. looked_led w v; other = λ _ h. wrong h },
   record {
@@ -99,5 +99,5 @@ marks_of above (Climb passage) t w v =
     (led_same t (Climb passage) v v' refl refl refl, note_same t w (Climb passage) v v' refl refl refl)
 marks_of above Refresh t w v = (led_same t Refresh v v refl refl refl, note_same t w Refresh v v refl refl refl)
 
-pub marks_are_told : MarksAreTold
-marks_are_told ps ws v t kind = marks_of (parent_of ps t) kind t (word_at ws t) v
+pub marks_are_spelled_out : MarksAreSpelledOut
+marks_are_spelled_out ps ws v t kind = marks_of (parent_of ps t) kind t (word_at ws t) v

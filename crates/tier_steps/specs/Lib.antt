@@ -4,7 +4,7 @@ pub mod Tally
 pub mod Step
 pub mod Image
 pub mod Laws
-pub mod Told
+pub mod SpelledOut
 pub mod Known
 pub mod Start
 pub mod Due

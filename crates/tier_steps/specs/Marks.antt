@@ -18,19 +18,19 @@ is_refusal (Refuse tier claimed size) = true
 is_refusal _ = false
 
 -- The mark that a token led is set from an advance that it takes to its next look at the root.
-pub record LedIsTold (t : ℕ) (kind : Kind) (old new : View) : Type 0 where
+pub record LedIsSpelledOut (t : ℕ) (kind : Kind) (old new : View) : Type 0 where
   pub advance : is_advance kind ≡ true → new.led ≡ true
   pub look : sees_root t kind ≡ true → new.led ≡ false
   pub other : is_advance kind ≡ false → sees_root t kind ≡ false → new.led ≡ old.led
 
 -- A refusal is noted, with its tier and the word found there, until the next look at the root that is not part of releasing claimed tiers.
-pub record NoteIsTold (t : ℕ) (w : Fields) (kind : Kind) (old new : View) : Type 0 where
+pub record NoteIsSpelledOut (t : ℕ) (w : Fields) (kind : Kind) (old new : View) : Type 0 where
   pub refused : is_refusal kind ≡ true → new.note ≡ Some (t, w)
   pub look : sees_root t kind ≡ true → is_refusal kind ≡ false → is_going_back old.errand ≡ false → new.note ≡ None
   pub back : is_refusal kind ≡ false → is_going_back old.errand ≡ true → new.note ≡ old.note
   pub other : is_refusal kind ≡ false → sees_root t kind ≡ false → new.note ≡ old.note
 
-abbrev pub MarksAreTold : Type 0
-MarksAreTold =
+abbrev pub MarksAreSpelledOut : Type 0
+MarksAreSpelledOut =
     (parents : List ℕ) (words : List Fields) (v : View) (t : ℕ) (kind : Kind)
-    → LedIsTold t kind v (stepped_view parents words kind t v) × NoteIsTold t (word_at words t) kind v (stepped_view parents words kind t v)
+    → LedIsSpelledOut t kind v (stepped_view parents words kind t v) × NoteIsSpelledOut t (word_at words t) kind v (stepped_view parents words kind t v)

@@ -47,7 +47,7 @@ pub record Admits (t n : ℕ) (w : Fields) : Type 0 where
   pub going : w.ended ≡ false
   pub waits : 0 < w.unarrived
   pub empty : w.parties ≡ 0 → (t ≡ 0) × (w.unarrived ≡ 1)
-  pub room : w.parties + n ≤ 65535
+  pub capacity : w.parties + n ≤ 65535
 
 -- a tier refuses `n` parties: there is no room, nobody is unarrived, or the tier is being opened
 abbrev pub Refuses : ℕ → Fields → Type 0

@@ -2,12 +2,12 @@
 //! contract of a function without parameters that does nothing.
 
 ghost use Rattle.tier_steps.specs.Laws.{KindsKeepTally, KindsAreFlat};
-ghost use Rattle.tier_steps.specs.Told.{TallyIsTold};
+ghost use Rattle.tier_steps.specs.SpelledOut.{TallyIsSpelledOut};
 ghost use Rattle.tier_steps.specs.Known.{TallyIsKnown, StepsAreRunnable, SeatsKeepTally, RegroupingKeepsTally};
 ghost use Rattle.tier_steps.specs.Path.{AncestorsAreOnThePath, ClaimsAreListed, PathsFall};
 ghost use Rattle.tier_steps.specs.Seats.{SeatsAreFlat, JoinedSeatsTally, JoinedSeatsLookTheSame, NewSeatsTally, NewSeatsLookTheSame};
 ghost use Rattle.tier_steps.specs.Start.{StartTallies, EmptyTreesHaveNoMembers, NewTokensTally, NewTokensAreUnseen};
-ghost use Rattle.tier_steps.specs.Marks.{MarksAreTold};
+ghost use Rattle.tier_steps.specs.Marks.{MarksAreSpelledOut};
 ghost use Rattle.tier_steps.specs.Due.{AdvancesAreDue, QuietIsNotDue, QuietTreesAwaitSomebody, MembersAreSizes, UnarrivedHoldTheRoot, PhasesStay};
 
 /// Each kind of step keeps the tally. Whether a token may take it depends only on the word that it changes and on the
@@ -18,8 +18,8 @@ pub fn kinds_keep_tally()
 
 /// The mark `led` of a view is set from an advance that its token takes to its next look at the root. Its `note` is the
 /// tier and the word of its last refusal.
-pub fn marks_are_told()
-    ensures { MarksAreTold }
+pub fn marks_are_spelled_out()
+    ensures { MarksAreSpelledOut }
 {}
 
 /// Each kind of step is a step of the flat phaser that the tree represents, the step of its label. An advance is taken
@@ -29,8 +29,8 @@ pub fn kinds_are_flat()
 {}
 
 /// What the tally means: who the parties of a tier are, who claims it, and who advances the root.
-pub fn tally_is_told()
-    ensures { TallyIsTold }
+pub fn tally_is_spelled_out()
+    ensures { TallyIsSpelledOut }
 {}
 
 /// What the tally says of one view and the word of one tier.

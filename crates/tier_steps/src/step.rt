@@ -78,7 +78,7 @@ pub fn word_passed(tier: u16, passage: Passage, word: Word) -> Word
 
 /// Returns the word of a tier after `more` parties join.
 fn word_joined(word: Word, more: u32) -> Word
-    requires room { word.parties + more ≤ MOST_PARTIES }
+    requires capacity { word.parties + more ≤ MOST_PARTIES }
     ensures { result ≡ joined word more }
 {
     let unarrived = if word.parties == 0 {

@@ -61,12 +61,12 @@ completed n phase leaves counts places rest groups end before = subst (AreAtLeav
 
 -- a leaf whose answer stops the registrations
 stops_here : (n : Named) (phase leaf count : ℕ) (others more : List ℕ) (answer : GroupRegistered) → 0 < count → RegistersAllAtLast 16 n leaf count answer → IsNotIn phase answer → StopsAt 16 n phase (leaf ∷ others) (count ∷ more) [] leaf answer
-stops_here n phase leaf zero others more answer some' told not = absurd (omega arith)
-stops_here n phase leaf (suc k) others more answer some' told not = (refl, told, not)
+stops_here n phase leaf zero others more answer some' reported not = absurd (omega arith)
+stops_here n phase leaf (suc k) others more answer some' reported not = (refl, reported, not)
 
 pub stopped_at : (n : Named) (phase leaf count : ℕ) (leaves counts places rest others more : List ℕ) (groups : List GroupHeld) (answer : GroupRegistered) → places ≡ leaf ∷ others → rest ≡ count ∷ more → 0 < count → RegistersAllAtLast 16 n leaf count answer → IsNotIn phase answer → Completes (λ p r g. StopsAt 16 n phase p r g leaf answer) leaves counts places rest groups → StopsAt 16 n phase leaves counts groups leaf answer
-stopped_at n phase leaf count leaves counts places rest others more groups answer p r some' told not before =
-    let one = stops_here n phase leaf count others more answer some' told not in
+stopped_at n phase leaf count leaves counts places rest others more groups answer p r some' reported not before =
+    let one = stops_here n phase leaf count others more answer some' reported not in
     let two : StopsAt 16 n phase places (count ∷ more) [] leaf answer = subst (λ z. StopsAt 16 n phase z (count ∷ more) [] leaf answer) (sym p) one in
     let three : StopsAt 16 n phase places rest [] leaf answer = subst (λ z. StopsAt 16 n phase places z [] leaf answer) (sym r) two in
     subst (λ z. StopsAt 16 n phase leaves counts z leaf answer) (append-nil groups) (before [] three)
@@ -82,13 +82,13 @@ not_in phase (registered.Ended door shown) not = tt
 -- the leaves so far have room
 pub record HaveRoomSoFar (leaves counts places rest : List ℕ) : Type 0 where
   pub full : (tier members : ℕ) → IsFirstFull places rest tier members → IsFirstFull leaves counts tier members
-  pub room : HaveRoom rest → HaveRoom counts
+  pub capacity : HaveRoom rest → HaveRoom counts
   pub long : length rest ≤ length places
 
 pub room_after : (leaves counts places rest others more : List ℕ) (leaf count : ℕ) → places ≡ leaf ∷ others → rest ≡ count ∷ more → count ≤ 65535 → HaveRoomSoFar leaves counts places rest → HaveRoomSoFar leaves counts others more
 room_after leaves counts places rest others more leaf count p r few so = record {
   full = λ tier members f. so.full tier members (subst (λ z. IsFirstFull z rest tier members) (sym p) (subst (λ z. IsFirstFull (leaf ∷ others) z tier members) (sym r) (inr (few, f))));
-  room = λ room. so.room (subst HaveRoom (sym r) (few, room));
+  capacity = λ capacity. so.capacity (subst HaveRoom (sym r) (few, capacity));
   long = let l = so.long in let a = ap length p in let b = ap length r in omega (arith, l, a, b);
 }
 
@@ -97,7 +97,7 @@ full_here leaves counts places rest others more leaf count p r many so =
     so.full leaf count (subst (λ z. IsFirstFull z rest leaf count) (sym p) (subst (λ z. IsFirstFull (leaf ∷ others) z leaf count) (sym r) (inl (many, refl, refl))))
 
 pub room_at_end : (leaves counts places rest : List ℕ) → (length rest ≡ 0) ⊎ (length places ≡ 0) → HaveRoomSoFar leaves counts places rest → HaveRoom counts
-room_at_end leaves counts places [] end so = so.room tt
+room_at_end leaves counts places [] end so = so.capacity tt
 room_at_end leaves counts places (count ∷ more) (inl e) so = absurd (omega (arith, e))
 room_at_end leaves counts places (count ∷ more) (inr e) so = absurd (let l = so.long in omega (arith, e, l))
 

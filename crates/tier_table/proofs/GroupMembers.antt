@@ -23,15 +23,15 @@ tried_looked tries o = kept_looked tries o.first o.kept
 
 -- what is answered to a group that was looked at before
 pub joins_before : (tries n : ℕ) (a b : GroupHeld) (r : GroupJoined) → 0 < b.view.size → IsBefore a b → JoinsAllAtLast tries n b r → JoinsAllAtLast tries n a r
-joins_before tries n a b (group_joined.Joined new phase) some' p told = (told.0, before_then some' p told.1, told.2)
-joins_before tries n a b (group_joined.Full new parties) some' p told = (told.0, before_then some' p told.1, told.2)
-joins_before tries n a b (group_joined.AlreadyArrived new phase) some' p told = (told.0, before_then some' p told.1, told.2)
-joins_before tries n a b (group_joined.Ended new shown) some' p told = (told.0, before_then some' p told.1, told.2)
+joins_before tries n a b (group_joined.Joined new phase) some' p reported = (reported.0, before_then some' p reported.1, reported.2)
+joins_before tries n a b (group_joined.Full new parties) some' p reported = (reported.0, before_then some' p reported.1, reported.2)
+joins_before tries n a b (group_joined.AlreadyArrived new phase) some' p reported = (reported.0, before_then some' p reported.1, reported.2)
+joins_before tries n a b (group_joined.Ended new shown) some' p reported = (reported.0, before_then some' p reported.1, reported.2)
 
 pub leaves_before : (tries : ℕ) (a b : GroupHeld) (r : GroupLeft) → 0 < b.view.size → IsBefore a b → LeavesAllAtLast tries b r → LeavesAllAtLast tries a r
-leaves_before tries a b (group_left.Left door phase led) some' p told = (told.0, before_then some' p told.1, told.2)
-leaves_before tries a b (group_left.AlreadyArrived new phase) some' p told = (told.0, before_then some' p told.1, told.2)
-leaves_before tries a b (group_left.Ended new shown) some' p told = (told.0, before_then some' p told.1, told.2)
+leaves_before tries a b (group_left.Left door phase led) some' p reported = (reported.0, before_then some' p reported.1, reported.2)
+leaves_before tries a b (group_left.AlreadyArrived new phase) some' p reported = (reported.0, before_then some' p reported.1, reported.2)
+leaves_before tries a b (group_left.Ended new shown) some' p reported = (reported.0, before_then some' p reported.1, reported.2)
 
 -- the first token after tries that counted nothing
 pub first_before : (tier phase : ℕ) (old last : GroupHeld) → IsFirst tier phase old → IsBefore old last → IsFirst tier phase last
@@ -40,13 +40,13 @@ first_before tier phase old last f (inr l) = first_looked {old = old} {new = las
 
 -- a member that has just joined has not arrived
 pub not_arrived : {tier : ℕ} (tries n phase : ℕ) (group : GroupHeld) (crew : Holding) → IsJoined tier 1 crew.view → JoinsAllAtLast tries n (alone (split_once crew)) (group_joined.AlreadyArrived group phase) → ⊥
-not_arrived {tier} tries n phase group crew j told =
-    let f = first_before tier crew.view.phase (alone (split_once crew)) told.0 (first_joined crew j) told.1 in
-    let a = told.2.2 in
+not_arrived {tier} tries n phase group crew j reported =
+    let f = first_before tier crew.view.phase (alone (split_once crew)) reported.0 (first_joined crew j) reported.1 in
+    let a = reported.2.2 in
     ⊎_elim
-    (λ (z : (group.view.phase ≡ (told.0).view.phase) × (group.view.arrived ≡ (told.0).view.arrived)). let x = z.1 in let y = f.none in let w = a in absurd (omega arith))
+    (λ (z : (group.view.phase ≡ (reported.0).view.phase) × (group.view.arrived ≡ (reported.0).view.arrived)). let x = z.1 in let y = f.none in let w = a in absurd (omega arith))
     (λ z. let x = z.0 in let y = f.none in let w = f.members in absurd (omega arith))
-    told.2.0.looked.phase
+    reported.2.0.looked.phase
 
 registers : (tries : ℕ) (crew : Holding) (group : GroupHeld) (phase n : ℕ) → 0 < n → OthersJoin tries crew n (group_registered.Joined group phase) → OthersRegister tries crew n group phase
 registers tries crew group phase zero some' a = absurd (omega arith)
@@ -65,20 +65,20 @@ others_at_last tier k tries at n crew more f (group_registered.Ended door shown)
 
 -- an answer returns tokens of the same tree
 pub joins_tree : (tries n : ℕ) (a : GroupHeld) (r : GroupJoined) → JoinsAllAtLast tries n a r → (tokens_joined r).tree ≡ a.tree
-joins_tree tries n a (group_joined.Joined new phase) told = told.2.2.tree ∙ (told.2.1.tree ∙ before_tree {a = a} {b = told.0} told.1)
-joins_tree tries n a (group_joined.Full new parties) told = told.2.2.kept.tree ∙ (told.2.2.first.tree ∙ before_tree {a = a} {b = told.0} told.1)
-joins_tree tries n a (group_joined.AlreadyArrived new phase) told = told.2.0.tree ∙ before_tree {a = a} {b = told.0} told.1
-joins_tree tries n a (group_joined.Ended new shown) told = told.2.2.kept.tree ∙ (told.2.1.tree ∙ before_tree {a = a} {b = told.0} told.1)
+joins_tree tries n a (group_joined.Joined new phase) reported = reported.2.2.tree ∙ (reported.2.1.tree ∙ before_tree {a = a} {b = reported.0} reported.1)
+joins_tree tries n a (group_joined.Full new parties) reported = reported.2.2.kept.tree ∙ (reported.2.2.first.tree ∙ before_tree {a = a} {b = reported.0} reported.1)
+joins_tree tries n a (group_joined.AlreadyArrived new phase) reported = reported.2.0.tree ∙ before_tree {a = a} {b = reported.0} reported.1
+joins_tree tries n a (group_joined.Ended new shown) reported = reported.2.2.kept.tree ∙ (reported.2.1.tree ∙ before_tree {a = a} {b = reported.0} reported.1)
 
 pub leaves_tree : (tries : ℕ) (a : GroupHeld) (r : GroupLeft) → LeavesAllAtLast tries a r → tree_left r ≡ a.tree
-leaves_tree tries a (group_left.Left door phase led) told =
-    ⊎_elim (λ z. z.0.2.1.tree) (λ z. z.2.0 ∙ z.1.1.1.tree) told.2 ∙ before_tree {a = a} {b = told.0} told.1
-leaves_tree tries a (group_left.AlreadyArrived new phase) told = told.2.0 ∙ before_tree {a = a} {b = told.0} told.1
-leaves_tree tries a (group_left.Ended new shown) told = told.2.0 ∙ before_tree {a = a} {b = told.0} told.1
+leaves_tree tries a (group_left.Left door phase led) reported =
+    ⊎_elim (λ z. z.0.2.1.tree) (λ z. z.2.0 ∙ z.1.1.1.tree) reported.2 ∙ before_tree {a = a} {b = reported.0} reported.1
+leaves_tree tries a (group_left.AlreadyArrived new phase) reported = reported.2.0 ∙ before_tree {a = a} {b = reported.0} reported.1
+leaves_tree tries a (group_left.Ended new shown) reported = reported.2.0 ∙ before_tree {a = a} {b = reported.0} reported.1
 
 pub registers_tree : (tries tier k : ℕ) (n : Named) (r : GroupRegistered) → RegistersAllAtLast tries n tier k r → tree_registered r ≡ n
-registers_tree tries tier k n (group_registered.Joined group phase) told = told.4
-registers_tree tries tier k n (group_registered.Partly group parties) told = joins_tree tries (k - 1) (alone (split_once told.0)) (group_joined.Full group parties) told.2 ∙ told.1.0
-registers_tree tries tier k n (group_registered.PartlyEnded group shown) told = joins_tree tries (k - 1) (alone (split_once told.0)) (group_joined.Ended group shown) told.2 ∙ told.1.0
-registers_tree tries tier k n (group_registered.Full door parties) told = told.0
-registers_tree tries tier k n (group_registered.Ended door shown) told = told.0
+registers_tree tries tier k n (group_registered.Joined group phase) reported = reported.4
+registers_tree tries tier k n (group_registered.Partly group parties) reported = joins_tree tries (k - 1) (alone (split_once reported.0)) (group_joined.Full group parties) reported.2 ∙ reported.1.0
+registers_tree tries tier k n (group_registered.PartlyEnded group shown) reported = joins_tree tries (k - 1) (alone (split_once reported.0)) (group_joined.Ended group shown) reported.2 ∙ reported.1.0
+registers_tree tries tier k n (group_registered.Full door parties) reported = reported.0
+registers_tree tries tier k n (group_registered.Ended door shown) reported = reported.0

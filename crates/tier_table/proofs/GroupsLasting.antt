@@ -49,16 +49,16 @@ before_long {a} {b} (inr p) = each_long (Did HasLooked p.tries) a.tokens b.token
 
 -- what is answered to a group that was looked at before
 pub all_before : (tries : ℕ) (a b : GroupHeld) (r : GroupArrived) → 0 < b.view.size → IsBefore a b → ArrivesAllAtLast tries b r → ArrivesAllAtLast tries a r
-all_before tries a b (group_arrived.Done new phase led) some' p told = (told.0, before_then some' p told.1, told.2)
-all_before tries a b (group_arrived.Full new parties) some' p told = absurd told
-all_before tries a b (group_arrived.AlreadyArrived new phase) some' p told = (told.0, before_then some' p told.1, told.2)
-all_before tries a b (group_arrived.Ended new shown) some' p told = (told.0, before_then some' p told.1, told.2)
+all_before tries a b (group_arrived.Done new phase led) some' p reported = (reported.0, before_then some' p reported.1, reported.2)
+all_before tries a b (group_arrived.Full new parties) some' p reported = absurd reported
+all_before tries a b (group_arrived.AlreadyArrived new phase) some' p reported = (reported.0, before_then some' p reported.1, reported.2)
+all_before tries a b (group_arrived.Ended new shown) some' p reported = (reported.0, before_then some' p reported.1, reported.2)
 
 pub with_before : (tries joining leaving : ℕ) (a b : GroupHeld) (r : GroupArrived) → 0 < b.view.size → IsBefore a b → ArrivesWithAtLast tries joining leaving b r → ArrivesWithAtLast tries joining leaving a r
-with_before tries joining leaving a b (group_arrived.Done new phase led) some' p told = (told.0, before_then some' p told.1, told.2)
-with_before tries joining leaving a b (group_arrived.Full new parties) some' p told = (told.0, before_then some' p told.1, told.2)
-with_before tries joining leaving a b (group_arrived.AlreadyArrived new phase) some' p told = (told.0, before_then some' p told.1, told.2)
-with_before tries joining leaving a b (group_arrived.Ended new shown) some' p told = (told.0, before_then some' p told.1, told.2)
+with_before tries joining leaving a b (group_arrived.Done new phase led) some' p reported = (reported.0, before_then some' p reported.1, reported.2)
+with_before tries joining leaving a b (group_arrived.Full new parties) some' p reported = (reported.0, before_then some' p reported.1, reported.2)
+with_before tries joining leaving a b (group_arrived.AlreadyArrived new phase) some' p reported = (reported.0, before_then some' p reported.1, reported.2)
+with_before tries joining leaving a b (group_arrived.Ended new shown) some' p reported = (reported.0, before_then some' p reported.1, reported.2)
 
 -- a look, and then nothing that counts
 looked_on : {a b c : View} → IsLooked a b → IsSame b c → IsLooked a c
@@ -105,15 +105,15 @@ finished_tree h o c phase led f = whole_tree f.0 o c f.4 ∙ f.1.0
 
 -- an answer returns tokens of the same tree
 pub all_tree : (tries : ℕ) (a : GroupHeld) (r : GroupArrived) → ArrivesAllAtLast tries a r → (tokens_arrived r).tree ≡ a.tree
-all_tree tries a (group_arrived.Done new phase led) told =
-    ⊎_elim (λ z. z.0.0) (λ z. finished_tree z.0.token z.1 new phase led z.3 ∙ z.2.0) told.2 ∙ before_tree {a = a} {b = told.0} told.1
-all_tree tries a (group_arrived.Full new parties) told = absurd told
-all_tree tries a (group_arrived.AlreadyArrived new phase) told = told.2.0 ∙ before_tree {a = a} {b = told.0} told.1
-all_tree tries a (group_arrived.Ended new shown) told = told.2.0 ∙ before_tree {a = a} {b = told.0} told.1
+all_tree tries a (group_arrived.Done new phase led) reported =
+    ⊎_elim (λ z. z.0.0) (λ z. finished_tree z.0.token z.1 new phase led z.3 ∙ z.2.0) reported.2 ∙ before_tree {a = a} {b = reported.0} reported.1
+all_tree tries a (group_arrived.Full new parties) reported = absurd reported
+all_tree tries a (group_arrived.AlreadyArrived new phase) reported = reported.2.0 ∙ before_tree {a = a} {b = reported.0} reported.1
+all_tree tries a (group_arrived.Ended new shown) reported = reported.2.0 ∙ before_tree {a = a} {b = reported.0} reported.1
 
 pub with_tree : (tries joining leaving : ℕ) (a : GroupHeld) (r : GroupArrived) → ArrivesWithAtLast tries joining leaving a r → (tokens_arrived r).tree ≡ a.tree
-with_tree tries joining leaving a (group_arrived.Done new phase led) told =
-    ⊎_elim (λ z. z.0.2.same ∙ z.0.1.tree) (λ z. finished_tree z.0.token z.1 new phase led z.3 ∙ (z.2.2.same ∙ z.2.1.tree)) told.2 ∙ before_tree {a = a} {b = told.0} told.1
-with_tree tries joining leaving a (group_arrived.Full new parties) told = told.2.2.kept.tree ∙ (told.2.2.first.tree ∙ before_tree {a = a} {b = told.0} told.1)
-with_tree tries joining leaving a (group_arrived.AlreadyArrived new phase) told = told.2.0.tree ∙ before_tree {a = a} {b = told.0} told.1
-with_tree tries joining leaving a (group_arrived.Ended new shown) told = told.2.2.kept.tree ∙ (told.2.1.tree ∙ before_tree {a = a} {b = told.0} told.1)
+with_tree tries joining leaving a (group_arrived.Done new phase led) reported =
+    ⊎_elim (λ z. z.0.2.same ∙ z.0.1.tree) (λ z. finished_tree z.0.token z.1 new phase led z.3 ∙ (z.2.2.same ∙ z.2.1.tree)) reported.2 ∙ before_tree {a = a} {b = reported.0} reported.1
+with_tree tries joining leaving a (group_arrived.Full new parties) reported = reported.2.2.kept.tree ∙ (reported.2.2.first.tree ∙ before_tree {a = a} {b = reported.0} reported.1)
+with_tree tries joining leaving a (group_arrived.AlreadyArrived new phase) reported = reported.2.0.tree ∙ before_tree {a = a} {b = reported.0} reported.1
+with_tree tries joining leaving a (group_arrived.Ended new shown) reported = reported.2.2.kept.tree ∙ (reported.2.1.tree ∙ before_tree {a = a} {b = reported.0} reported.1)

@@ -69,7 +69,7 @@ pub record BeginsWith {F : Type 0} (shape : List ℕ) (phase : ℕ) (rule : Stor
   pub new : IsNew shape phase rule tree first
   pub split : OnlySplit first door
   pub opened : door.opened ≡ length groups
-  pub room : HaveRoom counts
+  pub capacity : HaveRoom counts
   pub members : AreAtLeaves tree.tree phase (leaves_of shape) counts groups
 
 -- Why a tree has not begun so: memory ran out, a leaf is to have more members than it has room for, or a leaf of a tree that was given the same has stopped.

@@ -121,7 +121,7 @@ pub fn register_leaves<R: Wait>(
     requires tiers { All (λ leaf. leaf < length tiers.now.key.shape) leaves.now }
     requires counts { length counts.now ≤ length leaves.now }
     ensures door { OnlySplit door.old door.new }
-    ensures room { IfOk result (λ groups. HaveRoom counts.now) }
+    ensures capacity { IfOk result (λ groups. HaveRoom counts.now) }
     ensures groups { IfOk result (λ groups. AreAtLeaves tiers.now phase leaves.now counts.now groups.items) }
     ensures opened { IfOk result (λ groups. door.new.opened ≡ door.old.opened + length groups.items) }
     ensures refused { IfErr result (λ fault. RegistersNot TRIES tiers.now phase leaves.now counts.now fault) }

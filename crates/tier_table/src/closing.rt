@@ -16,7 +16,7 @@ use tier_calls::tokens::Token;
 /// A tree that could not be closed, because memory ran out, and the tokens that were passed in. Both are as they were:
 /// the caller may go on with them, or try again.
 #[derive(Drop)]
-pub struct Unclosed<F: Fn(u32, u32) -> bool> {
+pub struct CloseTreeFault<F: Fn(u32, u32) -> bool> {
     /// The tree.
     pub tree: Tree<F>,
     /// The tokens.
@@ -37,7 +37,7 @@ pub struct ClosedAll {
 /// A tree that could not be closed, because memory ran out, and the tokens and groups that were passed in. All are as they
 /// were: the caller may go on with them, or try again.
 #[derive(Drop)]
-pub struct UnclosedAll<F: Fn(u32, u32) -> bool> {
+pub struct CloseAllFault<F: Fn(u32, u32) -> bool> {
     /// The tree.
     pub tree: Tree<F>,
     /// The tokens.
@@ -55,7 +55,7 @@ impl<F: Fn(u32, u32) -> bool> Tree<F> {
         alloc: Global,
         tokens: Vec<Token>,
         groups: Vec<Group>,
-    ) -> Result<ClosedAll, UnclosedAll<F>>
+    ) -> Result<ClosedAll, CloseAllFault<F>>
     where
         F: Drop,
         requires own { All (λ t. (held t).tree ≡ self.tree) tokens.items }
@@ -67,21 +67,21 @@ impl<F: Fn(u32, u32) -> bool> Tree<F> {
         ensures refused { IfErr result (λ u. (u.tree ≡ self) × (u.tokens ≡ tokens) × (u.groups ≡ groups)) }
     {
         let Ok(words) = Vec::with_capacity(alloc, self.tiers.shape().count()) else {
-            return Err(UnclosedAll {
+            return Err(CloseAllFault {
                 tree: self,
                 tokens,
                 groups,
             });
         };
         let Ok(mut plains) = Vec::with_capacity(alloc, tokens.len()) else {
-            return Err(UnclosedAll {
+            return Err(CloseAllFault {
                 tree: self,
                 tokens,
                 groups,
             });
         };
         let Ok(mut members) = Vec::with_capacity(alloc, groups.len()) else {
-            return Err(UnclosedAll {
+            return Err(CloseAllFault {
                 tree: self,
                 tokens,
                 groups,

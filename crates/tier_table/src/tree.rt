@@ -25,7 +25,7 @@ ghost use Rattle.tier_calls.specs.Waited.{PollWaited};
 ghost use Rattle.tier_calls.specs.Forces.{Forces, ForcedBy};
 ghost use Rattle.tier_calls.specs.Forces as forces;
 
-use crate::closing::{Closed, Unclosed};
+use crate::closing::{CloseTreeFault, Closed};
 use advance_rule::StoredAdvance;
 use std::alloc::{AllocError, Global};
 use std::marker::Model;
@@ -249,7 +249,7 @@ impl<F: Fn(u32, u32) -> bool> Tree<F> {
 
     /// Closes the tree, and returns the words of its tiers and what its tokens were. Pass the tokens of this tree that
     /// are left; those that were dropped count as others. If memory runs out, hands the tree and the tokens back.
-    pub fn close(self, alloc: Global, tokens: Vec<Token>) -> Result<Closed, Unclosed<F>>
+    pub fn close(self, alloc: Global, tokens: Vec<Token>) -> Result<Closed, CloseTreeFault<F>>
     where
         F: Drop,
         requires own { All (λ t. (held t).tree ≡ self.tree) tokens.items }
@@ -259,10 +259,10 @@ impl<F: Fn(u32, u32) -> bool> Tree<F> {
         ensures refused { IfErr result (λ u. (u.tree ≡ self) × (u.tokens ≡ tokens)) }
     {
         let Ok(words) = Vec::with_capacity(alloc, self.tiers.shape().count()) else {
-            return Err(Unclosed { tree: self, tokens });
+            return Err(CloseTreeFault { tree: self, tokens });
         };
         let Ok(mut plains) = Vec::with_capacity(alloc, tokens.len()) else {
-            return Err(Unclosed { tree: self, tokens });
+            return Err(CloseTreeFault { tree: self, tokens });
         };
         plain_all(&tokens, &mut plains);
         let Tree { tiers, rule: _ } = self;

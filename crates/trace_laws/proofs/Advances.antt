@@ -73,8 +73,8 @@ printed c f g b = advance_text (if b then Some (record { phase = f.phase; partie
 abbrev left : CountPlan → Flat → Bool → Flat
 left plan g b = if b then flat_step (Advance (count_ends plan g.phase (registered g))) g else g
 
-abbrev Told : CountPlan → Call → Flat → Flat → Bool → Type 0
-Told plan c f g b =
+abbrev Reported : CountPlan → Call → Flat → Flat → Bool → Type 0
+Reported plan c f g b =
     ((left plan g b).phase ≢ f.phase → printed c f g b ≡ advance_line f.phase (registered (left plan g b)) ++ reply_text (answer c f))
     × ((left plan g b).phase ≡ f.phase → printed c f g b ≡ reply_text (answer c f))
 
@@ -84,9 +84,9 @@ advanced_on : (plan : CountPlan) (c : Call) (f g : Flat) (ends b : Bool) → b �
 advanced_on plan c f g ends true e same = absurd (false≢true (sym e))
 advanced_on plan c f g ends false e same = (λ h. refl, λ h. absurd (moves-on g.phase (h ∙ sym same)))
 
-told : (plan : CountPlan) (c : Call) (f g : Flat) (b : Bool) → Keeps f g → g.due ≡ b → Told plan c f g b
-told plan c f g false k d = (λ h. absurd (h k.phase), λ h. refl)
-told plan c f g true k d = advanced_on plan c f g (count_ends plan g.phase (registered g)) g.ended (k.going d) k.phase
+reported : (plan : CountPlan) (c : Call) (f g : Flat) (b : Bool) → Keeps f g → g.due ≡ b → Reported plan c f g b
+reported plan c f g false k d = (λ h. absurd (h k.phase), λ h. refl)
+reported plan c f g true k d = advanced_on plan c f g (count_ends plan g.phase (registered g)) g.ended (k.going d) k.phase
 
 pub advances-first : AdvancesComeFirst
-advances-first plan c f d = told plan c f (called c f) (called c f).due (calls c f d) refl
+advances-first plan c f d = reported plan c f (called c f) (called c f).due (calls c f d) refl

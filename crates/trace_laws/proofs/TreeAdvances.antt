@@ -40,7 +40,7 @@ use Rattle.trace_text.specs.declared.tree_words.TreeCommand.{TreeCommand}
 use Rattle.trace_text.specs.declared.tree_words.TreeCommand.TheVariants as command
 use Rattle.trace_text.specs.Lines.{advance_line}
 use Rattle.trace_text.specs.TreeWords.{HasMembers}
-use Rattle.trace_text.specs.TreeAnswers.{call_of, has_tier, is_token, if_token, if_known, rest_text, rest_after, going_on, is_underway, advance_told, answer_text, tree_text, tree_after}
+use Rattle.trace_text.specs.TreeAnswers.{call_of, has_tier, is_token, if_token, if_known, rest_text, rest_after, going_on, is_underway, advance_reported, answer_text, tree_text, tree_after}
 use Rattle.trace_laws.specs.TreeAdvances.{root_of, last_answer, IsInOrder, ComesInOrder, AdvancesOfTreesComeFirst}
 use Rattle.trace_laws.proofs.Whole.{answered, text_step, after_step}
 
@@ -103,12 +103,12 @@ done-now s token core may =
 abbrev played_line : State → ℕ → List ℕ
 played_line s token = answer_text (answer.Played (played.Done (view_at s.views token).phase))
 
-finish-told : (s : State) (token : ℕ) (ended ends : Bool) (t : State) → (view_at s.views token).phase ≡ (root_of s).phase
+finish-reported : (s : State) (token : ℕ) (ended ends : Bool) (t : State) → (view_at s.views token).phase ≡ (root_of s).phase
     → root_of t ≡ word_after (cond ended Look (Advance ends)) 0 (root_of s) (view_at s.views token)
     → IsInOrder s t ((if not ended then advance_line (root_of s).phase (root_of s).parties else []) ++ played_line s token)
     (answer.Played (played.Done (view_at s.views token).phase))
-finish-told s token true ends t now e = alone s t (played_line s token) (answer.Played (played.Done (view_at s.views token).phase)) (ap (λ w. w.phase) e) refl
-finish-told s token false ends t now e = record {
+finish-reported s token true ends t now e = alone s t (played_line s token) (answer.Played (played.Done (view_at s.views token).phase)) (ap (λ w. w.phase) e) refl
+finish-reported s token false ends t now e = record {
   advances = λ n. ap (λ k. advance_line (root_of s).phase k ++ played_line s token) (sym (ap (λ w. w.parties) e));
   done = λ n. ap (λ k. answer.Played (played.Done k)) now;
   stays = λ same. absurd (moves-on (root_of s).phase (sym (ap (λ w. w.phase) e) ∙ same));
@@ -116,19 +116,19 @@ finish-told s token false ends t now e = record {
 
 -- a step with which a token goes on, and what is printed in front of its answer
 finish-first : (s : State) (token : ℕ) → IsCore s → may_finish s token ≡ true
-    → IsInOrder s (after s (step.Finish token)) (advance_told s token ++ answer_text (answer_to s (step.Finish token))) (answer_to s (step.Finish token))
+    → IsInOrder s (after s (step.Finish token)) (advance_reported s token ++ answer_text (answer_to s (step.Finish token))) (answer_to s (step.Finish token))
 finish-first s token core may =
     let r : Turn = finish_at s token (plan_ends s) in
     subst (λ (b : Bool). IsInOrder s (if b then played_by s token r else s)
     ((if b && not (root_of s).ended then advance_line (root_of s).phase (root_of s).parties else []) ++ answer_text (if b then answer.Played r.answer else answer.NotNow))
     (if b then answer.Played r.answer else answer.NotNow)) (sym may)
-    (finish-told s token (root_of s).ended (plan_ends s) (played_by s token r) (done-now s token core may) (finish-left s token core))
+    (finish-reported s token (root_of s).ended (plan_ends s) (played_by s token r) (done-now s token core may) (finish-left s token core))
 
-untold : (s : State) (token : ℕ) → may_finish s token ≡ false → advance_told s token ≡ []
-untold s token no_ = ap (λ b. if b && not (root_of s).ended then advance_line (root_of s).phase (root_of s).parties else []) no_
+unreported : (s : State) (token : ℕ) → may_finish s token ≡ false → advance_reported s token ≡ []
+unreported s token no_ = ap (λ b. if b && not (root_of s).ended then advance_line (root_of s).phase (root_of s).parties else []) no_
 
 unfinished : (s : State) (token : ℕ) → may_finish s token ≡ false
-    → IsInOrder s (after s (step.Finish token)) (advance_told s token ++ answer_text (answer_to s (step.Finish token))) (answer_to s (step.Finish token))
+    → IsInOrder s (after s (step.Finish token)) (advance_reported s token ++ answer_text (answer_to s (step.Finish token))) (answer_to s (step.Finish token))
 unfinished s token no_ =
     let r : Turn = finish_at s token (plan_ends s) in
     subst (λ (b : Bool). IsInOrder s (if b then played_by s token r else s)
@@ -136,9 +136,9 @@ unfinished s token no_ =
     (if b then answer.Played r.answer else answer.NotNow)) (sym no_) (alone s s (answer_text answer.NotNow) answer.NotNow refl refl)
 
 finish-order : (s : State) (token : ℕ) → IsCore s
-    → IsInOrder s (after s (step.Finish token)) (advance_told s token ++ answer_text (answer_to s (step.Finish token))) (answer_to s (step.Finish token))
+    → IsInOrder s (after s (step.Finish token)) (advance_reported s token ++ answer_text (answer_to s (step.Finish token))) (answer_to s (step.Finish token))
 finish-order s token core =
-    by_test (λ b. IsInOrder s (after s (step.Finish token)) (advance_told s token ++ answer_text (answer_to s (step.Finish token))) (answer_to s (step.Finish token)))
+    by_test (λ b. IsInOrder s (after s (step.Finish token)) (advance_reported s token ++ answer_text (answer_to s (step.Finish token))) (answer_to s (step.Finish token)))
     (may_finish s token) (finish-first s token core) (unfinished s token)
 
 goes-finish : (s : State) (token : ℕ) → may_finish s token ≡ true → going_on s token ≡ step.Finish token
@@ -148,15 +148,15 @@ goes-go : (s : State) (token : ℕ) → may_finish s token ≡ false → going_o
 goes-go s token no_ = ap (λ b. if b then step.Finish token else step.Go token) no_
 
 one-order : (s : State) (token : ℕ) → IsCore s
-    → IsInOrder s (after s (going_on s token)) (advance_told s token ++ answer_text (answer_to s (going_on s token))) (answer_to s (going_on s token))
+    → IsInOrder s (after s (going_on s token)) (advance_reported s token ++ answer_text (answer_to s (going_on s token))) (answer_to s (going_on s token))
 one-order s token core =
-    by_test (λ b. IsInOrder s (after s (going_on s token)) (advance_told s token ++ answer_text (answer_to s (going_on s token))) (answer_to s (going_on s token)))
+    by_test (λ b. IsInOrder s (after s (going_on s token)) (advance_reported s token ++ answer_text (answer_to s (going_on s token))) (answer_to s (going_on s token)))
     (may_finish s token)
-    (λ may. subst (λ (x : Step). IsInOrder s (after s x) (advance_told s token ++ answer_text (answer_to s x)) (answer_to s x)) (sym (goes-finish s token may))
+    (λ may. subst (λ (x : Step). IsInOrder s (after s x) (advance_reported s token ++ answer_text (answer_to s x)) (answer_to s x)) (sym (goes-finish s token may))
     (finish-first s token core may))
-    (λ no_. subst (λ (x : Step). IsInOrder s (after s x) (advance_told s token ++ answer_text (answer_to s x)) (answer_to s x)) (sym (goes-go s token no_))
-    (alone s (after s (step.Go token)) (advance_told s token ++ answer_text (answer_to s (step.Go token))) (answer_to s (step.Go token)) (go-stays s token core)
-    (ap (λ (l : List ℕ). l ++ answer_text (answer_to s (step.Go token))) (untold s token no_))))
+    (λ no_. subst (λ (x : Step). IsInOrder s (after s x) (advance_reported s token ++ answer_text (answer_to s x)) (answer_to s x)) (sym (goes-go s token no_))
+    (alone s (after s (step.Go token)) (advance_reported s token ++ answer_text (answer_to s (step.Go token))) (answer_to s (step.Go token)) (go-stays s token core)
+    (ap (λ (l : List ℕ). l ++ answer_text (answer_to s (step.Go token))) (unreported s token no_))))
 
 -- a token that has to advance has its answer at once
 finish-ends : (s : State) (token : ℕ) → may_finish s token ≡ true → is_underway (answer_to s (going_on s token)) ≡ false
@@ -191,7 +191,7 @@ carried s t t' l l' a a' e f g o = record {
 abbrev StepOrder : State → ℕ → ℕ → Bool → Type 0
 StepOrder s token n b =
     IsInOrder s (if b then rest_after n token (after s (going_on s token)) else after s (going_on s token))
-    (advance_told s token ++ (if b then rest_text n token (after s (going_on s token)) else answer_text (answer_to s (going_on s token))))
+    (advance_reported s token ++ (if b then rest_text n token (after s (going_on s token)) else answer_text (answer_to s (going_on s token))))
     (if b then last_answer n token (after s (going_on s token)) else answer_to s (going_on s token))
 
 from-step : (n token : ℕ) (s : State) → StepOrder s token n (is_underway (answer_to s (going_on s token)))
@@ -200,7 +200,7 @@ from-step n token s o =
     let b : Bool = is_underway (answer_to s (going_on s token)) in
     let next : State = after s (going_on s token) in
     carried s (if b then rest_after n token next else next) (rest_after (suc n) token s)
-    (advance_told s token ++ (if b then rest_text n token next else answer_text (answer_to s (going_on s token)))) (rest_text (suc n) token s)
+    (advance_reported s token ++ (if b then rest_text n token next else answer_text (answer_to s (going_on s token)))) (rest_text (suc n) token s)
     (if b then last_answer n token next else answer_to s (going_on s token)) (last_answer (suc n) token s)
     (after_step n token s) (text_step n token s) (last_step n token s) o
 
@@ -222,7 +222,7 @@ goes-on n token s core on rest =
     let here : IsInOrder s (rest_after n token next) (rest_text n token next) (last_answer n token next) =
     behind s next (rest_after n token next) (rest_text n token next) (last_answer n token next) same (rest kept) in
     from-step n token s (subst (λ (b : Bool). StepOrder s token n b) (sym on)
-    (subst (λ (l : List ℕ). IsInOrder s (rest_after n token next) (l ++ rest_text n token next) (last_answer n token next)) (sym (untold s token no_)) here))
+    (subst (λ (l : List ℕ). IsInOrder s (rest_after n token next) (l ++ rest_text n token next) (last_answer n token next)) (sym (unreported s token no_)) here))
 
 rest-order : (n token : ℕ) (s : State) → IsCore s → IsAnsweredWithin n token s → IsInOrder s (rest_after n token s) (rest_text n token s) (last_answer n token s)
 rest-order zero token s core within = absurd within
@@ -339,8 +339,8 @@ trees-advances-first s (command.Go token) tiers core is =
 trees-advances-first s (command.Finish token) tiers core is =
     let a : Answer = answer_to s (step.Finish token) in
     if-there s (command.Finish token) (is_token s token) a
-    (λ e. with-text s (after s (step.Finish token)) (advance_told s token ++ answer_text a) (tree_text (command.Finish token) s) a
-    (token-text s token (advance_told s token ++ answer_text a) e) (finish-order s token core))
+    (λ e. with-text s (after s (step.Finish token)) (advance_reported s token ++ answer_text a) (tree_text (command.Finish token) s) a
+    (token-text s token (advance_reported s token ++ answer_text a) e) (finish-order s token core))
     (λ e. ap (λ b. (root_of (if b then played_by s token (finish_at s token (plan_ends s)) else s)).phase)
     (false-and (nat_lt token (length s.views)) (is_due (call_at s.calls token)) e))
 trees-advances-first s (command.Run token) tiers core is =

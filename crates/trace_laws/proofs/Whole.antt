@@ -13,11 +13,11 @@ use Rattle.tier_core.specs.declared.call.Step.TheVariants as step
 use Rattle.tier_core.specs.Machine.{State, IsCore, call_at}
 use Rattle.tier_core.specs.Run.{is_idle, may_begin, begun, after, answer_to}
 use Rattle.tier_core.proofs.Runs.{begun_core}
-use Rattle.tier_laws.specs.Told.{is_last}
+use Rattle.tier_laws.specs.Reports.{is_last}
 use Rattle.tier_laws.specs.Count.{IsAnswered, IsAnsweredWithin}
 use Rattle.tier_laws.proofs.Along.{begun_known}
 use Rattle.tier_laws.proofs.Sixteen.{sixteen_steps_are_enough}
-use Rattle.trace_text.specs.TreeAnswers.{call_of, has_tier, is_token, rest_text, rest_after, going_on, is_underway, advance_told, answer_text}
+use Rattle.trace_text.specs.TreeAnswers.{call_of, has_tier, is_token, rest_text, rest_after, going_on, is_underway, advance_reported, answer_text}
 use Rattle.trace_laws.specs.Enough.{RunsReachTheirAnswer, CallsDoneReachTheirAnswer}
 
 -- a call that has its last answer doesn't go on
@@ -45,7 +45,7 @@ no_more b f t = let bad : true ≡ false = sym t ∙ f in absurd cc
 
 pub text_step : (steps token : ℕ) (s : State)
     → rest_text (suc steps) token s
-    ≡ advance_told s token
+    ≡ advance_reported s token
     ++ (if is_underway (answer_to s (going_on s token)) then rest_text steps token (after s (going_on s token)) else answer_text (answer_to s (going_on s token)))
 unfolding rest_text
 text_step steps token s = refl
@@ -62,7 +62,7 @@ one_text : (n more token : ℕ) (s : State)
 one_text n more token s h =
     let e : suc n + more ≡ suc (n + more) = omega arith in
     ap (λ (k : ℕ). rest_text k token s) e ∙ text_step (n + more) token s
-    ∙ ap (λ (l : List ℕ). advance_told s token ++ l)
+    ∙ ap (λ (l : List ℕ). advance_reported s token ++ l)
     (same_part (is_underway (answer_to s (going_on s token))) (rest_text (n + more) token (after s (going_on s token)))
     (rest_text n token (after s (going_on s token))) (answer_text (answer_to s (going_on s token))) h)
     ∙ sym (text_step n token s)

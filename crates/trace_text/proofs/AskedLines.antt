@@ -41,13 +41,13 @@ room_said false count tokens e =
     let more : count < 4096 = grind (arith, common_steps) in
     (more, λ b. absurd (let wrong : ◌≡◌ {A = Bool} false true = b in cc))
 
-room_told : (brings : Bool) (count tokens : ℕ) → count < 4096 → (brings ≡ true → tokens < 256) → has_room brings count tokens ≡ true
-room_told true count tokens h t =
+room_reported : (brings : Bool) (count tokens : ℕ) → count < 4096 → (brings ≡ true → tokens < 256) → has_room brings count tokens ≡ true
+room_reported true count tokens h t =
     let few : tokens < 256 = t refl in
     let more : nat_lt count 4096 ≡ true = grind (arith, common_steps) in
-    let room : nat_lt tokens 256 ≡ true = grind (arith, common_steps) in
-    rw (more, room) refl
-room_told false count tokens h t = let more : nat_lt count 4096 ≡ true = grind (arith, common_steps) in rw more refl
+    let capacity : nat_lt tokens 256 ≡ true = grind (arith, common_steps) in
+    rw (more, capacity) refl
+room_reported false count tokens h t = let more : nat_lt count 4096 ≡ true = grind (arith, common_steps) in rw more refl
 
 -- Commands of any kind: what the words of a line say, and whether a command brings a token in.
 module _ {C : Type 0} (says : List Word → Result C Code) (brings : C → Bool) where
@@ -65,7 +65,7 @@ module _ {C : Type 0} (says : List Word → Result C Code) (brings : C → Bool)
       chosen false x c h e = absurd (let wrong : ◌≡◌ {A = Result C Code} (Err TooMany) (Ok c) = e in cc)
 
   counted_is : (count tokens : ℕ) (r : Result C Code) (c : C) → r ≡ Ok c → count < 4096 → (brings c ≡ true → tokens < 256) → counted brings count tokens r ≡ Ok c
-  counted_is count tokens r c e h t = let room = room_told (brings c) count tokens h t in rw (e, room) refl
+  counted_is count tokens r c e h t = let capacity = room_reported (brings c) count tokens h t in rw (e, capacity) refl
 
   -- the commands of lines, after this many
   pub record SaysMore (count tokens : ℕ) (lines : List (List ℕ)) (cs : List C) : Type 0 where
@@ -94,11 +94,11 @@ module _ {C : Type 0} (says : List Word → Result C Code) (brings : C → Bool)
   more_new : (c : C) (ds : List C) (tokens : ℕ) → (brings c ≡ true → tokens < 256)
       → (0 < length (filter brings ds) → tokens_with brings tokens c + length (filter brings ds) ≤ 256)
       → 0 < length (filter brings (c ∷ ds)) → tokens + length (filter brings (c ∷ ds)) ≤ 256
-  more_new c ds tokens room most some = chosen (brings c) refl (length (filter brings ds)) refl
+  more_new c ds tokens capacity most some = chosen (brings c) refl (length (filter brings ds)) refl
     where
       chosen : (b : Bool) → brings c ≡ b → (n : ℕ) → length (filter brings ds) ≡ n → tokens + length (filter brings (c ∷ ds)) ≤ 256
       chosen true h zero e =
-          let few : tokens < 256 = room h in
+          let few : tokens < 256 = capacity h in
           rw h (let this : length (filter brings ds) ≡ 0 = e in omega arith)
       chosen true h (suc n) e =
           let all : tokens + 1 + length (filter brings ds) ≤ 256 = rw h at (most (omega arith)) in
@@ -147,9 +147,9 @@ module _ {C : Type 0} (says : List Word → Result C Code) (brings : C → Bool)
     where
       one_more : (count tokens : ℕ) (l : List ℕ) (ls : List (List ℕ)) (c : C) (ds : List C) → is_skipped (words_of l) ≡ false → says (words_of l) ≡ Ok c
           → count < 4096 → (brings c ≡ true → tokens < 256) → SaysMore (count + 1) (tokens_with brings tokens c) ls ds → SaysMore count tokens (l ∷ ls) (c ∷ ds)
-      one_more count tokens l ls c ds keep here room free rest = let size : 1 + length ds ≡ length (c ∷ ds) = omega arith in record {
+      one_more count tokens l ls c ds keep here capacity free rest = let size : 1 + length ds ≡ length (c ∷ ds) = omega arith in record {
         each = ap (map says) (kept_line l ls keep) ∙ ap (λ (r : Result C Code). r ∷ map says (kept ls)) here ∙ ap (λ (rs : List (Result C Code)). Ok c ∷ rs) rest.each;
-        few = λ h. more_few ds (c ∷ ds) count size room rest.few;
+        few = λ h. more_few ds (c ∷ ds) count size capacity rest.few;
         new = λ h. more_new c ds tokens free rest.new h;
       }
 
@@ -157,29 +157,29 @@ module _ {C : Type 0} (says : List Word → Result C Code) (brings : C → Bool)
   no_commands [] e = refl
   no_commands (c ∷ cs) e = absurd (let wrong : ◌≡◌ {A = List (Result C Code)} [] (Ok c ∷ oks cs) = e in cc)
 
-  pub commands_told : (line count tokens : ℕ) (ls : List (List ℕ)) (cs : List C) → SaysMore count tokens ls cs → commands_from says brings line count tokens ls ≡ Ok cs
-  commands_told line count tokens [] cs s = let none : cs ≡ [] = no_commands cs s.each in rw none refl
-  commands_told line count tokens (l ∷ ls) cs s = ⊎_elim
+  pub commands_reported : (line count tokens : ℕ) (ls : List (List ℕ)) (cs : List C) → SaysMore count tokens ls cs → commands_from says brings line count tokens ls ≡ Ok cs
+  commands_reported line count tokens [] cs s = let none : cs ≡ [] = no_commands cs s.each in rw none refl
+  commands_reported line count tokens (l ∷ ls) cs s = ⊎_elim
       (λ (skip : is_skipped (words_of l) ≡ true).
       let rest : SaysMore count tokens ls cs = record { each = sym (ap (map says) (kept_skipped l ls skip)) ∙ s.each; few = s.few; new = s.new } in
-      next_line line count tokens l ls skip ∙ commands_told (line + 1) count tokens ls cs rest)
+      next_line line count tokens l ls skip ∙ commands_reported (line + 1) count tokens ls cs rest)
       (λ (keep : is_skipped (words_of l) ≡ false).
-      this_line line count tokens l ls keep ∙ one_more line count tokens l ls cs (sym (ap (map says) (kept_line l ls keep)) ∙ s.each) s.few s.new (λ n m ds t. commands_told (line + 1) n m ls ds t))
+      this_line line count tokens l ls keep ∙ one_more line count tokens l ls cs (sym (ap (map says) (kept_line l ls keep)) ∙ s.each) s.few s.new (λ n m ds t. commands_reported (line + 1) n m ls ds t))
       (either (is_skipped (words_of l)))
     where
       one_more : (line count tokens : ℕ) (l : List ℕ) (ls : List (List ℕ)) (cs : List C) → says (words_of l) ∷ map says (kept ls) ≡ oks cs
           → (0 < length cs → count + length cs ≤ 4096) → (0 < length (filter brings cs) → tokens + length (filter brings cs) ≤ 256)
           → ((n m : ℕ) (ds : List C) → SaysMore n m ls ds → commands_from says brings (line + 1) n m ls ≡ Ok ds)
           → (at line (counted brings count tokens (says (words_of l))) >>= λ c. commands_from says brings (line + 1) (count + 1) (tokens_with brings tokens c) ls >>= λ ds. Ok (c ∷ ds)) ≡ Ok cs
-      one_more line count tokens l ls [] e few new told = absurd (let wrong : ◌≡◌ {A = List (Result C Code)} (says (words_of l) ∷ map says (kept ls)) [] = e in cc)
-      one_more line count tokens l ls (c ∷ ds) e few new told =
+      one_more line count tokens l ls [] e few new reported = absurd (let wrong : ◌≡◌ {A = List (Result C Code)} (says (words_of l) ∷ map says (kept ls)) [] = e in cc)
+      one_more line count tokens l ls (c ∷ ds) e few new reported =
           let here : says (words_of l) ≡ Ok c = cc in
           let rest : map says (kept ls) ≡ oks ds = cc in
           let most : count + length (c ∷ ds) ≤ 4096 = few (omega arith) in
           let less = less_new c ds tokens new in
           let first : counted brings count tokens (says (words_of l)) ≡ Ok c = counted_is count tokens (says (words_of l)) c here (omega arith) less.0 in
           let second : commands_from says brings (line + 1) (count + 1) (tokens_with brings tokens c) ls ≡ Ok ds =
-          told (count + 1) (tokens_with brings tokens c) ds (record { each = rest; few = λ h. omega arith; new = less.1 }) in
+          reported (count + 1) (tokens_with brings tokens c) ds (record { each = rest; few = λ h. omega arith; new = less.1 }) in
           rw (first, second) refl
 
   -- from the first line on
@@ -192,11 +192,11 @@ module _ {C : Type 0} (says : List Word → Result C Code) (brings : C → Bool)
       whole zero most f = omega arith
       whole (suc n) most f = let all : 0 + suc n ≤ most = f (omega arith) in omega arith
 
-  pub all_told : (line : ℕ) (ls : List (List ℕ)) (cs : List C) → SaysCommands says brings (kept ls) cs → commands_from says brings line 0 0 ls ≡ Ok cs
-  all_told line ls cs s =
+  pub all_reported : (line : ℕ) (ls : List (List ℕ)) (cs : List C) → SaysCommands says brings (kept ls) cs → commands_from says brings line 0 0 ls ≡ Ok cs
+  all_reported line ls cs s =
       let few : length cs ≤ 4096 = s.few in
       let tokens : length (filter brings cs) ≤ 256 = s.tokens in
-      commands_told line 0 0 ls cs (record { each = s.each; few = λ h. omega arith; new = λ h. omega arith })
+      commands_reported line 0 0 ls cs (record { each = s.each; few = λ h. omega arith; new = λ h. omega arith })
 
 -- the place of the head
 skipped_head : (line : ℕ) (l : List ℕ) (ls : List (List ℕ)) → is_skipped (words_of l) ≡ true → asked_from line (l ∷ ls) ≡ asked_from (line + 1) ls
@@ -222,11 +222,11 @@ below_said words (OfBarrier h) line ls asked e b =
     let is : ◌≡◌ {A = Asked} (AsksBarrier h cs.0) asked = cc in
     rw (← is) (e, all_said barrier_command_of brings_none line ls cs.0 cs.1)
 
-below_told : (words : List Word) (line : ℕ) (ls : List (List ℕ)) (asked : Asked) → SaysAsked words (kept ls) asked
+below_reported : (words : List Word) (line : ℕ) (ls : List (List ℕ)) (asked : Asked) → SaysAsked words (kept ls) asked
     → (at line (head_of words) >>= λ head. below head (line + 1) ls) ≡ Ok asked
-below_told words line ls (AsksPhaser h cs) s = let told = all_told command_of brings_none (line + 1) ls cs s.1 in rw (s.0, told) refl
-below_told words line ls (AsksTree h cs) s = let told = all_told tree_command_of brings_token (line + 1) ls cs s.1 in rw (s.0, told) refl
-below_told words line ls (AsksBarrier h cs) s = let told = all_told barrier_command_of brings_none (line + 1) ls cs s.1 in rw (s.0, told) refl
+below_reported words line ls (AsksPhaser h cs) s = let reported = all_reported command_of brings_none (line + 1) ls cs s.1 in rw (s.0, reported) refl
+below_reported words line ls (AsksTree h cs) s = let reported = all_reported tree_command_of brings_token (line + 1) ls cs s.1 in rw (s.0, reported) refl
+below_reported words line ls (AsksBarrier h cs) s = let reported = all_reported barrier_command_of brings_none (line + 1) ls cs s.1 in rw (s.0, reported) refl
 
 -- and the head above them
 pub asked_said : (line : ℕ) (ls : List (List ℕ)) (asked : Asked) → asked_from line ls ≡ Ok asked → SayAsked (kept ls) asked
@@ -241,19 +241,19 @@ asked_said line (l ∷ ls) asked e = ⊎_elim
     let result : SayAsked (kept (l ∷ ls)) asked = rw (kept_line l ls keep) (record { head = words_of l; rest = kept ls; whole = refl; says = says }) in result)
     (either (is_skipped (words_of l)))
 
-pub asked_told : (line : ℕ) (ls : List (List ℕ)) (asked : Asked) → SayAsked (kept ls) asked → asked_from line ls ≡ Ok asked
-asked_told line [] asked s = absurd (let wrong : ◌≡◌ {A = List (List Word)} [] (s.head ∷ s.rest) = s.whole in cc)
-asked_told line (l ∷ ls) asked s = ⊎_elim
+pub asked_reported : (line : ℕ) (ls : List (List ℕ)) (asked : Asked) → SayAsked (kept ls) asked → asked_from line ls ≡ Ok asked
+asked_reported line [] asked s = absurd (let wrong : ◌≡◌ {A = List (List Word)} [] (s.head ∷ s.rest) = s.whole in cc)
+asked_reported line (l ∷ ls) asked s = ⊎_elim
     (λ (skip : is_skipped (words_of l) ≡ true).
     let rest : SayAsked (kept ls) asked = record { head = s.head; rest = s.rest; whole = sym (kept_skipped l ls skip) ∙ s.whole; says = s.says } in
-    skipped_head line l ls skip ∙ asked_told (line + 1) ls asked rest)
+    skipped_head line l ls skip ∙ asked_reported (line + 1) ls asked rest)
     (λ (keep : is_skipped (words_of l) ≡ false).
     let parts : words_of l ∷ kept ls ≡ s.head ∷ s.rest = sym (kept_line l ls keep) ∙ s.whole in
     let first : s.head ≡ words_of l = cc in
     let others : s.rest ≡ kept ls = cc in
     let here : SaysAsked (words_of l) (kept ls) asked = rw (first, others) at s.says in
-    head_here line l ls keep ∙ below_told (words_of l) line ls asked here)
+    head_here line l ls keep ∙ below_reported (words_of l) line ls asked here)
     (either (is_skipped (words_of l)))
 
 pub lines_law : LinesSayWhatIsAsked
-lines_law line lines asked = (asked_said line lines asked, asked_told line lines asked)
+lines_law line lines asked = (asked_said line lines asked, asked_reported line lines asked)

@@ -168,19 +168,19 @@ TreeSaid words c = (words ≡ tree_spelled c) × TreeHasRoom c
 
 numbered-said : (w key : Word) (ws : List Word) (make : ℕ → TreeCommand) (c : TreeCommand) → w ≡ key
     → ((k : ℕ) → tree_spelled (make k) ≡ key ∷ decimal k ∷ []) → ((k : ℕ) → IsSmall k → TreeHasRoom (make k)) → made make (one_number ws) ≡ Ok c → TreeSaid (w ∷ ws) c
-numbered-said w key ws make c e spell room h =
+numbered-said w key ws make c e spell capacity h =
     let a = from-made make (one_number ws) c h in
     let s = one-said ws a.0 a.1 in
-    subst (TreeSaid (w ∷ ws)) a.2 (ap (λ (x : Word). x ∷ ws) e ∙ ap (λ (x : List Word). key ∷ x) s.0 ∙ sym (spell a.0), room a.0 s.1)
+    subst (TreeSaid (w ∷ ws)) a.2 (ap (λ (x : Word). x ∷ ws) e ∙ ap (λ (x : List Word). key ∷ x) s.0 ∙ sym (spell a.0), capacity a.0 s.1)
 
 called-said : (w key : Word) (ws : List Word) (make : ℕ → TokenCall → TreeCommand) (c : TreeCommand) → w ≡ key
     → ((k : ℕ) (t : TokenCall) → tree_spelled (make k t) ≡ key ∷ decimal k ∷ call_spelled t)
     → ((k : ℕ) (t : TokenCall) → IsSmall k → CallHasRoom t → TreeHasRoom (make k t)) → made (λ p. make p.0 p.1) (token_and_call ws) ≡ Ok c → TreeSaid (w ∷ ws) c
-called-said w key ws make c e spell room h =
+called-said w key ws make c e spell capacity h =
     let a = from-made (λ p. make p.0 p.1) (token_and_call ws) c h in
     let s = token-said ws a.0 a.1 in
     subst (TreeSaid (w ∷ ws)) a.2
-    (ap (λ (x : Word). x ∷ ws) e ∙ ap (λ (x : List Word). key ∷ x) s.0 ∙ sym (spell a.0.0 a.0.1), room a.0.0 a.0.1 s.1.0 s.1.1)
+    (ap (λ (x : Word). x ∷ ws) e ∙ ap (λ (x : List Word). key ∷ x) s.0 ∙ sym (spell a.0.0 a.0.1), capacity a.0.0 a.0.1 s.1.0 s.1.1)
 
 tree-formed-said : (w : Word) (ws : List Word) (f : Form) (c : TreeCommand) → w ≡ tree_first f → tree_formed (Some f) ws ≡ Ok c → TreeSaid (w ∷ ws) c
 tree-formed-said w [] form.Token c e h = let same : tree.Token ≡ c = cc in subst (TreeSaid (w ∷ [])) same (ap (λ (x : Word). x ∷ []) e, tt)
@@ -221,10 +221,10 @@ barrier-form-said w f =
 caller-said : (w key : Word) (ws : List Word) (make : ℕ → BarrierCommand) (c : BarrierCommand) → w ≡ key
     → ((k : ℕ) → barrier_spelled (make k) ≡ key ∷ decimal k ∷ []) → ((k : ℕ) → IsSmall k → BarrierHasRoom (make k)) → made make (one_number ws) ≡ Ok c
     → BarrierSaid (w ∷ ws) c
-caller-said w key ws make c e spell room h =
+caller-said w key ws make c e spell capacity h =
     let a = from-made make (one_number ws) c h in
     let s = one-said ws a.0 a.1 in
-    subst (BarrierSaid (w ∷ ws)) a.2 (ap (λ (x : Word). x ∷ ws) e ∙ ap (λ (x : List Word). key ∷ x) s.0 ∙ sym (spell a.0), room a.0 s.1)
+    subst (BarrierSaid (w ∷ ws)) a.2 (ap (λ (x : Word). x ∷ ws) e ∙ ap (λ (x : List Word). key ∷ x) s.0 ∙ sym (spell a.0), capacity a.0 s.1)
 
 barrier-formed-said : (w : Word) (ws : List Word) (f : BarrierForm) (c : BarrierCommand) → FormSaid w f → barrier_formed (Some f) ws ≡ Ok c → BarrierSaid (w ∷ ws) c
 barrier-formed-said w ws barrier_form.Await c e h = caller-said w (codes "await") ws (λ k. barrier.Call (gate.Await k)) c e (λ k. refl) (λ k a. a) h

@@ -5,7 +5,7 @@ use Rattle.phaser_word.specs.Fields.{Fields}
 use Rattle.phaser_word.specs.Phase.{shown_of}
 use Rattle.tier_shape.specs.declared.ShapeFault.{ShapeFault}
 use Rattle.tier_shape.specs.declared.ShapeFault.TheVariants as shape
-use Rattle.tier_shape.specs.Told.{shape_told}
+use Rattle.tier_shape.specs.InText.{shape_in_text}
 use Rattle.tier_steps.specs.Word.{is_empty, is_being_opened}
 use Rattle.tier_steps.specs.Tally.{word_at}
 use Rattle.tier_core.specs.declared.call.Call.{Call}
@@ -99,8 +99,8 @@ abbrev pub if_known : State → ℕ → TokenCall → List ℕ → List ℕ
 if_known s token c text = if_token s token (if has_tier s c then text else codes "no tier\n")
 
 -- An advance that a token takes now is printed before its answer: the phase that ends, and the root's parties.
-abbrev pub advance_told : State → ℕ → List ℕ
-advance_told s token =
+abbrev pub advance_reported : State → ℕ → List ℕ
+advance_reported s token =
     if may_finish s token && not (word_at s.words 0).ended then advance_line (word_at s.words 0).phase (word_at s.words 0).parties else []
 
 -- how a token goes on with its call: by the advance that it must take, or by a step
@@ -117,7 +117,7 @@ is_underway _ = false
 unfoldable pub rest_text : ℕ → ℕ → State → List ℕ
 rest_text zero token s = []
 rest_text (suc steps) token s =
-    advance_told s token
+    advance_reported s token
     ++ (if is_underway (answer_to s (going_on s token)) then rest_text steps token (after s (going_on s token)) else answer_text (answer_to s (going_on s token)))
 
 unfoldable pub rest_after : ℕ → ℕ → State → State
@@ -130,7 +130,7 @@ abbrev pub tree_text : TreeCommand → State → List ℕ
 tree_text command.Token s = number_line (codes "token ") (length s.views)
 tree_text (command.Begin token c) s = if_known s token c (answer_text (answer_to s (step.Begin token (call_of c))))
 tree_text (command.Go token) s = if_token s token (answer_text (answer_to s (step.Go token)))
-tree_text (command.Finish token) s = if_token s token (advance_told s token ++ answer_text (answer_to s (step.Finish token)))
+tree_text (command.Finish token) s = if_token s token (advance_reported s token ++ answer_text (answer_to s (step.Finish token)))
 tree_text (command.Run token) s = if_token s token (rest_text 16 token s)
 tree_text (command.Do token c) s =
     if_known s token c (if may_begin s token (call_of c) then rest_text 16 token (after s (step.Begin token (call_of c))) else codes "not now\n")
@@ -160,4 +160,4 @@ made_text (Err fault) head commands = shape_fault_text fault
 made_text (Ok parents) head commands = run_text tree_text tree_after commands (opened parents head.phase head.plan)
 
 abbrev pub tree_opened_text : TreeAsked → List TreeCommand → List ℕ
-tree_opened_text head commands = made_text (shape_told head.widths) head commands
+tree_opened_text head commands = made_text (shape_in_text head.widths) head commands

@@ -51,7 +51,7 @@ fn push_command<F: Fn(u32, u32) -> bool>(
 {
     match command {
         PhaserCommand::Call(call) => {
-            let (reply, advance) = phaser.call_told(call);
+            let (reply, advance) = phaser.call_reported(call);
             push_advance(out, advance)?;
             push_reply(out, reply)
         }

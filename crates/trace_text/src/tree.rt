@@ -44,7 +44,7 @@ fn call_of(core: &Core, call: TokenCall) -> Option<Call>
 
 // Appends the line of the advance that a token takes now, if it takes one.
 fn push_advance_of(out: &mut Vec<u8>, core: &Core, token: usize) -> Result<(), AllocError>
-    ensures { OnOk result (out.new.items ≡ out.old.items ++ spec.advance_told core.now token) }
+    ensures { OnOk result (out.new.items ≡ out.old.items ++ spec.advance_reported core.now token) }
 {
     let root = core.root();
     if !core.must_advance(token) || root.ended {
@@ -184,7 +184,7 @@ fn push_do(
 
 // Takes the advance of a token, and appends what it prints.
 fn push_finish(out: &mut Vec<u8>, core: &mut Core, token: usize) -> Result<(), AllocError>
-    ensures text { OnOk result (out.new.items ≡ out.old.items ++ spec.advance_told core.old token ++ spec.answer_text (answer_to core.old (step.Finish token))) }
+    ensures text { OnOk result (out.new.items ≡ out.old.items ++ spec.advance_reported core.old token ++ spec.answer_text (answer_to core.old (step.Finish token))) }
     ensures after { OnOk result (core.new ≡ after core.old (step.Finish token)) }
 {
     push_advance_of(out, core, token)?;

@@ -22,7 +22,7 @@ use crate::start::{Setup, start_all};
 use crate::tree::WorkerTree;
 use advance_rule::{EndPlan, StoredAction, StoredAdvance};
 use cyclic_gate::CyclicGate;
-use pass_list::list::PassList;
+use pass_list::list::TicketList;
 use program_stretches::{Left, Stretches};
 use programs::program::TaskLoop;
 use std::alloc::{AllocError, Global};
@@ -125,8 +125,8 @@ fn prepared(
 {
     let leaves = shape.leaves(alloc)?;
     let counts = start_counts(alloc, leaves.len(), count)?;
-    let stretches = PassList::new(alloc)?;
-    let stops = PassList::new(alloc)?;
+    let stretches = TicketList::new(alloc)?;
+    let stops = TicketList::new(alloc)?;
     Ok((leaves, counts, Lists { stretches, stops }))
 }
 

@@ -87,7 +87,7 @@ fn may_start<S: Starter, J: Running>(
     started: &mut Vec<JoinHandle<Stopped<J>>>,
 ) -> Result<(), Refused>
     ensures refused { (workers : ℕ) → k < workers → IfErr result (IsOfWorkers workers) }
-    ensures room { OnOk result (vec_len started.new < vec_capacity started.new) }
+    ensures capacity { OnOk result (vec_len started.new < vec_capacity started.new) }
     ensures same { vec_len started.new ≡ vec_len started.old }
 {
     if !starter.may_start(k) {

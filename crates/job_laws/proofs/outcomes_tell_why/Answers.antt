@@ -1,4 +1,4 @@
-use Rattle.job_laws.proofs.Told.{outcomes}
+use Rattle.job_laws.proofs.Accounted.{outcomes}
 use Rattle.job_laws.proofs.outcomes_tell_why.Goals as goal
 
 pub returns : goal.returns

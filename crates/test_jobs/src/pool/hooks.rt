@@ -25,7 +25,7 @@ start p 0
 // What a gate gets in that job: the numbers of the path, each one more, and the superstep, as digits. They rise.
 const SEGMENTS: [u64; 9] = [10, 11, 12, 111, 112, 122, 123, 132, 133];
 
-// Tasks that turn, or put, as often as they are told in superstep 0. In superstep 1 those that turned less turn more, and one that
+// Tasks that turn, or put, as often as they are asked to in superstep 0. In superstep 1 those that turned less turn more, and one that
 // put has nothing to do. 35 turns are more statements than 20 puts, but fewer than 20 puts and what these put.
 const TURNS: &str = "bsp 1
 array a 1

@@ -8,7 +8,7 @@ use std::alloc::{AllocError, Global};
 use std::process::Abort;
 use std::test::Fail;
 use tier_shape::Shape;
-use tier_table::closing::{Closed, ClosedToken, Unclosed};
+use tier_table::closing::{CloseTreeFault, Closed, ClosedToken};
 use tier_table::joining::Registered;
 use tier_table::tokens::{Crew, Door, Token};
 use tier_table::tree::Tree;
@@ -65,7 +65,7 @@ fn closes<F: Fn(u32, u32) -> bool + Drop>(
     alloc: Global,
     tree: Tree<F>,
     tokens: Vec<Token>,
-) -> Result<Closed, Unclosed<F>>
+) -> Result<Closed, CloseTreeFault<F>>
     requires own { All (λ t. (held t).tree ≡ tree.tree) tokens.items }
 {
     match tree.close(alloc, tokens) {

@@ -19,7 +19,7 @@ enum Seen {
 }
 
 // Returns what an answer says; for a path, how many numbers it has.
-fn told(answer: &Answer) -> Seen {
+fn reported(answer: &Answer) -> Seen {
     match answer {
         Answer::Took(path) => Seen::Took(path.len()),
         Answer::Delivered => Seen::Delivered,
@@ -102,9 +102,9 @@ const RUNS: [(&str, &str, &[Row]); 4] = [
 ];
 
 // Returns true if these answers say what the rows say.
-fn are_told(answers: &[Answer], rows: &[Row]) -> bool {
+fn are_reported(answers: &[Answer], rows: &[Row]) -> bool {
     for (answer, (_, want)) in answers.iter().zip(rows) {
-        if told(answer) != *want {
+        if reported(answer) != *want {
             return false;
         }
     }
@@ -127,7 +127,7 @@ fn is_so(alloc: Global, text: &str, widths: &str, rows: &[Row]) -> Result<bool, 
     };
     let steps = steps_of(alloc, rows)?;
     let answers = answers_of(alloc, &job, widths, 10, &steps)?;
-    Ok(are_told(&answers, rows))
+    Ok(are_reported(&answers, rows))
 }
 
 #[test]

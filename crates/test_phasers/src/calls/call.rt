@@ -9,8 +9,8 @@ ghost use Rattle.test_phasers.specs.Holders.{tree_of};
 use crate::calls::ask::Ask;
 use crate::calls::holders::Holder;
 use std::process::Abort;
+use test_groups::reported::Reported;
 use test_groups::rules::Rule;
-use test_groups::told::Told;
 use tier_table::arriving::{Arrived, Resumed};
 use tier_table::forcing::Forced;
 use tier_table::joining::{Opened, Registered};
@@ -26,49 +26,52 @@ fn register(
     tier: u16,
     members: u32,
     tries: u32,
-) -> (Holder, Told)
+) -> (Holder, Reported)
     requires own { door.tree ≡ tree.now.tree }
     ensures { tree_of result.0 ≡ tree.now.tree }
 {
     assert!(rt; usize::from(tier) < tree.shape().count() && members > 0 && members < 65536);
     match tree.register(door, tier, members, tries) {
-        Registered::Joined(crew, phase) => (Holder::Inside(crew), Told::Joined(phase)),
-        Registered::Held(door, phase, cause) => (Holder::Outside(door), Told::Held(phase, cause)),
-        Registered::Full(door, count) => (Holder::Outside(door), Told::Full(count)),
-        Registered::Ended(door, shown) => (Holder::Outside(door), Told::Ended(shown)),
-        Registered::Busy(door) => (Holder::Outside(door), Told::Busy),
-        Registered::Owing(opening) => (Holder::Opening(opening), Told::Owing),
+        Registered::Joined(crew, phase) => (Holder::Inside(crew), Reported::Joined(phase)),
+        Registered::Held(door, phase, cause) => (
+            Holder::Outside(door),
+            Reported::Held(phase, cause),
+        ),
+        Registered::Full(door, count) => (Holder::Outside(door), Reported::Full(count)),
+        Registered::Ended(door, shown) => (Holder::Outside(door), Reported::Ended(shown)),
+        Registered::Busy(door) => (Holder::Outside(door), Reported::Busy),
+        Registered::Owing(opening) => (Holder::Opening(opening), Reported::Owing),
     }
 }
 
 // Ends the tree by force.
-fn force(tree: &Tree<Rule>, mut door: Door, tries: u32) -> (Holder, Told)
+fn force(tree: &Tree<Rule>, mut door: Door, tries: u32) -> (Holder, Reported)
     requires own { door.tree ≡ tree.now.tree }
     ensures { tree_of result.0 ≡ tree.now.tree }
 {
-    let told = match tree.force(&mut door, tries) {
-        Forced::Ended(shown) => Told::Ended(shown),
-        Forced::Busy => Told::Busy,
+    let reported = match tree.force(&mut door, tries) {
+        Forced::Ended(shown) => Reported::Ended(shown),
+        Forced::Busy => Reported::Busy,
     };
-    (Holder::Outside(door), told)
+    (Holder::Outside(door), reported)
 }
 
 // A registration goes on.
-fn open(tree: &Tree<Rule>, opening: Opening, tries: u32) -> (Holder, Told)
+fn open(tree: &Tree<Rule>, opening: Opening, tries: u32) -> (Holder, Reported)
     requires own { opening.token.tree ≡ tree.now.tree }
     ensures { tree_of result.0 ≡ tree.now.tree }
 {
     match tree.resume_opening(opening, tries) {
-        Opened::Joined(crew, phase) => (Holder::Inside(crew), Told::Joined(phase)),
-        Opened::Held(door, phase, cause) => (Holder::Outside(door), Told::Held(phase, cause)),
-        Opened::Full(door, count) => (Holder::Outside(door), Told::Full(count)),
-        Opened::Ended(door, shown) => (Holder::Outside(door), Told::Ended(shown)),
-        Opened::Owing(opening) => (Holder::Opening(opening), Told::Owing),
+        Opened::Joined(crew, phase) => (Holder::Inside(crew), Reported::Joined(phase)),
+        Opened::Held(door, phase, cause) => (Holder::Outside(door), Reported::Held(phase, cause)),
+        Opened::Full(door, count) => (Holder::Outside(door), Reported::Full(count)),
+        Opened::Ended(door, shown) => (Holder::Outside(door), Reported::Ended(shown)),
+        Opened::Owing(opening) => (Holder::Opening(opening), Reported::Owing),
     }
 }
 
 // An arrival or a departure.
-fn pass(tree: &Tree<Rule>, crew: Crew, ask: Ask, tries: u32) -> (Holder, Told)
+fn pass(tree: &Tree<Rule>, crew: Crew, ask: Ask, tries: u32) -> (Holder, Reported)
     requires own { crew.tree ≡ tree.now.tree }
     requires rule { Answers (pre tree.now.rule.closure) (post tree.now.rule.closure) (end_ends_at tree.now.rule.plan) }
     ensures { tree_of result.0 ≡ tree.now.tree }
@@ -79,40 +82,43 @@ fn pass(tree: &Tree<Rule>, crew: Crew, ask: Ask, tries: u32) -> (Holder, Told)
         tree.arrive(crew, tries)
     };
     match arrived {
-        Arrived::Done(crew, phase, led) => (Holder::Inside(crew), Told::Done(phase, led)),
-        Arrived::Left(door, phase, led) => (Holder::Outside(door), Told::Left(phase, led)),
-        Arrived::AlreadyArrived(crew, phase) => (Holder::Inside(crew), Told::AlreadyArrived(phase)),
-        Arrived::Ended(crew, shown) => (Holder::Inside(crew), Told::Ended(shown)),
-        Arrived::Busy(crew) => (Holder::Inside(crew), Told::Busy),
-        Arrived::Owing(errand) => (Holder::Owing(errand), Told::Owing),
+        Arrived::Done(crew, phase, led) => (Holder::Inside(crew), Reported::Done(phase, led)),
+        Arrived::Left(door, phase, led) => (Holder::Outside(door), Reported::Left(phase, led)),
+        Arrived::AlreadyArrived(crew, phase) => (
+            Holder::Inside(crew),
+            Reported::AlreadyArrived(phase),
+        ),
+        Arrived::Ended(crew, shown) => (Holder::Inside(crew), Reported::Ended(shown)),
+        Arrived::Busy(crew) => (Holder::Inside(crew), Reported::Busy),
+        Arrived::Owing(errand) => (Holder::Owing(errand), Reported::Owing),
     }
 }
 
 // An arrival or a departure goes on.
-fn resume(tree: &Tree<Rule>, errand: Errand, tries: u32) -> (Holder, Told)
+fn resume(tree: &Tree<Rule>, errand: Errand, tries: u32) -> (Holder, Reported)
     requires own { errand.token.tree ≡ tree.now.tree }
     requires rule { Answers (pre tree.now.rule.closure) (post tree.now.rule.closure) (end_ends_at tree.now.rule.plan) }
     ensures { tree_of result.0 ≡ tree.now.tree }
 {
     match tree.resume(errand, tries) {
-        Resumed::Done(crew, phase, led) => (Holder::Inside(crew), Told::Done(phase, led)),
-        Resumed::Left(door, phase, led) => (Holder::Outside(door), Told::Left(phase, led)),
-        Resumed::Owing(errand) => (Holder::Owing(errand), Told::Owing),
+        Resumed::Done(crew, phase, led) => (Holder::Inside(crew), Reported::Done(phase, led)),
+        Resumed::Left(door, phase, led) => (Holder::Outside(door), Reported::Left(phase, led)),
+        Resumed::Owing(errand) => (Holder::Owing(errand), Reported::Owing),
     }
 }
 
 // Sees whether a crew's phase has passed.
-fn poll(tree: &Tree<Rule>, mut crew: Crew) -> (Holder, Told)
+fn poll(tree: &Tree<Rule>, mut crew: Crew) -> (Holder, Reported)
     requires own { crew.tree ≡ tree.now.tree }
     ensures { tree_of result.0 ≡ tree.now.tree }
 {
-    let told = match tree.poll(&mut crew) {
-        Polled::Passed(phase) => Told::Passed(phase),
-        Polled::Waiting => Told::Waiting,
-        Polled::Here(phase) => Told::Here(phase),
-        Polled::Ended(shown) => Told::Ended(shown),
+    let reported = match tree.poll(&mut crew) {
+        Polled::Passed(phase) => Reported::Passed(phase),
+        Polled::Waiting => Reported::Waiting,
+        Polled::Here(phase) => Reported::Here(phase),
+        Polled::Ended(shown) => Reported::Ended(shown),
     };
-    (Holder::Inside(crew), told)
+    (Holder::Inside(crew), reported)
 }
 
 /// One call, with at most `tries` tries. A poll makes one at most, whatever `tries` is.
@@ -122,7 +128,7 @@ pub fn call(
     holder: Holder,
     ask: Ask,
     tries: u32,
-) -> (Holder, Told)
+) -> (Holder, Reported)
     requires own { tree_of holder ≡ tree.now.tree }
     requires rule { Answers (pre tree.now.rule.closure) (post tree.now.rule.closure) (end_ends_at tree.now.rule.plan) }
     ensures { tree_of result.0 ≡ tree.now.tree }

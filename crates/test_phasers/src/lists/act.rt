@@ -11,8 +11,8 @@ use crate::calls::holders::Holder;
 use crate::lists::mirror::Mirror;
 use std::process::Abort;
 use test_groups::numbers::Numbers;
+use test_groups::reported::Reported;
 use test_groups::rules::Rule;
-use test_groups::told::Told;
 use tier_table::tree::Tree;
 
 // Returns what a token is asked next; late in a list this may be the end by force, too.
@@ -68,10 +68,10 @@ pub fn act(
     let mut again = false;
     for _ in 0..8 {
         let (tries, on_the_tree) = next_tries(numbers, ask, again);
-        let (next, told) = call(rt, tree, holder, ask, on_the_tree);
+        let (next, reported) = call(rt, tree, holder, ask, on_the_tree);
         holder = next;
-        assert!(rt; mirror.told(rt, token, ask, tries, again) == told);
-        if told != Told::Busy {
+        assert!(rt; mirror.reported(rt, token, ask, tries, again) == reported);
+        if reported != Reported::Busy {
             return holder;
         }
         again = true;

@@ -6,7 +6,7 @@ ghost use Rattle.tier_core.specs.Run.{IsCall};
 use crate::calls::ask::Ask;
 use std::process::Abort;
 use test_groups::machine::{stepped, view_of};
-use test_groups::told::Told;
+use test_groups::reported::Reported;
 use tier_core::call::{Call, Played};
 use tier_core::tree::Core;
 use tier_steps::view::{Errand, View};
@@ -42,21 +42,21 @@ fn changed(before: &[u64; 9], after: &[u64; 9]) -> Option<(usize, u64)> {
 }
 
 // Returns what an answer says.
-fn told_by(ask: Ask, view: View, answer: Played) -> Told {
+fn reported_by(ask: Ask, view: View, answer: Played) -> Reported {
     match answer {
-        Played::GoesOn | Played::MustAdvance(_, _) => Told::Owing,
+        Played::GoesOn | Played::MustAdvance(_, _) => Reported::Owing,
         Played::Done(phase) => match ask {
-            Ask::Register(_, _) | Ask::Open => Told::Joined(phase),
-            Ask::Poll => Told::Here(phase),
-            _ if view.size == 0 => Told::Left(phase, view.led),
-            _ => Told::Done(phase, view.led),
+            Ask::Register(_, _) | Ask::Open => Reported::Joined(phase),
+            Ask::Poll => Reported::Here(phase),
+            _ if view.size == 0 => Reported::Left(phase, view.led),
+            _ => Reported::Done(phase, view.led),
         },
-        Played::Passed(phase) => Told::Passed(phase),
-        Played::Waiting => Told::Waiting,
-        Played::Held(phase, cause) => Told::Held(phase, cause),
-        Played::Full(count) => Told::Full(count),
-        Played::AlreadyArrived(phase) => Told::AlreadyArrived(phase),
-        Played::Ended(shown) => Told::Ended(shown),
+        Played::Passed(phase) => Reported::Passed(phase),
+        Played::Waiting => Reported::Waiting,
+        Played::Held(phase, cause) => Reported::Held(phase, cause),
+        Played::Full(count) => Reported::Full(count),
+        Played::AlreadyArrived(phase) => Reported::AlreadyArrived(phase),
+        Played::Ended(shown) => Reported::Ended(shown),
     }
 }
 
@@ -184,20 +184,20 @@ impl Mirror {
     }
 
     /// Returns what a token gets from a call with `tries` tries, or from one that was busy.
-    pub(crate) fn told(
+    pub(crate) fn reported(
         &mut self,
         rt: &impl Abort,
         token: usize,
         ask: Ask,
         tries: u32,
         again: bool,
-    ) -> Told {
+    ) -> Reported {
         let answer = self.steps(rt, token, ask, tries, again);
         let view = view_of(&self.core, token);
         match answer {
-            Some(answer) => told_by(ask, view, answer),
-            None if matches!(view.errand, Errand::Rest) => Told::Busy,
-            None => Told::Owing,
+            Some(answer) => reported_by(ask, view, answer),
+            None if matches!(view.errand, Errand::Rest) => Reported::Busy,
+            None => Reported::Owing,
         }
     }
 }

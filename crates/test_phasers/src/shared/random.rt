@@ -9,7 +9,7 @@ ghost use Rattle.test_phasers.specs.Holders.{tree_of};
 use crate::calls::ask::Ask;
 use crate::calls::call::{at_rest, call};
 use crate::calls::holders::Holder;
-use crate::shared::told::{may_be_told, tells};
+use crate::shared::reported::{may_be_reported, tells};
 use crate::trees::{left, planted, put};
 use advance_rule::{EndPlan, StoredAdvance};
 use std::alloc::Global;
@@ -18,8 +18,8 @@ use std::thread;
 use std::thread::Threads;
 use test_groups::counts::tally;
 use test_groups::numbers::Numbers;
+use test_groups::reported::Reported;
 use test_groups::rules::{Rule, WHEN_EMPTY, is_empty};
-use test_groups::told::Told;
 use tier_shape::Shape;
 use tier_table::tokens::{Door, Token};
 use tier_table::tree::Tree;
@@ -73,9 +73,9 @@ fn turn(rt: &impl Abort, tree: &Tree<Rule>, holder: Holder, ask: Ask, tries: u32
     ensures { tree_of result.0 ≡ tree.now.tree }
 {
     let before = tells(&holder);
-    let (holder, told) = call(rt, tree, holder, ask, tries);
-    assert!(rt; may_be_told(ask, before, tells(&holder), told));
-    let led = matches!(told, Told::Done(_, true) | Told::Left(_, true));
+    let (holder, reported) = call(rt, tree, holder, ask, tries);
+    assert!(rt; may_be_reported(ask, before, tells(&holder), reported));
+    let led = matches!(reported, Reported::Done(_, true) | Reported::Left(_, true));
     (holder, led)
 }
 
@@ -241,7 +241,7 @@ fn game<R: Threads + Abort + Sync>(
 }
 
 #[test]
-fn random_calls_are_told_as_the_table_says(rt: HostRuntime) {
+fn random_calls_are_reported_as_the_table_says(rt: HostRuntime) {
     let mut led = 0u32;
     for seed in 0..4 {
         for widths in ["flat", "2", "2x2x2", "1x1x1x1x1x1", "3x3"] {

@@ -9,13 +9,13 @@ use crate::calls::ask::Ask;
 use crate::calls::call::call;
 use crate::calls::holders::{Holder, Three};
 use std::process::Abort;
+use test_groups::reported::Reported;
 use test_groups::rules::Rule;
-use test_groups::told::Told;
 use tier_table::joining::Registered;
 use tier_table::tree::Tree;
 
 /// A row of a worked run: the token that is asked, what it is asked, with how many tries, and what it has to answer.
-pub type Row = (usize, Ask, u32, Told);
+pub type Row = (usize, Ask, u32, Reported);
 
 // A token is asked as this row says, and gives its answer.
 fn asked(rt: &impl Abort, tree: &Tree<Rule>, holder: Holder, number: usize, row: Row) -> Holder
@@ -24,8 +24,8 @@ fn asked(rt: &impl Abort, tree: &Tree<Rule>, holder: Holder, number: usize, row:
     ensures { tree_of result ≡ tree.now.tree }
 {
     let (_token, ask, tries, want) = row;
-    let (holder, told) = call(rt, tree, holder, ask, tries);
-    assert!(rt; told == want, "row {number}");
+    let (holder, reported) = call(rt, tree, holder, ask, tries);
+    assert!(rt; reported == want, "row {number}");
     holder
 }
 
@@ -47,12 +47,12 @@ fn beside(
         panic!(rt; "no door");
     };
     assert!(rt; crew.unarrived() > 0);
-    let (other, told) = match tree.join_here(&mut crew, door, 1, row.2) {
-        Registered::Busy(door) => (Holder::Outside(door), Told::Busy),
-        Registered::Joined(new, phase) => (Holder::Inside(new), Told::Joined(phase)),
+    let (other, reported) = match tree.join_here(&mut crew, door, 1, row.2) {
+        Registered::Busy(door) => (Holder::Outside(door), Reported::Busy),
+        Registered::Joined(new, phase) => (Holder::Inside(new), Reported::Joined(phase)),
         _ => panic!(rt; "not joined"),
     };
-    assert!(rt; told == row.3);
+    assert!(rt; reported == row.3);
     (Holder::Inside(crew), other)
 }
 

@@ -12,10 +12,10 @@ use advance_rule::{EndPlan, StoredAdvance};
 use std::alloc::Global;
 use std::process::Abort;
 use test_groups::counts::are;
-use test_groups::rules::{Rule, WHEN_EMPTY, is_empty};
-use test_groups::told::Told::{
+use test_groups::reported::Reported::{
     AlreadyArrived, Busy, Done, Ended, Full, Held, Here, Joined, Left, Owing, Passed, Waiting,
 };
+use test_groups::rules::{Rule, WHEN_EMPTY, is_empty};
 use tier_core::call::Cause;
 use tier_table::closing::ClosedToken;
 
@@ -283,7 +283,7 @@ const RUNS: [Run; 12] = [
 ];
 
 // Returns true if a token is a crew that says this of itself, or if nothing is wanted.
-fn is_told(holder: &Holder, want: Option<ClosedToken>) -> bool {
+fn is_reported(holder: &Holder, want: Option<ClosedToken>) -> bool {
     match (holder, want) {
         (_, None) => true,
         (Holder::Inside(crew), Some(want)) => {
@@ -318,7 +318,7 @@ fn run(rt: &impl Abort, alloc: Global, rule: StoredAdvance<Rule>, run: Run)
     assert!(rt; phase <= LAST);
     let (tree, holders) = with_three(rt, alloc, widths, phase, rule);
     let holders = played(rt, &tree, holders, rows);
-    assert!(rt; is_told(&holders.2, third));
+    assert!(rt; is_reported(&holders.2, third));
     let closed = left_by_three(rt, alloc, tree, holders);
     assert!(rt; closed.tokens.len() == 3 && are(&closed.words, words));
     assert!(rt; is_handed_back(&closed.tokens, third));

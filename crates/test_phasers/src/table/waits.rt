@@ -13,15 +13,17 @@ use crate::table::trees::{left_by_three, with_three};
 use advance_rule::StoredAdvance;
 use std::process::Abort;
 use std::sync::Wait;
+use test_groups::reported::Reported;
+use test_groups::reported::Reported::{
+    AlreadyArrived, Done, Ended, Full, Here, Joined, Left, Passed,
+};
 use test_groups::rules::{Rule, WHEN_EMPTY, is_empty};
-use test_groups::told::Told;
-use test_groups::told::Told::{AlreadyArrived, Done, Ended, Full, Here, Joined, Left, Passed};
 use tier_table::tokens::{Crew, Door};
 use tier_table::tree::Tree;
 use tier_table::waiting::{ArrivedAtLast, AwaitedAdvance, RegisteredAtLast};
 
 // The token that is asked, what it is asked, and what it has to answer. `Poll` is asked as `await_advance`.
-type Row = (usize, Ask, Told);
+type Row = (usize, Ask, Reported);
 
 // A registration.
 fn registers<R: Wait + Abort>(
@@ -30,20 +32,20 @@ fn registers<R: Wait + Abort>(
     door: Door,
     tier: u16,
     members: u32,
-) -> (Holder, Told)
+) -> (Holder, Reported)
     requires own { door.tree ≡ tree.now.tree }
     ensures { tree_of result.0 ≡ tree.now.tree }
 {
     assert!(rt; usize::from(tier) < tree.shape().count() && members > 0 && members < 65536);
     match tree.register_wait(rt, door, tier, members) {
-        RegisteredAtLast::Joined(crew, phase) => (Holder::Inside(crew), Told::Joined(phase)),
-        RegisteredAtLast::Full(door, count) => (Holder::Outside(door), Told::Full(count)),
-        RegisteredAtLast::Ended(door, shown) => (Holder::Outside(door), Told::Ended(shown)),
+        RegisteredAtLast::Joined(crew, phase) => (Holder::Inside(crew), Reported::Joined(phase)),
+        RegisteredAtLast::Full(door, count) => (Holder::Outside(door), Reported::Full(count)),
+        RegisteredAtLast::Ended(door, shown) => (Holder::Outside(door), Reported::Ended(shown)),
     }
 }
 
 // An arrival or a departure.
-fn passes<R: Wait + Abort>(rt: &R, tree: &Tree<Rule>, crew: Crew, ask: Ask) -> (Holder, Told)
+fn passes<R: Wait + Abort>(rt: &R, tree: &Tree<Rule>, crew: Crew, ask: Ask) -> (Holder, Reported)
     requires own { crew.tree ≡ tree.now.tree }
     requires rule { Answers (pre tree.now.rule.closure) (post tree.now.rule.closure) (end_ends_at tree.now.rule.plan) }
     ensures { tree_of result.0 ≡ tree.now.tree }
@@ -54,26 +56,29 @@ fn passes<R: Wait + Abort>(rt: &R, tree: &Tree<Rule>, crew: Crew, ask: Ask) -> (
         tree.arrive_wait(rt, crew)
     };
     match arrived {
-        ArrivedAtLast::Done(crew, phase, led) => (Holder::Inside(crew), Told::Done(phase, led)),
-        ArrivedAtLast::Left(door, phase, led) => (Holder::Outside(door), Told::Left(phase, led)),
+        ArrivedAtLast::Done(crew, phase, led) => (Holder::Inside(crew), Reported::Done(phase, led)),
+        ArrivedAtLast::Left(door, phase, led) => (
+            Holder::Outside(door),
+            Reported::Left(phase, led),
+        ),
         ArrivedAtLast::AlreadyArrived(crew, phase) => {
-            (Holder::Inside(crew), Told::AlreadyArrived(phase))
+            (Holder::Inside(crew), Reported::AlreadyArrived(phase))
         }
-        ArrivedAtLast::Ended(crew, shown) => (Holder::Inside(crew), Told::Ended(shown)),
+        ArrivedAtLast::Ended(crew, shown) => (Holder::Inside(crew), Reported::Ended(shown)),
     }
 }
 
 // A wait for the next phase.
-fn awaits<R: Wait + Abort>(rt: &R, tree: &Tree<Rule>, mut crew: Crew) -> (Holder, Told)
+fn awaits<R: Wait + Abort>(rt: &R, tree: &Tree<Rule>, mut crew: Crew) -> (Holder, Reported)
     requires own { crew.tree ≡ tree.now.tree }
     ensures { tree_of result.0 ≡ tree.now.tree }
 {
-    let told = match tree.await_advance(rt, &mut crew) {
-        AwaitedAdvance::Passed(phase) => Told::Passed(phase),
-        AwaitedAdvance::Here(phase) => Told::Here(phase),
-        AwaitedAdvance::Ended(shown) => Told::Ended(shown),
+    let reported = match tree.await_advance(rt, &mut crew) {
+        AwaitedAdvance::Passed(phase) => Reported::Passed(phase),
+        AwaitedAdvance::Here(phase) => Reported::Here(phase),
+        AwaitedAdvance::Ended(shown) => Reported::Ended(shown),
     };
-    (Holder::Inside(crew), told)
+    (Holder::Inside(crew), reported)
 }
 
 // A token is asked as this row says, and gives its answer.
@@ -83,7 +88,7 @@ fn asked<R: Wait + Abort>(rt: &R, tree: &Tree<Rule>, holder: Holder, row: (usize
     ensures { tree_of result ≡ tree.now.tree }
 {
     let (number, (_token, ask, want)) = row;
-    let (holder, told) = match (holder, ask) {
+    let (holder, reported) = match (holder, ask) {
         (Holder::Outside(door), Ask::Register(tier, members)) => {
             registers(rt, tree, door, tier, members)
         }
@@ -91,7 +96,7 @@ fn asked<R: Wait + Abort>(rt: &R, tree: &Tree<Rule>, holder: Holder, row: (usize
         (Holder::Inside(crew), Ask::Poll) => awaits(rt, tree, crew),
         (holder, ask) => call(rt, tree, holder, ask, 16),
     };
-    assert!(rt; told == want, "row {number}");
+    assert!(rt; reported == want, "row {number}");
     holder
 }
 

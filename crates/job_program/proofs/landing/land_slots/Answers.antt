@@ -1,13 +1,13 @@
 use Rattle.std.proofs.Common.{◌∙◌, sym, ap, []}
 use Rattle.superstep_memory.specs.Landing.{landed, over_in}
-use Rattle.job_program.proofs.Deeds.{log_told, none_over, one_over, over_path, none_over_sets}
+use Rattle.job_program.proofs.Deeds.{log_reported, none_over, one_over, over_path, none_over_sets}
 use Rattle.job_program.proofs.landing.land_slots.Goals as goal
 
 pub returns-then-are_all_sets-clause-fault : goal.returns-then-are_all_sets-clause-fault
 returns-then-are_all_sets-clause-fault c = λ ps. none_over_sets ps c.args.slots.now c.args.arrays.now (sym c.are_all_sets.ensures ∙ c.if-are_all_sets.true)
 
 pub returns-then-are_all_sets-clause-lands : goal.returns-then-are_all_sets-clause-lands
-returns-then-are_all_sets-clause-lands c = λ e ps. c.write_all.ensures ∙ ap (λ qs. landed qs c.args.arrays.now) (sym (log_told ps c.args.slots.now))
+returns-then-are_all_sets-clause-lands c = λ e ps. c.write_all.ensures ∙ ap (λ qs. landed qs c.args.arrays.now) (sym (log_reported ps c.args.slots.now))
 
 pub returns-in-None-clause-fault : goal.returns-in-None-clause-fault
 returns-in-None-clause-fault c = λ ps.
@@ -17,7 +17,7 @@ returns-in-None-clause-fault c = λ ps.
 pub returns-in-None-clause-lands : goal.returns-in-None-clause-lands
 returns-in-None-clause-lands c = λ e ps.
     c.in_ok-land.ensures.lands c.in-None.is
-    ∙ ap (λ qs. landed qs c.args.arrays.now) (c.in_ok-puts.ensures ∙ sym (log_told ps c.args.slots.now))
+    ∙ ap (λ qs. landed qs c.args.arrays.now) (c.in_ok-puts.ensures ∙ sym (log_reported ps c.args.slots.now))
 
 pub returns-clause-fault : goal.returns-clause-fault
 returns-clause-fault c = λ ps.

@@ -6,10 +6,10 @@ use Rattle.job_program.proofs.next.collect_living.Goals as goal
 
 pub put_done-requires : goal.put_done-requires
 put_done-requires c = record {
-  room =
+  capacity =
       let cut = living_last c.loop-one.done.items c.pop.new.self.items c.in-Some.one c.in-Some.ensures.items in
       let l = length_cut _ (living_by c.pop.new.self.items) (living_of c.in-Some.one) cut in
-      omega (arith, l, c.loop-one.invariant.room);
+      omega (arith, l, c.loop-one.invariant.capacity);
 }
 
 pub loop-one-preserved : goal.loop-one-preserved
@@ -19,8 +19,8 @@ loop-one-preserved c =
       items =
           put_next_all path_in (living_by c.loop-one.done.items) (living_by c.pop.new.self.items) (living_of c.in-Some.one)
           c.loop-one.living.items c.put_done.new.living.items _ cut c.put_done.ensures.items c.loop-one.invariant.items;
-      room =
+      capacity =
           let l = length_cut _ (living_by c.pop.new.self.items) (living_of c.in-Some.one) cut in
-          omega (arith, l, c.loop-one.invariant.room, c.put_done.ensures.more, c.put_done.ensures.room);
+          omega (arith, l, c.loop-one.invariant.capacity, c.put_done.ensures.more, c.put_done.ensures.capacity);
       done = c.in-Some.ensures.capacity ∙ c.loop-one.invariant.done;
     }

@@ -7,7 +7,7 @@ use Rattle.job_program.proofs.next.collect_living.Given as goal
 abbrev pub invariant-loop-one : goal.invariant-loop-one
 invariant-loop-one l = record {
   items : put_all path_in (living_by l.done.items) (reverse l.living.items) ≡ in_path_order path_in (living_by l.fn.done.items);
-  room : vec_len l.living + length (living_by l.done.items) ≤ vec_capacity l.living;
+  capacity : vec_len l.living + length (living_by l.done.items) ≤ vec_capacity l.living;
   done : vec_capacity l.done ≡ vec_capacity l.fn.done;
 }
 

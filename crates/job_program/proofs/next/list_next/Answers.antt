@@ -5,9 +5,9 @@ use Rattle.job_program.specs.SlotParts.{path_in, living_by}
 use Rattle.superstep_memory.proofs.InOrder.{count_in_order}
 use Rattle.job_program.proofs.next.list_next.Goals as goal
 
-pub set_undone-requires-clause-room : goal.set_undone-requires-clause-room
-set_undone-requires-clause-room c =
+pub set_undone-requires-clause-capacity : goal.set_undone-requires-clause-capacity
+set_undone-requires-clause-capacity c =
     let next = in_path_order path_in (living_by c.args.done.now.items) in
     let l : length c.collect_living.new.living.items ≡ length (living_by c.args.done.now.items) =
     ap length c.collect_living.ensures.living ∙ length-reverse next ∙ count_in_order path_in (living_by c.args.done.now.items) in
-    omega (arith, l, c.deref.ensures.len, c.reverse.ensures.len, c.collect_living.new.living.ok.0, c.collect_living.ensures.room, c.requires.places)
+    omega (arith, l, c.deref.ensures.len, c.reverse.ensures.len, c.collect_living.new.living.ok.0, c.collect_living.ensures.capacity, c.requires.places)

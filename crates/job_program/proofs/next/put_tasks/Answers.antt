@@ -11,5 +11,5 @@ loop-task-preserved c = record {
   more =
       let l = length_cut c.loop-task.rest.items c.pop.new.self.items (c.in-Some.task ∷ []) c.in-Some.ensures.items in
       omega (arith, l, c.put_task.ensures.one_more, c.loop-task.invariant.more);
-  room = c.put_task.ensures.room ∙ c.loop-task.invariant.room;
+  capacity = c.put_task.ensures.capacity ∙ c.loop-task.invariant.capacity;
 }

@@ -8,7 +8,7 @@ abbrev pub invariant-loop-task : goal.invariant-loop-task
 invariant-loop-task l = record {
   items : put_all path_in l.rest.items (reverse l.living.items) ≡ put_all path_in l.fn.tasks.items (reverse l.fn.living.items);
   more : vec_len l.living + length l.rest.items ≡ vec_len l.fn.living + length l.fn.tasks.items;
-  room : vec_capacity l.living ≡ vec_capacity l.fn.living;
+  capacity : vec_capacity l.living ≡ vec_capacity l.fn.living;
 }
 
 abbrev pub decreases-loop-task : goal.decreases-loop-task

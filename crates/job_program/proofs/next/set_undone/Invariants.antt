@@ -6,7 +6,7 @@ use Rattle.job_program.proofs.next.set_undone.Given as goal
 abbrev pub invariant-loop-after : goal.invariant-loop-after
 invariant-loop-after l = record {
   items : l.done.items ++ map no_segment l.rest ≡ map no_segment l.fn.tasks;
-  room : vec_len l.done + length l.rest ≤ vec_capacity l.done;
+  capacity : vec_len l.done + length l.rest ≤ vec_capacity l.done;
 }
 
 abbrev pub decreases-loop-after : goal.decreases-loop-after

@@ -1,4 +1,4 @@
-use Rattle.job_reader.proofs.ToldWhole.{each-text}
+use Rattle.job_reader.proofs.SpelledWhole.{each-text}
 use Rattle.job_reader.proofs.laws.each_text_is_read_or_refused.Goals as goal
 
 pub returns : goal.returns

@@ -1,5 +1,5 @@
-use Rattle.job_reader.proofs.ToldWhole.{text-told}
+use Rattle.job_reader.proofs.SpelledWhole.{text-spelled-out}
 use Rattle.job_reader.proofs.laws.read_texts_are_jobs.Goals as goal
 
 pub returns : goal.returns
-returns c = text-told
+returns c = text-spelled-out

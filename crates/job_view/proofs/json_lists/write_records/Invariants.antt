@@ -4,11 +4,11 @@ use Rattle.json.specs.Value.{items_of}
 use Rattle.job_view.specs.ReportJson.{superstep_json}
 use Rattle.job_view.proofs.json_lists.write_records.Given as goal
 
-abbrev pub invariant-loop-told : goal.invariant-loop-told
-invariant-loop-told l = record {
+abbrev pub invariant-loop-counts : goal.invariant-loop-counts
+invariant-loop-counts l = record {
   tokens : l.out.tokens ++ items_tokens (items_of (map superstep_json l.rest)) ≡ l.fn.out.tokens ++ items_tokens (items_of (map superstep_json l.fn.records));
   before : l.out.before ≡ l.fn.out.before;
 }
 
-abbrev pub decreases-loop-told : goal.decreases-loop-told
-decreases-loop-told l = length l.rest
+abbrev pub decreases-loop-counts : goal.decreases-loop-counts
+decreases-loop-counts l = length l.rest

@@ -9,7 +9,7 @@ invariant-loop-left g l = record {
   spawned : reverse l.fn.spawns.items ≡ front ++ reverse l.spawns.items;
   count : length front + l.left ≡ l.fn.count;
   enough : l.left ≤ length l.spawns.items;
-  room : vec_len l.waiting + l.left ≤ vec_capacity l.waiting;
+  capacity : vec_len l.waiting + l.left ≤ vec_capacity l.waiting;
   len : vec_len l.waiting + l.left ≡ vec_len l.fn.waiting + l.fn.count;
   same : vec_capacity l.waiting ≡ vec_capacity l.fn.waiting;
 }

@@ -54,8 +54,8 @@ loop-deed-preserved g c =
           let w = v.within h in
           let here : AreWithin q bound (u ∷ us) = subst (AreWithin q bound) tasks w.1 in
           (goes_within q bound c.loop-deed.living.items (reverse c.loop-deed.waiting.items) us c.put_next.new.living.items (reverse c.put_next.new.waiting.items) (take d.spawned ss) u d.synced put w.0 here, here.1);
-      room = omega (arith, v.room, many, split, parts, taken, fewer, c.put_next.ensures.count, c.put_next.ensures.room.0);
-      wait = omega (arith, v.wait, c.put_next.ensures.wait, c.put_next.ensures.room.1, rest, long, shorter);
+      capacity = omega (arith, v.capacity, many, split, parts, taken, fewer, c.put_next.ensures.count, c.put_next.ensures.capacity.0);
+      wait = omega (arith, v.wait, c.put_next.ensures.wait, c.put_next.ensures.capacity.1, rest, long, shorter);
     }
 
 pub returns-clause-living : goal.returns-clause-living

@@ -14,7 +14,7 @@ returns-in-Some-clause-done g c =
     (g.met.P.Program.keeps_paths q) c.args.first c.loop-place.place c.args.end
     c.args.work.now.puts c.loop-place.work.puts c.do_one.new.work.puts c.args.tasks.now.items c.loop-place.tasks.items _
     c.args.deeds.now c.loop-place.deeds c.do_one.new.deeds c.args.prints.now.items c.loop-place.prints.items c.do_one.new.prints.items
-    t c.do_one.new.task _ (c.in-Some.code, c.task_path-path.result.items) c.loop-place.invariant.ranging below c.index_mut-task.ensures.value c.in_ok-told.ensures.told
+    t c.do_one.new.task _ (c.in-Some.code, c.task_path-path.result.items) c.loop-place.invariant.ranging below c.index_mut-task.ensures.value c.in_ok-reported.ensures.reported
     (ap (option_map (at_path (g.P.Task.OnPath.path_of c.do_one.new.task))) c.in-Some.is ∙ ap (λ (p : List ℕ). Some (c.in-Some.code, p)) (sym c.task_path-path.ensures.path))
 
 pub loop-place-init : goal.loop-place-init
@@ -41,13 +41,13 @@ loop-place-preserved g c =
           one_ranged (g.P.Program.frame q) (g.P.Program.may q) (g.P.Program.meant q) g.P.Task.OnPath.path_of c.args.scene.now.arrays.now c.args.scene.now.step c.args.first c.loop-place.place
           c.args.work.now.puts c.loop-place.work.puts c.do_one.new.work.puts c.args.tasks.now.items c.loop-place.tasks.items
           c.args.deeds.now c.loop-place.deeds c.do_one.new.deeds c.args.prints.now.items c.loop-place.prints.items c.do_one.new.prints.items
-          t c.do_one.new.task _ c.loop-place.invariant.ranging below c.index_mut-task.ensures.value c.in_ok-told.ensures.told
+          t c.do_one.new.task _ c.loop-place.invariant.ranging below c.index_mut-task.ensures.value c.in_ok-reported.ensures.reported
           (ap (option_map (at_path (g.P.Task.OnPath.path_of c.do_one.new.task))) c.in-None.is);
       count = length-set c.loop-place.tasks.items c.loop-place.place c.do_one.new.task ∙ c.loop-place.invariant.count;
       below = omega (arith, c.loop-place-test.true);
-      logged = c.in_ok-told.ensures.logged c.in-None.is;
-      prints = (c.in_ok-told.ensures.emptied c.in-None.is).0;
-      spawns = (c.in_ok-told.ensures.emptied c.in-None.is).1;
+      logged = c.in_ok-reported.ensures.logged c.in-None.is;
+      prints = (c.in_ok-reported.ensures.emptied c.in-None.is).0;
+      spawns = (c.in_ok-reported.ensures.emptied c.in-None.is).1;
     }
 
 pub returns-clause-done : goal.returns-clause-done

@@ -19,7 +19,7 @@ returns c = record {
   unclosed = refl;
   header = refl;
   too_long = refl;
-  told = refl;
+  reported = refl;
   reserved = refl;
   bodies = refl;
 }

@@ -12,7 +12,7 @@ loop-alloc-preserved g c =
     let below : at ≤ length c.loop-alloc.rest.items = omega (arith, c.place_to_cut-at.ensures, there) in
     let short = ap length c.in-Ok-split_off.ensures.items ∙ length-take-le at c.loop-alloc.rest.items below in
     record {
-      room = omega (arith, c.push_reserved.ensures.len, c.push_reserved.ensures.capacity, c.in-Ok.ensures.len, c.in-Ok.ensures.ok);
+      capacity = omega (arith, c.push_reserved.ensures.len, c.push_reserved.ensures.capacity, c.in-Ok.ensures.len, c.in-Ok.ensures.ok);
       end = omega (arith, short, below, c.loop-alloc.invariant.end);
       fresh = fresh_cut c.args.from at c.loop-alloc.rest.items c.split_off.new.self.items c.in-Ok-split_off.behind.items c.loop-alloc.parts.items c.push_reserved.new.self.items c.with_tasks.result
           c.loop-alloc.invariant.fresh c.with_tasks.ensures made c.in-Ok-split_off.ensures.items c.in-Ok-split_off.ensures.tail below;

@@ -5,7 +5,7 @@ use Rattle.stretch_parts.proofs.cut.cut_off.Given as goal
 
 abbrev pub invariant-loop-alloc : goal.invariant-loop-alloc
 invariant-loop-alloc g l = record {
-  room : vec_len l.parts < vec_capacity l.parts;
+  capacity : vec_len l.parts < vec_capacity l.parts;
   end : l.fn.from + length l.rest.items < 2 ^ 64;
   fresh : AreFresh (l.fn.from + length l.rest.items) (reverse l.parts.items);
   tasks : l.rest.items ++ tasks_in (reverse l.parts.items) ≡ l.fn.rest.items ++ tasks_in (reverse l.fn.parts.items);

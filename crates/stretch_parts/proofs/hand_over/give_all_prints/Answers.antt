@@ -9,7 +9,7 @@ give_prints-requires g c =
     let at = half_next without_prints c.loop-place.place c.args.parts.now.items c.loop-place.parts.items c.index_mut.result.now c.loop-place.invariant.parts (omega (arith, c.loop-place-test.true, c.len.ensures, c.loop-place.parts.ok.0)) c.index_mut.ensures.value in
     let l = ap (λ (ss : List (Option (PartValue g.row.T.Denot))). length (prints_in ss)) at.next in
     let m = length-append (of_slot (λ part. part.prints) c.index_mut.result.now) (prints_in (drop (c.loop-place.place + 1) c.args.parts.now.items)) in
-    record { room = omega (arith, l, m, c.loop-place.invariant.room) }
+    record { capacity = omega (arith, l, m, c.loop-place.invariant.capacity) }
 
 pub loop-place-preserved : goal.loop-place-preserved
 loop-place-preserved g c =
@@ -22,7 +22,7 @@ loop-place-preserved g c =
     record {
       parts = at.set c.give_prints.new.slot c.give_prints.ensures.rest;
       prints = in_turn_more (λ part. part.prints) c.loop-place.prints.items c.give_prints.new.prints.items _ c.loop-place.place c.args.parts.now.items c.index_mut.result.now c.give_prints.ensures.given at.next c.loop-place.invariant.prints;
-      room = omega (arith, l, m, n, k, c.loop-place.invariant.room, c.give_prints.ensures.room, c.loop-place.prints.ok.0, c.give_prints.new.prints.ok.0);
+      capacity = omega (arith, l, m, n, k, c.loop-place.invariant.capacity, c.give_prints.ensures.capacity, c.loop-place.prints.ok.0, c.give_prints.new.prints.ok.0);
     }
 
 pub returns-clause-given : goal.returns-clause-given

@@ -8,7 +8,7 @@ abbrev pub invariant-loop-place : goal.invariant-loop-place
 invariant-loop-place g l = record {
   parts : l.parts.items ≡ half without_prints l.place l.fn.parts.items;
   prints : l.prints.items ++ prints_in (drop l.place l.fn.parts.items) ≡ l.fn.prints.items ++ prints_in l.fn.parts.items;
-  room : vec_len l.prints + length (prints_in (drop l.place l.fn.parts.items)) ≤ vec_capacity l.prints;
+  capacity : vec_len l.prints + length (prints_in (drop l.place l.fn.parts.items)) ≤ vec_capacity l.prints;
 }
 
 abbrev pub decreases-loop-place : goal.decreases-loop-place

@@ -12,7 +12,7 @@ loop-tasks-preserved-then-is_stray_next g c =
     record {
       merges = stray_moved q (reverse c.args.tasks.now.items) (reverse c.args.strays.now.items) c.loop-tasks.all.items c.move_last.new.others.items c.loop-tasks.tasks.items c.loop-tasks.strays.items
           c.move_last.new.tasks.items v.merges next c.move_last.ensures.moved;
-      room = omega (arith, v.room, c.move_last.ensures.count, c.move_last.ensures.room);
+      capacity = omega (arith, v.capacity, c.move_last.ensures.count, c.move_last.ensures.capacity);
     }
 
 pub loop-tasks-preserved : goal.loop-tasks-preserved
@@ -24,5 +24,5 @@ loop-tasks-preserved g c =
     record {
       merges = task_moved q (reverse c.args.tasks.now.items) (reverse c.args.strays.now.items) c.loop-tasks.all.items c.move_last-else-is_stray_next.new.others.items c.loop-tasks.tasks.items
           c.move_last-else-is_stray_next.new.tasks.items (reverse c.loop-tasks.strays.items) v.merges next c.move_last-else-is_stray_next.ensures.moved;
-      room = omega (arith, v.room, c.move_last-else-is_stray_next.ensures.count, c.move_last-else-is_stray_next.ensures.room);
+      capacity = omega (arith, v.capacity, c.move_last-else-is_stray_next.ensures.count, c.move_last-else-is_stray_next.ensures.capacity);
     }

@@ -1,6 +1,6 @@
 use Rattle.std.proofs.Common.{◌≡◌, ◌+◌, ◌-◌, ◌<◌, ℕ, suc, List, length, reverse, subst, arith}
 use Rattle.std.specs.Vec.{vec_len}
-use Rattle.programs.proofs.Course.{none_there, some_there}
+use Rattle.programs.proofs.RunState.{none_there, some_there}
 use Rattle.programs.proofs.Turned.{reverse_none}
 use Rattle.stretch_parts.proofs.Pieces.{IsPlaced, next_piece, none_left, last_ok}
 use Rattle.stretch_parts.proofs.next.place.Goals as goal

@@ -15,6 +15,6 @@ loop-at-preserved c =
     path_goes c.self.inside.parents.items c.loop-at.at c.self.invariant.shape within some in
     rw up (record {
       within = omega arith;
-      room = c.push_reserved.ensures.capacity ∙ c.loop-at.invariant.room;
+      capacity = c.push_reserved.ensures.capacity ∙ c.loop-at.invariant.capacity;
       way = way_more _ _ _ _ _ _ c.push_reserved.ensures.items c.loop-at.invariant.way goes;
     })

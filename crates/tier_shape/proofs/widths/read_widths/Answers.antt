@@ -25,19 +25,19 @@ pub loop-rest-preserved-then-len-lt-MOST_LEVELS : goal.loop-rest-preserved-then-
 loop-rest-preserved-then-len-lt-MOST_LEVELS c =
     let so = read_next c.args.text.now c.loop-rest.widths.items c.in-Some.bytes.now c.first_piece.result.0.now c.loop-rest.rest c.first_piece.result.1 c.loop-rest.deep (ap left_of c.in-Some.is) c.first_piece.ensures.last c.first_piece.ensures.more c.loop-rest.invariant.1 in
     let width = c.in-Some-width_of.ensures in
-    let room : length c.loop-rest.widths.items < 6 = omega arith in (
+    let capacity : length c.loop-rest.widths.items < 6 = omega arith in (
       c.push_reserved.ensures.capacity ∙ c.loop-rest.invariant.0,
       rw c.push_reserved.ensures.items
-          (read_kept c.args.text.now c.loop-rest.widths.items c.first_piece.result.0.now (left_of c.first_piece.result.1) c.loop-rest.deep c.in-Some-width_of.width so room width.0 width.1),
+          (read_kept c.args.text.now c.loop-rest.widths.items c.first_piece.result.0.now (left_of c.first_piece.result.1) c.loop-rest.deep c.in-Some-width_of.width so capacity width.0 width.1),
     )
 
 pub loop-rest-preserved : goal.loop-rest-preserved
 loop-rest-preserved c =
     let so = read_next c.args.text.now c.loop-rest.widths.items c.in-Some.bytes.now c.first_piece.result.0.now c.loop-rest.rest c.first_piece.result.1 c.loop-rest.deep (ap left_of c.in-Some.is) c.first_piece.ensures.last c.first_piece.ensures.more c.loop-rest.invariant.1 in
     let width = c.in-Some-width_of.ensures in
-    let room : 6 ≤ length c.loop-rest.widths.items = omega arith in (
+    let capacity : 6 ≤ length c.loop-rest.widths.items = omega arith in (
       c.loop-rest.invariant.0,
-      read_over c.args.text.now c.loop-rest.widths.items c.first_piece.result.0.now (left_of c.first_piece.result.1) c.loop-rest.deep c.in-Some-width_of.width so room width.0 width.1,
+      read_over c.args.text.now c.loop-rest.widths.items c.first_piece.result.0.now (left_of c.first_piece.result.1) c.loop-rest.deep c.in-Some-width_of.width so capacity width.0 width.1,
     )
 
 pub returns-then-deep : goal.returns-then-deep

@@ -4,17 +4,17 @@ use Rattle.tier_shape.proofs.widths.tree.Goals as goal
 
 pub overflow_mul-children : goal.overflow_mul-children
 overflow_mul-children c =
-    let room = room_for c.args.widths.now c.loop-width.width-index c.loop-width.first (get_or c.args.widths.now c.loop-width.width-index 0) c.loop-width.size (omega arith) c.requires.few refl c.loop-width.invariant.first c.loop-width.invariant.size in
+    let capacity = room_for c.args.widths.now c.loop-width.width-index c.loop-width.first (get_or c.args.widths.now c.loop-width.width-index 0) c.loop-width.size (omega arith) c.requires.few refl c.loop-width.invariant.first c.loop-width.invariant.size in
     omega arith
 
-pub push_level-requires-clause-room : goal.push_level-requires-clause-room
-push_level-requires-clause-room c =
-    let room = room_for c.args.widths.now c.loop-width.width-index c.loop-width.first (get_or c.args.widths.now c.loop-width.width-index 0) c.loop-width.size (omega arith) c.requires.few refl c.loop-width.invariant.first c.loop-width.invariant.size in
+pub push_level-requires-clause-capacity : goal.push_level-requires-clause-capacity
+push_level-requires-clause-capacity c =
+    let capacity = room_for c.args.widths.now c.loop-width.width-index c.loop-width.first (get_or c.args.widths.now c.loop-width.width-index 0) c.loop-width.size (omega arith) c.requires.few refl c.loop-width.invariant.first c.loop-width.invariant.size in
     omega arith
 
 pub overflow_add-first : goal.overflow_add-first
 overflow_add-first c =
-    let room = room_for c.args.widths.now c.loop-width.width-index c.loop-width.first (get_or c.args.widths.now c.loop-width.width-index 0) c.loop-width.size (omega arith) c.requires.few refl c.loop-width.invariant.first c.loop-width.invariant.size in
+    let capacity = room_for c.args.widths.now c.loop-width.width-index c.loop-width.first (get_or c.args.widths.now c.loop-width.width-index 0) c.loop-width.size (omega arith) c.requires.few refl c.loop-width.invariant.first c.loop-width.invariant.size in
     omega arith
 
 pub loop-width-preserved : goal.loop-width-preserved

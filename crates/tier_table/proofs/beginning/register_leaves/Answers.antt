@@ -7,10 +7,10 @@ use Rattle.tier_table.proofs.beginning.register_leaves.Goals.{in_default-2, in_d
 pub returns-in-Err-clause-refused : goal.returns-in-Err-clause-refused
 returns-in-Err-clause-refused g c =
     let kept = c.loop-count.invariant in
-    let told = c.in-Err.ensures.answer in (
+    let reported = c.in-Err.ensures.answer in (
       kept.all_fit,
       stopped_at c.args.tiers.now c.args.phase c.in-Some-Some.leaf.now c.in-Some-Some.count.now c.args.leaves.now c.args.counts.now c.loop-count.places.now c.loop-count.rest.now c.in-Some-Some.others.now
-          c.in-Some-Some.more.now c.loop-count.groups.items c.in-Err.answer c.in-Some-Some.ensures'.cases.0 c.in-Some-Some.ensures.cases.0 c.if-count-gt0.true told.0 told.1
+          c.in-Some-Some.more.now c.loop-count.groups.items c.in-Err.answer c.in-Some-Some.ensures'.cases.0 c.in-Some-Some.ensures.cases.0 c.if-count-gt0.true reported.0 reported.1
           (kept.stops c.in-Some-Some.leaf.now c.in-Err.answer),
     )
 
@@ -35,8 +35,8 @@ loop-count-preserved-in-Ok g c =
           let o = kept.opened in
           omega (arith, e, d, o);
       tiers = all_after (λ leaf. leaf < length n.key.shape) c.in-Some-Some.leaf.now c.in-Some-Some.others.now c.loop-count.places.now c.in-Some-Some.ensures'.cases.0 kept.tiers;
-      room =
-          let r = kept.room in
+      capacity =
+          let r = kept.capacity in
           let e = ap length c.in-Some-Some.ensures.cases.0 in
           let l = c.push_reserved.ensures.len in
           let k = c.push_reserved.ensures.capacity in
@@ -59,7 +59,7 @@ loop-count-preserved g c =
       door = kept.door;
       opened = kept.opened;
       tiers = all_after (λ leaf. leaf < length n.key.shape) c.in-Some-Some.leaf.now c.in-Some-Some.others.now c.loop-count.places.now c.in-Some-Some.ensures'.cases.0 kept.tiers;
-      room = let r = kept.room in let e = ap length c.in-Some-Some.ensures.cases.0 in omega (arith, r, e);
+      capacity = let r = kept.capacity in let e = ap length c.in-Some-Some.ensures.cases.0 in omega (arith, r, e);
     }
 
 pub returns-clause-groups : goal.returns-clause-groups

@@ -14,7 +14,7 @@ invariant-loop-count g l = record {
   door : OnlySplit l.fn.door l.door;
   opened : l.door.opened ≡ l.fn.door.opened + length l.groups.items;
   tiers : All (λ leaf. leaf < length l.tiers.key.shape) l.places;
-  room : vec_len l.groups + length l.rest ≤ vec_capacity l.groups;
+  capacity : vec_len l.groups + length l.rest ≤ vec_capacity l.groups;
 }
 
 abbrev pub decreases-loop-count : goal.decreases-loop-count

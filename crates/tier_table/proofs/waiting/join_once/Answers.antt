@@ -28,26 +28,26 @@ join-requires-clause-size g c = c.requires.members
 
 pub returns-in-Joined : goal.returns-in-Joined
 returns-in-Joined g c =
-    let told = c.in-Joined.ensures.answer in
-    record { answer = (told.0.tree ∙ c.requires.own, told.1, told.2, told.3); unsplit = told.0.opened; made = c.in-Joined.ensures.made; ended = λ p e. absurd (c.in-Joined.ensures.ended p e) }
+    let reported = c.in-Joined.ensures.answer in
+    record { answer = (reported.0.tree ∙ c.requires.own, reported.1, reported.2, reported.3); unsplit = reported.0.opened; made = c.in-Joined.ensures.made; ended = λ p e. absurd (c.in-Joined.ensures.ended p e) }
 
 pub returns-in-Full : goal.returns-in-Full
 returns-in-Full g c =
-    let told = c.in-Full.ensures.answer in
+    let reported = c.in-Full.ensures.answer in
     record {
       answer = (
-        told.0.tree ∙ c.requires.own,
+        reported.0.tree ∙ c.requires.own,
         refused_for c.args.tiers.now c.args.door c.args.tier c.args.tier c.args.members c.args.members c.in-Full.next.view (played.Full c.in-Full.count) c.requires.own refl refl
-            told.1,
+            reported.1,
       );
-      unsplit = told.0.opened;
+      unsplit = reported.0.opened;
       made = c.in-Full.ensures.made;
       ended = λ p e. absurd (c.in-Full.ensures.ended p e);
     }
 
 pub returns-in-Ended : goal.returns-in-Ended
 returns-in-Ended g c =
-    let told = c.in-Ended.ensures.answer in record { answer = (told.0.tree ∙ c.requires.own, (told.1.0, told.1.1, search rules)); unsplit = told.0.opened; made = c.in-Ended.ensures.made; ended = λ p e. tt }
+    let reported = c.in-Ended.ensures.answer in record { answer = (reported.0.tree ∙ c.requires.own, (reported.1.0, reported.1.1, search rules)); unsplit = reported.0.opened; made = c.in-Ended.ensures.made; ended = λ p e. tt }
 
 pub open_wait-requires : goal.open_wait-requires
 open_wait-requires g c = record { own = c.in-Owing.ensures.answer.0.tree ∙ c.requires.own }

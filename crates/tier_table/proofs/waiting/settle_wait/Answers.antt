@@ -6,9 +6,9 @@ use Rattle.tier_table.proofs.waiting.settle_wait.Goals as goal
 pub returns-in-Left-clause-answer : goal.returns-in-Left-clause-answer
 returns-in-Left-clause-answer g c = λ h some tree counted.
     let none = c.phase.ensures.none in
-    let told = c.in-Left.ensures.answer in
-    let passed = passed_same counted told.1 in
-    (left_departs c.args.own some passed none, told.0 ∙ tree, passed, told.2, told.3, told.4)
+    let reported = c.in-Left.ensures.answer in
+    let passed = passed_same counted reported.1 in
+    (left_departs c.args.own some passed none, reported.0 ∙ tree, passed, reported.2, reported.3, reported.4)
 
 pub returns-in_default-clause-answer : goal.returns-in_default-clause-answer
 returns-in_default-clause-answer g c = λ h some tree counted.

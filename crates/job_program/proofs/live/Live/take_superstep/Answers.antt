@@ -6,8 +6,8 @@ use Rattle.job_program.specs.SlotParts.{beside, path_in, fresh_slot, living_by}
 use Rattle.job_program.proofs.Beside.{beside_fresh, shown_living}
 use Rattle.job_program.proofs.live.Live.take_superstep.Goals as goal
 
-pub close_into-requires-clause-room : goal.close_into-requires-clause-room
-close_into-requires-clause-room c =
+pub close_into-requires-clause-capacity : goal.close_into-requires-clause-capacity
+close_into-requires-clause-capacity c =
     let same = shown_living (arc_value c.self.inside.tasks).items c.self.inside.done.items c.args.self.now c.self.invariant c.self.view_is in
     let k : c.args.count ≡ length (living_by c.list_for.new.done.items) = c.requires.count ∙ ap length same
     ∙ ap (λ (ds : List (Option SegmentValue)). length (living_by ds)) (sym c.in_ok-next.ensures.same) in

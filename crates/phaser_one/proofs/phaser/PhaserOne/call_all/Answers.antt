@@ -10,7 +10,7 @@ loop-call-preserved g c = record {
       rw c.push_reserved.ensures.items
       (runs_more _ _ _ _ _ _ _ _ _ _ (drop_more _ _ _ c.loop-call-test.true) (rw c.loop-call.invariant.rule at c.call-reply.ensures.flat) (c.loop-call.invariant.follows f a));
   rule = c.call-reply.ensures.rule ∙ c.loop-call.invariant.rule;
-  room = c.push_reserved.ensures.capacity ∙ c.loop-call.invariant.room;
+  capacity = c.push_reserved.ensures.capacity ∙ c.loop-call.invariant.capacity;
   count = omega (arith, c.push_reserved.ensures.len, c.loop-call.invariant.count);
 }
 

@@ -16,8 +16,8 @@ use Rattle.program_stretches.proofs.stretches.Stretches.move_on.Goals as goal
 
 pub overflow_sub-count : goal.overflow_sub-count
 overflow_sub-count g c =
-    let e = ap (λ (r : PhaseRecord). r.left) c.requires.told in
-    let f = ap (λ (r : PhaseRecord). r.parties) c.requires.told in
+    let e = ap (λ (r : PhaseRecord). r.left) c.requires.counts in
+    let f = ap (λ (r : PhaseRecord). r.parties) c.requires.counts in
     let l = few_left (deeds_in c.args.parts.items) in
     omega (arith, e, f, l)
 
@@ -29,7 +29,7 @@ next_parts-requires-clause-count g c =
     let m = reading_of g.P.Program.frame g.P.Program.may g.P.Program.meant g.P.Task.OnPath.path_of in
     let us = tasks_in c.args.parts.items in
     let ds = deeds_in c.args.parts.items in
-    let count = moved_count m c.args.self.now (g.met.P.Program.keeps_paths c.args.self.now.program) c.requires.running (c.args.puts.now ++ puts_in c.args.parts.items) us ds (prints_in c.args.parts.items) c.requires.run c.args.told c.requires.told in
+    let count = moved_count m c.args.self.now (g.met.P.Program.keeps_paths c.args.self.now.program) c.requires.running (c.args.puts.now ++ puts_in c.args.parts.items) us ds (prints_in c.args.parts.items) c.requires.run c.args.counts c.requires.counts in
     ap length (living_left c.args.parts.items c.give_all_prints.new.parts.items c.give_all_prints.ensures.rest c.requires.each)
     ∙ sym (count_in_order g.P.Task.OnPath.path_of (living_with us ds)) ∙ sym count
 
@@ -50,15 +50,15 @@ invariant_of-self-in-None g c =
     let ds = deeds_in c.args.parts.items in
     let after = prints_in c.args.parts.items in
     let next = in_path_order g.P.Task.OnPath.path_of (living_with us ds) in
-    let count = moved_count m a law c.requires.running (c.args.puts.now ++ puts_in c.args.parts.items) us ds after h c.args.told c.requires.told in
+    let count = moved_count m a law c.requires.running (c.args.puts.now ++ puts_in c.args.parts.items) us ds after h c.args.counts c.requires.counts in
     let none = sym c.in-None.is ∙ c.in_ok-place.ensures.place ∙ (λ i. over_in ((c.self.view_is i).arrays) [] 0 (c.args.puts.now ++ puts_in (c.deref-2.ensures.value i))) in
-    let begun = after_landed m a law c.requires.running (c.args.puts.now ++ puts_in c.args.parts.items) us ds after h c.requires.few c.args.told c.requires.told none next refl in
+    let begun = after_landed m a law c.requires.running (c.args.puts.now ++ puts_in c.args.parts.items) us ds after h c.requires.few c.args.counts c.requires.counts none next refl in
     let prints = c.give_all_prints.ensures.given ∙ ap (λ (ps : List PrintValue). ps ++ after) c.in_ok-make_room.ensures.prints in
-    let records = c.push_reserved.ensures.items ∙ ap (λ (rs : List PhaseRecord). rs ++ c.args.told ∷ []) c.in_ok-make_room.ensures.records in
+    let records = c.push_reserved.ensures.items ∙ ap (λ (rs : List PhaseRecord). rs ++ c.args.counts ∷ []) c.in_ok-make_room.ensures.records in
     let arrays = c.in_ok-place.ensures.lands c.in-None.is ∙ (λ i. landed (c.args.puts.now ++ puts_in (c.deref-2.ensures.value i)) v.arrays) in
-    let same : stretches_of (record c.self.inside { step = c.self.inside.step + 1; arrays = c.land_shared.new.arrays; count = c.args.told.parties - c.args.told.left; prints = c.give_all_prints.new.prints; records = c.push_reserved.new.self }) ≡ landed_with a (c.args.puts.now ++ puts_in c.args.parts.items) c.args.told after (length next) =
+    let same : stretches_of (record c.self.inside { step = c.self.inside.step + 1; arrays = c.land_shared.new.arrays; count = c.args.counts.parties - c.args.counts.left; prints = c.give_all_prints.new.prints; records = c.push_reserved.new.self }) ≡ landed_with a (c.args.puts.now ++ puts_in c.args.parts.items) c.args.counts after (length next) =
     (λ i. record v { step = v.step + 1; arrays = arrays i; count = count i; prints = prints i; records = records i })
-    ∙ (λ i. landed_with (c.self.view_is i) (c.args.puts.now ++ puts_in c.args.parts.items) c.args.told after (length next)) in
+    ∙ (λ i. landed_with (c.self.view_is i) (c.args.puts.now ++ puts_in c.args.parts.items) c.args.counts after (length next)) in
     record {
       run = subst (IsRunSoFar m) (sym same) (record { live = map (m a.program).meant next; after = begun; opened = inl c.requires.none });
       same = c.self.invariant.same;
@@ -79,15 +79,15 @@ invariant_of-self-in_err-next-in-None g c =
     let ds = deeds_in c.args.parts.items in
     let after = prints_in c.args.parts.items in
     let next = in_path_order g.P.Task.OnPath.path_of (living_with us ds) in
-    let count = moved_count m a law c.requires.running (c.args.puts.now ++ puts_in c.args.parts.items) us ds after h c.args.told c.requires.told in
+    let count = moved_count m a law c.requires.running (c.args.puts.now ++ puts_in c.args.parts.items) us ds after h c.args.counts c.requires.counts in
     let none = sym c.in-None.is ∙ c.in_ok-place.ensures.place ∙ (λ i. over_in ((c.self.view_is i).arrays) [] 0 (c.args.puts.now ++ puts_in (c.deref-2.ensures.value i))) in
-    let begun = after_landed m a law c.requires.running (c.args.puts.now ++ puts_in c.args.parts.items) us ds after h c.requires.few c.args.told c.requires.told none next refl in
+    let begun = after_landed m a law c.requires.running (c.args.puts.now ++ puts_in c.args.parts.items) us ds after h c.requires.few c.args.counts c.requires.counts none next refl in
     let prints = c.give_all_prints.ensures.given ∙ ap (λ (ps : List PrintValue). ps ++ after) c.in_ok-make_room.ensures.prints in
-    let records = c.push_reserved.ensures.items ∙ ap (λ (rs : List PhaseRecord). rs ++ c.args.told ∷ []) c.in_ok-make_room.ensures.records in
+    let records = c.push_reserved.ensures.items ∙ ap (λ (rs : List PhaseRecord). rs ++ c.args.counts ∷ []) c.in_ok-make_room.ensures.records in
     let arrays = c.in_ok-place.ensures.lands c.in-None.is ∙ (λ i. landed (c.args.puts.now ++ puts_in (c.deref-2.ensures.value i)) v.arrays) in
-    let same : stretches_of (record c.self.inside { step = c.self.inside.step + 1; arrays = c.land_shared.new.arrays; count = c.args.told.parties - c.args.told.left; prints = c.give_all_prints.new.prints; records = c.push_reserved.new.self }) ≡ landed_with a (c.args.puts.now ++ puts_in c.args.parts.items) c.args.told after (length next) =
+    let same : stretches_of (record c.self.inside { step = c.self.inside.step + 1; arrays = c.land_shared.new.arrays; count = c.args.counts.parties - c.args.counts.left; prints = c.give_all_prints.new.prints; records = c.push_reserved.new.self }) ≡ landed_with a (c.args.puts.now ++ puts_in c.args.parts.items) c.args.counts after (length next) =
     (λ i. record v { step = v.step + 1; arrays = arrays i; count = count i; prints = prints i; records = records i })
-    ∙ (λ i. landed_with (c.self.view_is i) (c.args.puts.now ++ puts_in c.args.parts.items) c.args.told after (length next)) in
+    ∙ (λ i. landed_with (c.self.view_is i) (c.args.puts.now ++ puts_in c.args.parts.items) c.args.counts after (length next)) in
     record {
       run = subst (IsRunSoFar m) (sym same) (record { live = map (m a.program).meant next; after = begun; opened = inl c.requires.none });
       same = c.self.invariant.same;
@@ -108,17 +108,17 @@ reopen-requires-clause-after g c =
     let ds = deeds_in c.args.parts.items in
     let after = prints_in c.args.parts.items in
     let next = in_path_order g.P.Task.OnPath.path_of (living_with us ds) in
-    let count = moved_count m a law c.requires.running (c.args.puts.now ++ puts_in c.args.parts.items) us ds after h c.args.told c.requires.told in
+    let count = moved_count m a law c.requires.running (c.args.puts.now ++ puts_in c.args.parts.items) us ds after h c.args.counts c.requires.counts in
     let none = sym c.in-None.is ∙ c.in_ok-place.ensures.place ∙ (λ i. over_in ((c.self.view_is i).arrays) [] 0 (c.args.puts.now ++ puts_in (c.deref-2.ensures.value i))) in
-    let begun = after_landed m a law c.requires.running (c.args.puts.now ++ puts_in c.args.parts.items) us ds after h c.requires.few c.args.told c.requires.told none next refl in
+    let begun = after_landed m a law c.requires.running (c.args.puts.now ++ puts_in c.args.parts.items) us ds after h c.requires.few c.args.counts c.requires.counts none next refl in
     let prints = c.give_all_prints.ensures.given ∙ ap (λ (ps : List PrintValue). ps ++ after) c.in_ok-make_room.ensures.prints in
-    let records = c.push_reserved.ensures.items ∙ ap (λ (rs : List PhaseRecord). rs ++ c.args.told ∷ []) c.in_ok-make_room.ensures.records in
+    let records = c.push_reserved.ensures.items ∙ ap (λ (rs : List PhaseRecord). rs ++ c.args.counts ∷ []) c.in_ok-make_room.ensures.records in
     let arrays = c.in_ok-place.ensures.lands c.in-None.is ∙ (λ i. landed (c.args.puts.now ++ puts_in (c.deref-2.ensures.value i)) v.arrays) in
-    let same : stretches_of (record c.self.inside { step = c.self.inside.step + 1; arrays = c.land_shared.new.arrays; count = c.args.told.parties - c.args.told.left; prints = c.give_all_prints.new.prints; records = c.push_reserved.new.self }) ≡ landed_with a (c.args.puts.now ++ puts_in c.args.parts.items) c.args.told after (length next) =
+    let same : stretches_of (record c.self.inside { step = c.self.inside.step + 1; arrays = c.land_shared.new.arrays; count = c.args.counts.parties - c.args.counts.left; prints = c.give_all_prints.new.prints; records = c.push_reserved.new.self }) ≡ landed_with a (c.args.puts.now ++ puts_in c.args.parts.items) c.args.counts after (length next) =
     (λ i. record v { step = v.step + 1; arrays = arrays i; count = count i; prints = prints i; records = records i })
-    ∙ (λ i. landed_with (c.self.view_is i) (c.args.puts.now ++ puts_in c.args.parts.items) c.args.told after (length next)) in
+    ∙ (λ i. landed_with (c.self.view_is i) (c.args.puts.now ++ puts_in c.args.parts.items) c.args.counts after (length next)) in
     let tasks = c.in_ok-next-in-None.ensures.tasks ∙ ap (in_path_order g.P.Task.OnPath.path_of) (living_left c.args.parts.items c.give_all_prints.new.parts.items c.give_all_prints.ensures.rest c.requires.each) in
-    subst (λ (ts : List g.row.P-Task.Denot). IsAfter m (stretches_of (record c.self.inside { step = c.self.inside.step + 1; arrays = c.land_shared.new.arrays; count = c.args.told.parties - c.args.told.left; prints = c.give_all_prints.new.prints; records = c.push_reserved.new.self })) (map (m v.program).meant ts)) (sym tasks)
+    subst (λ (ts : List g.row.P-Task.Denot). IsAfter m (stretches_of (record c.self.inside { step = c.self.inside.step + 1; arrays = c.land_shared.new.arrays; count = c.args.counts.parties - c.args.counts.left; prints = c.give_all_prints.new.prints; records = c.push_reserved.new.self })) (map (m v.program).meant ts)) (sym tasks)
     (subst (λ (x : StretchesValue g.row.P.Denot g.row.P-Task.Denot). IsAfter m x (map (m x.program).meant next)) (sym same) begun)
 
 pub returns-in_ok-reopen-in-None-clause-closed : goal.returns-in_ok-reopen-in-None-clause-closed
@@ -132,17 +132,17 @@ returns-in_ok-reopen-in-None-clause-closed g c =
     let ds = deeds_in c.args.parts.items in
     let after = prints_in c.args.parts.items in
     let next = in_path_order g.P.Task.OnPath.path_of (living_with us ds) in
-    let count = moved_count m a law c.requires.running (c.args.puts.now ++ puts_in c.args.parts.items) us ds after h c.args.told c.requires.told in
+    let count = moved_count m a law c.requires.running (c.args.puts.now ++ puts_in c.args.parts.items) us ds after h c.args.counts c.requires.counts in
     let none = sym c.in-None.is ∙ c.in_ok-place.ensures.place ∙ (λ i. over_in ((c.self.view_is i).arrays) [] 0 (c.args.puts.now ++ puts_in (c.deref-2.ensures.value i))) in
-    let begun = after_landed m a law c.requires.running (c.args.puts.now ++ puts_in c.args.parts.items) us ds after h c.requires.few c.args.told c.requires.told none next refl in
+    let begun = after_landed m a law c.requires.running (c.args.puts.now ++ puts_in c.args.parts.items) us ds after h c.requires.few c.args.counts c.requires.counts none next refl in
     let prints = c.give_all_prints.ensures.given ∙ ap (λ (ps : List PrintValue). ps ++ after) c.in_ok-make_room.ensures.prints in
-    let records = c.push_reserved.ensures.items ∙ ap (λ (rs : List PhaseRecord). rs ++ c.args.told ∷ []) c.in_ok-make_room.ensures.records in
+    let records = c.push_reserved.ensures.items ∙ ap (λ (rs : List PhaseRecord). rs ++ c.args.counts ∷ []) c.in_ok-make_room.ensures.records in
     let arrays = c.in_ok-place.ensures.lands c.in-None.is ∙ (λ i. landed (c.args.puts.now ++ puts_in (c.deref-2.ensures.value i)) v.arrays) in
-    let same : stretches_of (record c.self.inside { step = c.self.inside.step + 1; arrays = c.land_shared.new.arrays; count = c.args.told.parties - c.args.told.left; prints = c.give_all_prints.new.prints; records = c.push_reserved.new.self }) ≡ landed_with a (c.args.puts.now ++ puts_in c.args.parts.items) c.args.told after (length next) =
+    let same : stretches_of (record c.self.inside { step = c.self.inside.step + 1; arrays = c.land_shared.new.arrays; count = c.args.counts.parties - c.args.counts.left; prints = c.give_all_prints.new.prints; records = c.push_reserved.new.self }) ≡ landed_with a (c.args.puts.now ++ puts_in c.args.parts.items) c.args.counts after (length next) =
     (λ i. record v { step = v.step + 1; arrays = arrays i; count = count i; prints = prints i; records = records i })
-    ∙ (λ i. landed_with (c.self.view_is i) (c.args.puts.now ++ puts_in c.args.parts.items) c.args.told after (length next)) in
+    ∙ (λ i. landed_with (c.self.view_is i) (c.args.puts.now ++ puts_in c.args.parts.items) c.args.counts after (length next)) in
     let tasks = c.in_ok-next-in-None.ensures.tasks ∙ ap (in_path_order g.P.Task.OnPath.path_of) (living_left c.args.parts.items c.give_all_prints.new.parts.items c.give_all_prints.ensures.rest c.requires.each) in
-    closed_landed m a law c.requires.running (c.args.puts.now ++ puts_in c.args.parts.items) us ds after h c.requires.few c.args.told c.requires.told none next refl
+    closed_landed m a law c.requires.running (c.args.puts.now ++ puts_in c.args.parts.items) us ds after h c.requires.few c.args.counts c.requires.counts none next refl
     c.in_ok-next-in-None.next.items c.in_ok-next-in-None.ensures.fresh tasks c.reopen.new.self
     (c.in_ok-reopen-in-None.ensures.opened ∙ ap (λ (x : StretchesValue g.row.P.Denot g.row.P-Task.Denot). opened_with x c.in_ok-next-in-None.next.items) same)
 
@@ -153,7 +153,7 @@ returns-in_ok-reopen-in-None-clause-reopened g c =
     let law = g.met.P.Program.keeps_paths a.program in
     let us = tasks_in c.args.parts.items in
     let ds = deeds_in c.args.parts.items in
-    let count = moved_count m a law c.requires.running (c.args.puts.now ++ puts_in c.args.parts.items) us ds (prints_in c.args.parts.items) c.requires.run c.args.told c.requires.told in
+    let count = moved_count m a law c.requires.running (c.args.puts.now ++ puts_in c.args.parts.items) us ds (prints_in c.args.parts.items) c.requires.run c.args.counts c.requires.counts in
     let is = c.in_ok-reopen-in-None.ensures.opened in
     let there = ap (λ (x : StretchesValue g.row.P.Denot g.row.P-Task.Denot). x.parts) is in
     let tasks = c.in_ok-next-in-None.ensures.tasks ∙ ap (in_path_order g.P.Task.OnPath.path_of) (living_left c.args.parts.items c.give_all_prints.new.parts.items c.give_all_prints.ensures.rest c.requires.each) in

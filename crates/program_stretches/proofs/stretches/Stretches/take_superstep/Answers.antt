@@ -1,6 +1,6 @@
 use Rattle.std.proofs.Common.{◌≡◌, true, ◌+◌, ◌≤◌, ◌∙◌, ℕ, Option, Some, None, length, map, ap, sym, subst, arith}
 use Rattle.std.specs.Prelude.{MatchOption}
-use Rattle.programs.specs.InPlace.{left_in, spawned_in, told_in}
+use Rattle.programs.specs.InPlace.{left_in, spawned_in, record_in}
 use Rattle.programs.proofs.InPlace.{few_left}
 use Rattle.program_stretches.specs.declared.fault.Outcome.TheVariants.{TooMany}
 use Rattle.stretch_parts.specs.Parts.{reading_of, covers, tasks_in, deeds_in, prints_in}
@@ -110,8 +110,8 @@ returns-in_default-clause-closed g c =
     closed_end m a law c.requires.running h.start h.older h.is _ c.end.new.self (c.end.ensures ∙ (λ i. record a { fault = Some (c.too_many.ensures i) }))
     TooMany step (λ x live k. (_, k))
 
-pub overflow_cast-told-2 : goal.overflow_cast-told-2
-overflow_cast-told-2 g c =
+pub overflow_cast-counts-2 : goal.overflow_cast-counts-2
+overflow_cast-counts-2 g c =
     let m = reading_of g.P.Program.frame g.P.Program.may g.P.Program.meant g.P.Task.OnPath.path_of in
     let a = c.args.self.now in
     let law = g.met.P.Program.keeps_paths a.program in
@@ -162,16 +162,16 @@ stay-requires-clause-few g c =
     let deeds = sym (deeds_on kept) ∙ ap deeds_in rest ∙ deeds_on c.args.parts.items in
     let prints = sym (prints_on kept) ∙ ap prints_in rest ∙ prints_on c.args.parts.items in
     let puts = c.in_ok-join_adds.ensures.same in
-    let told = c.count_left-left.ensures ∙ ap left_in (ap deeds_in c.deref.ensures.value) in
+    let counts = c.count_left-left.ensures ∙ ap left_in (ap deeds_in c.deref.ensures.value) in
     let made = counted_there c.count_spawned.result _ _ c.count_spawned.ensures c.in-Some.is in
     let spawned = made.0 ∙ ap spawned_in (ap deeds_in c.deref-2.ensures.value) in
     let fits = made.1 in
     let n = ap (λ xs. length xs + spawned_in xs) deeds in
     let k = ap left_in deeds in
-    omega (arith, n, k, all, count, most, left, told, spawned, fits, few)
+    omega (arith, n, k, all, count, most, left, counts, spawned, fits, few)
 
-pub stay-requires-clause-told : goal.stay-requires-clause-told
-stay-requires-clause-told g c =
+pub stay-requires-clause-counts : goal.stay-requires-clause-counts
+stay-requires-clause-counts g c =
     let m = reading_of g.P.Program.frame g.P.Program.may g.P.Program.meant g.P.Task.OnPath.path_of in
     let a = c.args.self.now in
     let law = g.met.P.Program.keeps_paths a.program in
@@ -191,12 +191,12 @@ stay-requires-clause-told g c =
     let deeds = sym (deeds_on kept) ∙ ap deeds_in rest ∙ deeds_on c.args.parts.items in
     let prints = sym (prints_on kept) ∙ ap prints_in rest ∙ prints_on c.args.parts.items in
     let puts = c.in_ok-join_adds.ensures.same in
-    let told = c.count_left-left.ensures ∙ ap left_in (ap deeds_in c.deref.ensures.value) in
+    let counts = c.count_left-left.ensures ∙ ap left_in (ap deeds_in c.deref.ensures.value) in
     let made = counted_there c.count_spawned.result _ _ c.count_spawned.ensures c.in-Some.is in
     let spawned = made.0 ∙ ap spawned_in (ap deeds_in c.deref-2.ensures.value) in
     let fits = made.1 in
-    (λ i. record { phase = (c.self.view_is i).step; parties = (count ∙ sym all) i + spawned i; left = told i; spawned = spawned i })
-    ∙ ap (told_in c.args.self.now.step) (sym deeds)
+    (λ i. record { phase = (c.self.view_is i).step; parties = (count ∙ sym all) i + spawned i; left = counts i; spawned = spawned i })
+    ∙ ap (record_in c.args.self.now.step) (sym deeds)
 
 pub stay-requires-clause-covered : goal.stay-requires-clause-covered
 stay-requires-clause-covered g c =
@@ -235,16 +235,16 @@ move_on-requires-clause-few g c =
     let deeds = sym (deeds_on kept) ∙ ap deeds_in rest ∙ deeds_on c.args.parts.items in
     let prints = sym (prints_on kept) ∙ ap prints_in rest ∙ prints_on c.args.parts.items in
     let puts = c.in_ok-join_adds.ensures.same in
-    let told = c.count_left-left.ensures ∙ ap left_in (ap deeds_in c.deref.ensures.value) in
+    let counts = c.count_left-left.ensures ∙ ap left_in (ap deeds_in c.deref.ensures.value) in
     let made = counted_there c.count_spawned.result _ _ c.count_spawned.ensures c.in-Some.is in
     let spawned = made.0 ∙ ap spawned_in (ap deeds_in c.deref-2.ensures.value) in
     let fits = made.1 in
     let n = ap (λ xs. length xs + spawned_in xs) deeds in
     let k = ap left_in deeds in
-    omega (arith, n, k, all, count, most, left, told, spawned, fits, few)
+    omega (arith, n, k, all, count, most, left, counts, spawned, fits, few)
 
-pub move_on-requires-clause-told : goal.move_on-requires-clause-told
-move_on-requires-clause-told g c =
+pub move_on-requires-clause-counts : goal.move_on-requires-clause-counts
+move_on-requires-clause-counts g c =
     let m = reading_of g.P.Program.frame g.P.Program.may g.P.Program.meant g.P.Task.OnPath.path_of in
     let a = c.args.self.now in
     let law = g.met.P.Program.keeps_paths a.program in
@@ -264,12 +264,12 @@ move_on-requires-clause-told g c =
     let deeds = sym (deeds_on kept) ∙ ap deeds_in rest ∙ deeds_on c.args.parts.items in
     let prints = sym (prints_on kept) ∙ ap prints_in rest ∙ prints_on c.args.parts.items in
     let puts = c.in_ok-join_adds.ensures.same in
-    let told = c.count_left-left.ensures ∙ ap left_in (ap deeds_in c.deref.ensures.value) in
+    let counts = c.count_left-left.ensures ∙ ap left_in (ap deeds_in c.deref.ensures.value) in
     let made = counted_there c.count_spawned.result _ _ c.count_spawned.ensures c.in-Some.is in
     let spawned = made.0 ∙ ap spawned_in (ap deeds_in c.deref-2.ensures.value) in
     let fits = made.1 in
-    (λ i. record { phase = (c.self.view_is i).step; parties = (count ∙ sym all) i + spawned i; left = told i; spawned = spawned i })
-    ∙ ap (told_in c.args.self.now.step) (sym deeds)
+    (λ i. record { phase = (c.self.view_is i).step; parties = (count ∙ sym all) i + spawned i; left = counts i; spawned = spawned i })
+    ∙ ap (record_in c.args.self.now.step) (sym deeds)
 
 pub move_on-requires-clause-moves : goal.move_on-requires-clause-moves
 move_on-requires-clause-moves g c = λ stay.

@@ -2,7 +2,7 @@ use Rattle.std.proofs.Common.{◌≡◌, ◌∙◌, ℕ, Option, Some, None, sym
 use Rattle.std.specs.Prelude.{IfSome}
 use Rattle.programs.specs.InPlace.{made_in}
 use Rattle.programs.specs.DeedsView.{made_by}
-use Rattle.programs.proofs.Listed.{made_told}
+use Rattle.programs.proofs.Listed.{made_reported}
 use Rattle.programs.proofs.deeds.Deeds.put_count.Goals as goal
 
 same_number : (o : Option ℕ) (m n : ℕ) → m ≡ n → IfSome o (λ k. k ≡ m) → IfSome o (λ k. k ≡ n)
@@ -13,4 +13,4 @@ pub returns : goal.returns
 returns g c =
     let e = ap made_by c.all.ensures in
     same_number c.count_puts.result (made_by c.all.result) (made_in c.args.self.now)
-    (e ∙ sym (made_told c.self.inside.each c.self.inside.spawns.items) ∙ ap made_in c.self.view_is) c.count_puts.ensures
+    (e ∙ sym (made_reported c.self.inside.each c.self.inside.spawns.items) ∙ ap made_in c.self.view_is) c.count_puts.ensures

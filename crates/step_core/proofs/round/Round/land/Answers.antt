@@ -49,16 +49,16 @@ returns-in-Ok-Some-clause-outcome c =
 pub invariant_of-self-in-Ok-None : goal.invariant_of-self-in-Ok-None
 invariant_of-self-in-Ok-None c =
     let ps = plans c.self.inside.job.now.bodies in
-    let told = c.in-Ok-None.ensures in
+    let reported = c.in-Ok-None.ensures in
     let none = c.in-Ok-None.field-0-is in
     let at = lands (round_of c.self.inside) _ c.self.invariant.0 c.self.view_is c.requires.running c.requires.whole c.requires.faultless c.args.count c.requires.count in
     let few : length c.take_superstep-taken.new.self ≤ 4096 =
-    let l = ap length (told.next none) ∙ at.2 in omega (arith, l, c.requires.few) in
+    let l = ap length (reported.next none) ∙ at.2 in omega (arith, l, c.requires.few) in
     let on =
     went_on c.self.inside.job.now c.self.inside.limit c.self.inside.step (arc_value c.self.inside.start_arrays) c.self.inside.live
-    c.self.inside.finished.items c.self.inside.fault at.0 at.1 (sym (told.fault ps) ∙ none) c.take_superstep-taken.new.self (told.next none) few
-    (arc_value c.take_superstep-taken.new.start_arrays) (told.lands none ps) c.take_superstep-taken.new.finished.items (told.tells none ps) in
-    let l = ap missing_in (told.next none) ∙ all_missing (in_path_order path_in (living_in c.self.inside.live)) in
+    c.self.inside.finished.items c.self.inside.fault at.0 at.1 (sym (reported.fault ps) ∙ none) c.take_superstep-taken.new.self (reported.next none) few
+    (arc_value c.take_superstep-taken.new.start_arrays) (reported.lands none ps) c.take_superstep-taken.new.finished.items (reported.tells none ps) in
+    let l = ap missing_in (reported.next none) ∙ all_missing (in_path_order path_in (living_in c.self.inside.live)) in
     let m = length-map (in_path_order path_in (living_in c.self.inside.live)) fresh_slot in
     let n = at.2 in
     (on.0, omega (arith, l, m, n))
@@ -66,15 +66,15 @@ invariant_of-self-in-Ok-None c =
 pub returns-in-Ok-None-clause-closed : goal.returns-in-Ok-None-clause-closed
 returns-in-Ok-None-clause-closed c =
     let ps = plans c.self.inside.job.now.bodies in
-    let told = c.in-Ok-None.ensures in
+    let reported = c.in-Ok-None.ensures in
     let none = c.in-Ok-None.field-0-is in
     let at = lands (round_of c.self.inside) _ c.self.invariant.0 c.self.view_is c.requires.running c.requires.whole c.requires.faultless c.args.count c.requires.count in
     let few : length c.take_superstep-taken.new.self ≤ 4096 =
-    let l = ap length (told.next none) ∙ at.2 in omega (arith, l, c.requires.few) in
+    let l = ap length (reported.next none) ∙ at.2 in omega (arith, l, c.requires.few) in
     closed_now _ _ _ c.self.view_is
     (went_on c.self.inside.job.now c.self.inside.limit c.self.inside.step (arc_value c.self.inside.start_arrays) c.self.inside.live
-    c.self.inside.finished.items c.self.inside.fault at.0 at.1 (sym (told.fault ps) ∙ none) c.take_superstep-taken.new.self (told.next none) few
-    (arc_value c.take_superstep-taken.new.start_arrays) (told.lands none ps) c.take_superstep-taken.new.finished.items (told.tells none ps))
+    c.self.inside.finished.items c.self.inside.fault at.0 at.1 (sym (reported.fault ps) ∙ none) c.take_superstep-taken.new.self (reported.next none) few
+    (arc_value c.take_superstep-taken.new.start_arrays) (reported.lands none ps) c.take_superstep-taken.new.finished.items (reported.tells none ps))
 
 pub returns-in-Ok-None-clause-outcome : goal.returns-in-Ok-None-clause-outcome
 returns-in-Ok-None-clause-outcome c =

@@ -1,5 +1,5 @@
 use Rattle.std.proofs.Common.{refl, subst}
-use Rattle.programs.specs.declared.work.Ending.TheVariants as ended
+use Rattle.programs.specs.declared.work.SegmentEnd.TheVariants as ended
 use Rattle.programs.specs.Lent.{HasLeft}
 use Rattle.task_bodies.specs.Bodies.{MemberValue, BodyMay, member_frame, path_of, framed, left_so}
 use Rattle.task_bodies.proofs.WellFormed.{framed_formed}

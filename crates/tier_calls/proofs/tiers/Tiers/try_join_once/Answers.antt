@@ -43,8 +43,8 @@ exchange_joins-requires-clause-enough c =
     let k = looked_yet c.look_all-word.ensures c.tier-tier.ensures c.requires.unarrived in
     last_count c.look_all-word.ensures (subst (λ (n : ℕ). CanPass n c.look_all-word.result c.look_all-word.new.group.view) (k.view.same.tier ∙ sym c.tier-tier.ensures) can)
 
-pub exchange_joins-requires-clause-room : goal.exchange_joins-requires-clause-room
-exchange_joins-requires-clause-room c =
+pub exchange_joins-requires-clause-capacity : goal.exchange_joins-requires-clause-capacity
+exchange_joins-requires-clause-capacity c =
     let a = are_many c.new_tokens-new_tokens.ensures.new in let b = c.if-n-word.false in let d = ap (λ (z : Fields). z.parties) c.word-2.view_is in let e = c.word-2.invariant.parties in omega arith
 
 pub returns-in-Joined-clause-went : goal.returns-in-Joined-clause-went

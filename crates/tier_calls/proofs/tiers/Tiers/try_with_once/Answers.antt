@@ -38,7 +38,7 @@ exchange_early-requires-clause-may c =
       eager = eager_now c.look_all-word.ensures c.tier-tier.ensures c.requires.unarrived c.requires.eager (ap (λ (w : Fields). w.ended) (sym c.word.view_is) ∙ c.if-word.false);
       place = (let a = k.view.same.tier in let b = c.requires.place in omega arith);
       some = has_parties c.look_all-word.ensures (c.tier-tier.ensures ∙ sym k.view.same.tier) can;
-      room = (let a = c.if-joining-word.false in let b = ap (λ (z : Fields). z.parties) c.word-2.view_is in let e = c.word-2.invariant.parties in omega arith);
+      capacity = (let a = c.if-joining-word.false in let b = ap (λ (z : Fields). z.parties) c.word-2.view_is in let e = c.word-2.invariant.parties in omega arith);
       enough = (let a = c.if-word-size.true in let b = c.size.ensures.size in let d = ap (λ (z : Fields). z.unarrived) c.word-2.view_is in omega arith);
       few = (let a = c.requires.few in omega arith);
       come = (let a = c.requires.come in omega arith);
@@ -57,7 +57,7 @@ exchange_last-requires-clause-may c =
       eager = eager_now c.look_all-word.ensures c.tier-tier.ensures c.requires.unarrived c.requires.eager (ap (λ (w : Fields). w.ended) (sym c.word.view_is) ∙ c.if-word.false);
       place = (let a = k.view.same.tier in let b = c.requires.place in omega arith);
       some = has_parties c.look_all-word.ensures (c.tier-tier.ensures ∙ sym k.view.same.tier) can;
-      room = (let a = c.if-joining-word.false in let b = ap (λ (z : Fields). z.parties) c.word-2.view_is in let e = c.word-2.invariant.parties in omega arith);
+      capacity = (let a = c.if-joining-word.false in let b = ap (λ (z : Fields). z.parties) c.word-2.view_is in let e = c.word-2.invariant.parties in omega arith);
       enough = (let few = last_count c.look_all-word.ensures (subst (λ (n : ℕ). CanPass n c.look_all-word.result c.look_all-word.new.group.view) (k.view.same.tier ∙ sym c.tier-tier.ensures) can) in let a = c.size.ensures.size in let b = ap (λ (z : Fields). z.unarrived) c.word-2.view_is in let d = c.if-word-size.false in omega arith);
       few = (let a = c.requires.few in omega arith);
       come = (let a = c.requires.come in omega arith);

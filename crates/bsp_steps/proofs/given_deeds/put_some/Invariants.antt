@@ -1,0 +1,14 @@
+use Rattle.std.proofs.Common.{◌≡◌, ◌++◌, length}
+use Rattle.std.specs.List.{list_all}
+use Rattle.superstep_memory.specs.Cells.{is_cell}
+use Rattle.bsp_steps.specs.Given.{puts_given}
+use Rattle.bsp_steps.proofs.given_deeds.put_some.Given as goal
+
+abbrev pub invariant-loop-next : goal.invariant-loop-next
+invariant-loop-next l = record {
+  all : list_all (is_cell l.arrays) (puts_given l.rest) ≡ list_all (is_cell l.fn.arrays) (puts_given l.fn.given);
+  put : l.puts ++ puts_given l.rest ≡ l.fn.puts ++ puts_given l.fn.given;
+}
+
+abbrev pub decreases-loop-next : goal.decreases-loop-next
+decreases-loop-next l = length l.rest

@@ -1,5 +1,0 @@
-use Rattle.phaser_one.proofs.PlanProofs.{plans_are_told}
-use Rattle.phaser_one.proofs.laws.plans_are_told.Goals as goal
-
-pub returns : goal.returns
-returns c = plans_are_told
