@@ -1,7 +1,7 @@
 -- What the supersteps of a job's run give away.
 use Rattle.std.proofs.Common.{◌≡◌, ℕ, ◌≤◌, ◌<◌, List, [], ◌∷◌, ◌++◌, map, length, Option, Some, None, get_or, refl, sym, ap, ◌∙◌, subst, arith, append_assoc}
 use Rattle.std.specs.Prelude.{ℤ}
-use Rattle.snapshot_log.specs.Agreed.{WasBefore}
+use Rattle.ghost_lists.specs.Agreed.{WasBefore}
 use Rattle.phase_records.specs.ReportValue.{ReportValue}
 use Rattle.phase_records.specs.Status.{Status}
 use Rattle.task_code.specs.JobValue.{JobValue}

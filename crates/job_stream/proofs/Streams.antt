@@ -4,7 +4,7 @@ use Rattle.std.specs.Prelude.{IfSome, OnOk}
 use Rattle.std.specs.Io.KnownBytes.{Appends}
 use Rattle.devices.specs.Device.{AppendsBeginning}
 use Rattle.devices.proofs.PassedBytes.{Appends-none, Appends-more, Appends-kept, Appends-beginning, beginning_longer}
-use Rattle.snapshot_log.specs.Agreed.{WasBefore}
+use Rattle.ghost_lists.specs.Agreed.{WasBefore}
 use Rattle.phase_records.specs.ReportValue.{ReportValue}
 use Rattle.phase_records.specs.ReportText.{steps_text, report_text}
 use Rattle.phase_records.specs.declared.record.JobStatus.{JobStatus}

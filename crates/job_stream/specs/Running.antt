@@ -1,6 +1,6 @@
 -- The run of a job by stretches (own).
 use Rattle.std.specs.Prelude.{◌≡◌, ℕ, List, [], ◌∷◌, ◌++◌, map, None}
-use Rattle.snapshot_log.specs.Agreed.{WasBefore}
+use Rattle.ghost_lists.specs.Agreed.{WasBefore}
 use Rattle.task_code.specs.JobValue.{JobValue}
 use Rattle.task_lang.specs.TaskValue.{TaskValue}
 use Rattle.task_lang.specs.Views.{plans, task_of}

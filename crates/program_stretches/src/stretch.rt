@@ -1,8 +1,8 @@
 //! A stretch that was taken.
 use crate::start::SuperstepStart;
+use ghost_lists::log::Snapshot;
 use programs::deeds::Changes;
 use programs::program::{Program, TaskLoop};
-use snapshot_log::log::Snapshot;
 use std::alloc::{AllocError, Global};
 use std::marker::Model;
 use std::sync::Arc;

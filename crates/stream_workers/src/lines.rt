@@ -1,6 +1,6 @@
 //! A hook that hands out the lines of each superstep, and these lines until a worker has written them.
 ghost use Rattle.std.specs.Prelude.{◌≡◌, ◌≢◌, ◌⊎◌, None, Err, true, false, IfOk, IfSome, OnOk, OnErr};
-ghost use Rattle.snapshot_log.specs.Agreed.{WasBefore};
+ghost use Rattle.ghost_lists.specs.Agreed.{WasBefore};
 ghost use Rattle.stretch_parts.specs.Parts.{covers};
 ghost use Rattle.program_stretches.specs.StretchesValue.{status_in};
 ghost use Rattle.program_stretches.specs.Closing.{IsSameRun, IsGiven};

@@ -8,12 +8,12 @@ ghost use Rattle.programs.specs.Regroup.{AreNumbered};
 ghost use Rattle.stretch_parts.specs.Kept.{IsKept, tasks_by, deeds_by};
 ghost use Rattle.stretch_parts.specs.Parts.{HasRun, reading_of, fresh_part};
 
+use ghost_lists::notes::Notes;
 use phase_records::Print;
 use programs::blame::{Blame, copy_path, task_path};
 use programs::deeds::{Changes, Deeds, Regrouping};
 use programs::program::{OnPath, TaskLoop};
 use programs::work::Work;
-use proof_notes::note::Notes;
 use std::alloc::{AllocError, Global};
 use std::marker::Model;
 use std::mem;

@@ -2,8 +2,8 @@
 use Rattle.std.specs.Prelude.{◌==◌, if◌then◌else◌, IfSome, IfOk, MatchOption, Result, Ok, Err}
 use Rattle.std.specs.Option.{option_map}
 use Rattle.std.proofs.Common.{◌≡◌, ◌≢◌, ◌⊎◌, ℕ, Bool, true, false, List, [], ◌∷◌, Option, Some, None, refl, sym, ap, ◌∙◌, subst, arith, ⊎_elim}
-use Rattle.pass_list.specs.declared.rule.TicketEntry.{TicketEntry}
-use Rattle.pass_list.specs.Passed.{IsOut, without, ticket_entry}
+use Rattle.ghost_lists.specs.declared.tickets_rule.TicketEntry.{TicketEntry}
+use Rattle.ghost_lists.specs.Passed.{IsOut, without, ticket_entry}
 use Rattle.stretch_queue.specs.HandedOut.{Each, AreApart, AreOut}
 
 pub not_both : (b : Bool) → b ≡ true → b ≡ false → ⊥

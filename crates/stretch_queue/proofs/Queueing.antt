@@ -2,8 +2,8 @@
 use Rattle.std.specs.Prelude.{slice_get, ◌||◌, is_some, IfSome, ◌⊎◌}
 use Rattle.std.proofs.Common.{◌≡◌, ℕ, Bool, true, false, List, [], ◌∷◌, Option, Some, None, refl, sym, ap, ◌∙◌, subst, ⊎_elim}
 use Rattle.atomic_table.specs.Seated.{TableId}
-use Rattle.pass_list.specs.declared.rule.TicketEntry.{TicketEntry}
-use Rattle.pass_list.specs.Passed.{IsOut, ticket_entry, without}
+use Rattle.ghost_lists.specs.declared.tickets_rule.TicketEntry.{TicketEntry}
+use Rattle.ghost_lists.specs.Passed.{IsOut, ticket_entry, without}
 use Rattle.stretch_parts.specs.PartValue.{PartValue}
 use Rattle.stretch_parts.specs.Parts.{covers}
 use Rattle.program_stretches.specs.declared.fault.AcceptStretchFault.{AcceptStretchFault}

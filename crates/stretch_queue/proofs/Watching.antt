@@ -16,7 +16,7 @@ use Rattle.stretch_queue.proofs.HandedOut.{not_both}
 use Rattle.stretch_queue.specs.Hooked.{bare}
 use Rattle.stretch_queue.specs.Watched.{AllWent, AllWentBefore, IsOpened, IsWatched, HasLeftWatched, HasLeftKept, LeavesAs}
 use Rattle.atomic_table.specs.Seated.{TableId}
-use Rattle.snapshot_log.specs.Agreed.{LogValue}
+use Rattle.ghost_lists.specs.Agreed.{LogValue}
 
 -- what is said of an answer that is there
 pub both_left : {L E : Type 0} (r : Result (Option L) E) (F G : L → Type 0) → IfOk r (λ o. IfSome o F) → IfOk r (λ o. IfSome o G) → IfOk r (λ o. IfSome o (λ l. F l × G l))

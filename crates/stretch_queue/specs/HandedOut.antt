@@ -2,8 +2,8 @@
 use Rattle.std.specs.Prelude.{◌≡◌, ◌≢◌, ℕ, Bool, true, false, List, [], ◌∷◌, Option, None, Some}
 use Rattle.std.specs.Option.{option_map}
 use Rattle.atomic_table.specs.Seated.{TableId}
-use Rattle.pass_list.specs.declared.rule.TicketEntry.{TicketEntry}
-use Rattle.pass_list.specs.Passed.{TicketValue}
+use Rattle.ghost_lists.specs.declared.tickets_rule.TicketEntry.{TicketEntry}
+use Rattle.ghost_lists.specs.Passed.{TicketValue}
 use Rattle.stretch_parts.specs.PartValue.{PartValue}
 
 -- whether the stretch is out

@@ -1,7 +1,7 @@
 -- What a watcher has allowed of a run by stretches (own).
 use Rattle.std.specs.Prelude.{◌≡◌, ◌⊎◌, ◌+◌, ◌||◌, if◌then◌else◌, ℕ, ℤ, Bool, true, false, List, [], ◌∷◌, ◌++◌, length, map, None, Some, is_some}
 use Rattle.atomic_table.specs.Seated.{TableId}
-use Rattle.snapshot_log.specs.Agreed.{LogValue}
+use Rattle.ghost_lists.specs.Agreed.{LogValue}
 use Rattle.phase_records.specs.ReportValue.{ReportValue}
 use Rattle.programs.specs.History.{HasRunTo}
 use Rattle.stretch_parts.specs.Parts.{Reading}

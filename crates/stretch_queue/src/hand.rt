@@ -11,7 +11,7 @@ use crate::hooks::Gate;
 use crate::moves::{Moves, moves_of};
 use crate::running::Running;
 use crate::tokens::Tokens;
-use pass_list::list::Ticket;
+use ghost_lists::tickets::Ticket;
 use program_stretches::Stretch;
 use programs::program::{Program, TaskLoop};
 use std::alloc::{AllocError, Global};

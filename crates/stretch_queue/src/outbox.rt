@@ -8,7 +8,7 @@ use crate::hand::RanStretch;
 use crate::moves::Moves;
 use crate::running::Running;
 use crate::tokens::Tokens;
-use pass_list::list::Ticket;
+use ghost_lists::tickets::Ticket;
 use program_stretches::Stretch;
 use programs::program::Program;
 use std::alloc::Global;

@@ -14,7 +14,7 @@ use crate::members::{Members, Recut};
 use crate::outbox::{Arrived, DoneStretch};
 use crate::running::Running;
 use crate::tokens::Tokens;
-use pass_list::list::{Ticket, TicketList};
+use ghost_lists::tickets::{Ticket, TicketList};
 use program_stretches::{Left, Stretches};
 use programs::program::{Program, TaskLoop};
 use std::alloc::{AllocError, Global};

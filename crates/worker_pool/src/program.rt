@@ -12,11 +12,11 @@ ghost use Rattle.stretch_queue.specs.Watched.{IsOpened};
 
 use crate::run::{limit_in, run_stretches, stretches_wanted};
 use advance_rule::StoredAdvance;
+use ghost_lists::log::Log;
 use program_stretches::{Left, Stretches, SuperstepStart};
 use programs::alone::Ran;
 use programs::program::TaskLoop;
 use programs::watch::{NoWatch, Watch};
-use snapshot_log::log::Log;
 use std::alloc::Global;
 use std::sync::Wait;
 use std::thread::Threads;

@@ -22,7 +22,7 @@ use crate::start::{Setup, start_all};
 use crate::tree::WorkerTree;
 use advance_rule::{EndPlan, StoredAction, StoredAdvance};
 use cyclic_gate::CyclicGate;
-use pass_list::list::TicketList;
+use ghost_lists::tickets::TicketList;
 use program_stretches::{Left, Stretches};
 use programs::program::TaskLoop;
 use std::alloc::{AllocError, Global};

@@ -1,7 +1,7 @@
 use Rattle.std.proofs.Common.{◌≡◌, ◌∙◌, Option, Some, None, ap, sym, subst, slice_set, arith}
 use Rattle.std.specs.Prelude.{MatchOption}
 use Rattle.std.specs.Vec.{with_item}
-use Rattle.snapshot_log.specs.Agreed.{LogValue}
+use Rattle.ghost_lists.specs.Agreed.{LogValue}
 use Rattle.stretch_parts.specs.Parts.{reading_of}
 use Rattle.program_stretches.specs.SuperstepStart.{SuperstepStartValue}
 use Rattle.program_stretches.specs.StretchesValue.{StretchesValue, StretchValue, with_slot, IsRunSoFar}

@@ -1,5 +1,5 @@
 use Rattle.std.proofs.Common.{◌≡◌, ◌∙◌, List, ap, sym, subst}
-use Rattle.snapshot_log.specs.Agreed.{LogValue, WasBefore}
+use Rattle.ghost_lists.specs.Agreed.{LogValue, WasBefore}
 use Rattle.stretch_parts.specs.Parts.{reading_of}
 use Rattle.program_stretches.specs.SuperstepStart.{SuperstepStartValue}
 use Rattle.program_stretches.specs.StretchesValue.{StretchesValue, IsRunSoFar}

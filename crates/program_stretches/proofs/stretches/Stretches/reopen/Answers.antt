@@ -1,6 +1,6 @@
 use Rattle.std.proofs.Common.{◌∷◌, length, map, refl, ap, sym, subst, ◌∙◌}
 use Rattle.std.specs.Arc.{arc_value}
-use Rattle.snapshot_log.specs.Agreed.{LogValue}
+use Rattle.ghost_lists.specs.Agreed.{LogValue}
 use Rattle.stretch_parts.specs.Parts.{reading_of}
 use Rattle.program_stretches.specs.SuperstepStart.{SuperstepStartValue, live_of}
 use Rattle.program_stretches.specs.StretchesValue.{StretchesValue, IsAfter}

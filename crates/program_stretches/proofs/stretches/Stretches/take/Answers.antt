@@ -1,7 +1,7 @@
 use Rattle.std.proofs.Common.{◌≡◌, ◌∙◌, ℕ, List, Bool, true, Option, Some, None, ap, sym, refl, subst, length, slice_get, slice_set}
 use Rattle.std.specs.Prelude.{ℤ}
 use Rattle.std.specs.Vec.{with_item}
-use Rattle.snapshot_log.specs.Agreed.{LogValue}
+use Rattle.ghost_lists.specs.Agreed.{LogValue}
 use Rattle.stretch_parts.specs.PartValue.{PartValue}
 use Rattle.stretch_parts.specs.Parts.{reading_of, IsPartOf}
 use Rattle.program_stretches.specs.SuperstepStart.{SuperstepStartValue, live_of}
