@@ -2,7 +2,7 @@
 #![tactic(auto)]
 
 use bsp_cli::run_program;
-use devices::Writer;
+use phase_records::Writer;
 use std::io::IsTerminal;
 use std::process::ExitCode;
 

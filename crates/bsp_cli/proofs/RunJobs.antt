@@ -18,7 +18,7 @@ use Rattle.step_core.specs.Program.{Program, program_of}
 use Rattle.step_core.specs.JobMeaning.{report_of}
 use Rattle.bsp_cli.specs.Jobs.{plan_of, program_of_tree, status_number}
 use Rattle.std.specs.Io.KnownBytes.{Appends, Keeps}
-use Rattle.devices.specs.Device.{AppendsBeginning}
+use Rattle.phase_records.specs.Device.{AppendsBeginning}
 use Rattle.bsp_cli.specs.Drawn.{drawn, program_of_text}
 use Rattle.bsp_cli.specs.Ends.{IsOfPool, ReadCause, WriteCause, Reports, Runs, Draws, Does, end_result}
 use Rattle.bsp_words.specs.declared.asked.Asked.TheVariants.{Run, RunJson, Draw}

@@ -2,7 +2,7 @@
 use Rattle.std.proofs.Common.{◌≡◌, ℕ, inl, inr, List, Option, Some, Result, Ok, Err, sym, subst, ap}
 use Rattle.std.specs.Prelude.{IfSome}
 use Rattle.std.specs.Io.KnownBytes.{Appends, Keeps}
-use Rattle.devices.proofs.PassedBytes.{Appends-none, Appends-kept}
+use Rattle.phase_records.proofs.PassedBytes.{Appends-none, Appends-kept}
 use Rattle.phase_records.specs.ReportValue.{ReportValue}
 use Rattle.phase_records.specs.ReportText.{report_text}
 use Rattle.phase_records.specs.StatusSeen.{status_seen}

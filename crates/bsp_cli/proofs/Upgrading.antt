@@ -1,7 +1,7 @@
 -- A beginning of what is written in format 2.
 use Rattle.std.proofs.Common.{◌≡◌, ℕ, List, Option, Some, None, Ok, subst}
 use Rattle.std.specs.Prelude.{IfSome}
-use Rattle.devices.specs.Device.{AppendsBeginning}
+use Rattle.phase_records.specs.Device.{AppendsBeginning}
 use Rattle.job_reader.specs.Trees.{JobTree}
 use Rattle.job_reader.specs.Grammar.{canonical_text}
 use Rattle.job_reader.specs.Reading.{job_in}

@@ -1,7 +1,7 @@
 -- How commands end, by what they return.
 use Rattle.std.specs.Prelude.{◌≡◌, ◌≤◌, ◌<◌, ◌⊎◌, ℕ, ◌+◌, List, Option, IfSome, Result, Ok, Err}
 use Rattle.std.specs.Io.KnownBytes.{Appends, Keeps}
-use Rattle.devices.specs.Device.{AppendsBeginning}
+use Rattle.phase_records.specs.Device.{AppendsBeginning}
 use Rattle.phase_records.specs.ReportValue.{ReportValue}
 use Rattle.phase_records.specs.ReportText.{report_text}
 use Rattle.phase_records.specs.StatusSeen.{status_seen}

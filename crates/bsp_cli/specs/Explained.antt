@@ -1,7 +1,7 @@
 -- What `explain` prints (own).
 use Rattle.std.specs.Prelude.{◌≡◌, ℕ, true, List, Option}
 use Rattle.std.specs.Io.KnownBytes.{Appends}
-use Rattle.devices.specs.Device.{AppendsBeginning}
+use Rattle.phase_records.specs.Device.{AppendsBeginning}
 use Rattle.bsp_words.specs.Topics.{goes_on, heading}
 use Rattle.bsp_words.specs.declared.asked.Topic.{Topic}
 

@@ -1,7 +1,7 @@
 -- What `check`, `upgrade`, `run` and `draw` print of a job's text (own).
 use Rattle.std.specs.Prelude.{◌≡◌, ℕ, List, map, length, Option, Some, Ok, Err}
 use Rattle.std.specs.Io.KnownBytes.{Appends}
-use Rattle.devices.specs.Device.{AppendsBeginning}
+use Rattle.phase_records.specs.Device.{AppendsBeginning}
 use Rattle.phase_records.specs.Status.{Status, Ended, Fault, Limit}
 use Rattle.phase_records.specs.ReportValue.{ReportValue}
 use Rattle.task_lang.specs.Meaning.{Plan}

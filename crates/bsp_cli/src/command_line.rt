@@ -22,7 +22,7 @@ use crate::trace::trace;
 use bsp_words::{Asked, Request, parse, version_text};
 use clap::Error;
 use clap::error::ErrorKind;
-use devices::{CountedRead, CountedWrite, write_all};
+use phase_records::{CountedRead, CountedWrite, write_all};
 use std::alloc::{AllocError, Global};
 use std::convert::AsStr;
 use std::sync::Wait;

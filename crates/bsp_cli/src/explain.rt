@@ -4,7 +4,7 @@ ghost use Rattle.bsp_cli.specs.Ends.{Explains, WriteCause};
 
 use crate::fault::RunFault;
 use bsp_words::{Topic, text_on};
-use devices::{CountedWrite, write_all};
+use phase_records::{CountedWrite, write_all};
 
 /// Writes what a code or a fault means, or the list of all. Reads nothing.
 pub(crate) fn explain<W: CountedWrite>(writer: &mut W, topic: Topic) -> Result<(), RunFault>

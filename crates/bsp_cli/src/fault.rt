@@ -1,14 +1,14 @@
 //! Why a command did not end, and the line that reports it.
 ghost use Rattle.std.specs.Prelude.{◌≡◌, ◌++◌, OnOk};
 ghost use Rattle.std.specs.Io.KnownBytes.{Appends};
-ghost use Rattle.devices.specs.Device.{CountsFailure};
+ghost use Rattle.phase_records.specs.Device.{CountsFailure};
 ghost use Rattle.bsp_cli.specs.Texts.{refusal_line, worker_line, fault_text, fault_status, Tells, Says};
 
 use crate::status::{
     COMMAND_LINE_REFUSED, DEVICE_FAILED, INTERNAL, NOT_STARTED, OUT_OF_MEMORY, TEXT_REFUSED,
 };
-use devices::{CountedWrite, DeviceFailed, write_all};
 use itoa::{Buffer, Integer};
+use phase_records::{CountedWrite, DeviceFailed, write_all};
 use text_lines::Refusal;
 use thiserror::Error;
 

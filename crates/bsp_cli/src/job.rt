@@ -17,11 +17,13 @@ ghost use Rattle.bsp_cli.specs.Ends.{TakesJob, Checks, ChecksAll, Draws, ChecksT
 use crate::fault::RunFault;
 use crate::progress::{NoProgress, ObserveEnd, Progress};
 use crate::status::{LIMIT_REACHED, TASK_FAULT};
-use devices::{CountedRead, CountedWrite, ReadFault, read_all, write_all};
 use job_picture::picture_of;
 use job_reader::{Code, ReadJobFault, Refusal, read_job, upgrade as upgraded, write_job};
 use job_view::{Look, draw_job, json_text_of};
-use phase_records::{JobStatus, Report, WriteFault, write_report};
+use phase_records::{
+    CountedRead, CountedWrite, JobStatus, ReadFault, Report, WriteFault, read_all, write_all,
+    write_report,
+};
 use refusal_reasons::listing_of;
 use std::alloc::{AllocError, Global};
 use std::sync::Wait;

@@ -10,9 +10,8 @@ use crate::status::{
 };
 use crate::why::{WHY, text_reason};
 use bsp_words::reason_of;
-use devices::{CountedWrite, Reader};
 use fault_reasons::end_reason;
-use phase_records::JobStatus;
+use phase_records::{CountedWrite, JobStatus, Reader};
 use std::alloc::{AllocError, Global};
 use std::io::{Input, Read};
 use std::rt::{Clock, Files};

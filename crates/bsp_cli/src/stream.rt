@@ -9,9 +9,8 @@ ghost use Rattle.bsp_cli.specs.Ends.{ReadCause, RunsStream, StreamsJob, WriteCau
 use crate::fault::RunFault;
 use crate::job::take_job;
 use crate::progress::Progress;
-use devices::{CountedRead, CountedWrite};
 use job_stream::{StreamFault, stream_alone};
-use phase_records::JobStatus;
+use phase_records::{CountedRead, CountedWrite, JobStatus};
 use std::alloc::Global;
 use std::sync::Wait;
 use std::thread::Threads;

@@ -2,7 +2,7 @@
 ghost use Rattle.bsp_cli.specs.Ends.{Traces, ReadCause, WriteCause};
 
 use crate::fault::RunFault;
-use devices::{CountedRead, CountedWrite};
+use phase_records::{CountedRead, CountedWrite};
 use std::alloc::Global;
 use trace_text::{TraceFault, run_trace};
 

@@ -6,7 +6,7 @@ ghost use Rattle.trace_text.specs.Trace.{asked_of};
 ghost use Rattle.refusal_reasons.specs.Reasons.{refusal_reason as reason_said};
 ghost use Rattle.bsp_cli.specs.Marked.{trace_mark as trace_mark_of};
 
-use devices::{Reader, Writer};
+use phase_records::{Reader, Writer};
 use refusal_reasons::{Kind, Mark, Part, job_reason, line_at, refusal_reason};
 use std::alloc::{AllocError, Global};
 use text_lines::{Code, Refusal};

@@ -3,9 +3,9 @@
 #![tactic(auto)]
 
 use anyhow::bail;
-use devices::{Reader, Writer, read_all};
 use job_reader::read_job;
 use job_stream::stream_alone;
+use phase_records::{Reader, Writer, read_all};
 
 // The most supersteps that are taken.
 const LIMIT: u32 = 1000000;

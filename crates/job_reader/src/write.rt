@@ -9,8 +9,7 @@ ghost use Rattle.job_reader.specs.Grammar.{spaced, line_text, text_of};
 ghost use Rattle.phase_records.specs.Written.{WritesText, WriteCause};
 
 use crate::push::{Writing, push_body_name, push_code, push_number};
-use devices::{CountedWrite, write_all};
-use phase_records::WriteFault;
+use phase_records::{CountedWrite, WriteFault, write_all};
 use std::alloc::{AllocError, Global};
 use superstep_memory::arrays::Arrays;
 use task_code::body::Body;

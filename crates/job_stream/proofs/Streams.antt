@@ -2,8 +2,8 @@
 use Rattle.std.proofs.Common.{◌≡◌, ℕ, ◌≤◌, List, [], ◌∷◌, ◌++◌, Option, Some, None, Result, Ok, Err, sym, ap, ◌∙◌, subst, append_assoc, append-nil}
 use Rattle.std.specs.Prelude.{IfSome, OnOk}
 use Rattle.std.specs.Io.KnownBytes.{Appends}
-use Rattle.devices.specs.Device.{AppendsBeginning}
-use Rattle.devices.proofs.PassedBytes.{Appends-none, Appends-more, Appends-kept, Appends-beginning, beginning_longer}
+use Rattle.phase_records.specs.Device.{AppendsBeginning}
+use Rattle.phase_records.proofs.PassedBytes.{Appends-none, Appends-more, Appends-kept, Appends-beginning, beginning_longer}
 use Rattle.ghost_lists.specs.Agreed.{WasBefore}
 use Rattle.phase_records.specs.ReportValue.{ReportValue}
 use Rattle.phase_records.specs.ReportText.{steps_text, report_text}

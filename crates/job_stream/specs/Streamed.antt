@@ -1,7 +1,7 @@
 -- What a run of a job writes superstep by superstep (own).
 use Rattle.std.specs.Prelude.{◌≡◌, ◌≤◌, ◌+◌, ℕ, List, ◌++◌, Option, Some, Result, Ok, Err}
 use Rattle.std.specs.Io.KnownBytes.{Appends, Keeps}
-use Rattle.devices.specs.Device.{AppendsBeginning}
+use Rattle.phase_records.specs.Device.{AppendsBeginning}
 use Rattle.phase_records.specs.ReportValue.{ReportValue}
 use Rattle.phase_records.specs.ReportText.{steps_text, report_text}
 use Rattle.phase_records.specs.StatusSeen.{status_seen}

@@ -10,10 +10,9 @@ ghost use Rattle.job_program.specs.Program.{program_of};
 
 use crate::fault::StreamFault;
 use crate::text::{write_lines, write_rest};
-use devices::CountedWrite;
 use ghost_lists::log::{Log, Snapshot};
 use job_program::{JobProgram, JobSteps};
-use phase_records::{JobStatus, Report};
+use phase_records::{CountedWrite, JobStatus, Report};
 use program_stretches::{Left, Lines, SuperstepStart};
 use programs::alone::Ran;
 use std::alloc::{AllocError, Global};

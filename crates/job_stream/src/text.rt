@@ -5,8 +5,10 @@ ghost use Rattle.job_stream.specs.Streamed.{IsPiece, Continues, WritesWhole, Str
 ghost use Rattle.job_program.specs.Program.{program_of};
 
 use crate::fault::StreamFault;
-use devices::{CountedWrite, write_all};
-use phase_records::{JobStatus, PhaseRecord, Print, Report, WriteFault, text_of, write_report};
+use phase_records::{
+    CountedWrite, JobStatus, PhaseRecord, Print, Report, WriteFault, text_of, write_all,
+    write_report,
+};
 use program_stretches::Lines;
 use std::alloc::{AllocError, Global};
 use superstep_memory::arrays::Arrays;

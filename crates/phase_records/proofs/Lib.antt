@@ -1,3 +1,5 @@
+pub mod PassedBytes
+pub mod ReadBytes
 pub mod ReportProofs
 pub mod ReportLawProofs
 pub mod TakenProofs

@@ -2,8 +2,8 @@
 use Rattle.std.proofs.Common.{◌≡◌, ℕ, ◌+◌, Bool, true, false, List, [], ◌++◌, Option, None, Some, refl, sym, ap, ◌∙◌, subst, append_assoc, append-nil, inl, inr}
 use Rattle.std.specs.Prelude.{◌⊎◌, if◌then◌else◌, Result, Ok, Err, OnOk, is_err}
 use Rattle.std.specs.Io.KnownBytes.{Appends, Keeps}
-use Rattle.devices.specs.Device.{AppendsBeginning, CountsFailure}
-use Rattle.devices.proofs.PassedBytes.{Appends-none, Appends-more, Appends-kept, Appends-beginning, beginning_longer}
+use Rattle.phase_records.specs.Device.{AppendsBeginning, CountsFailure}
+use Rattle.phase_records.proofs.PassedBytes.{Appends-none, Appends-more, Appends-kept, Appends-beginning, beginning_longer}
 use Rattle.phase_records.specs.Taken.{Outlet, Passes, Fails, Stays, Took}
 
 kept_none : (h : Option (List ℕ)) → Keeps h h

@@ -1,4 +1,4 @@
-pub use Rattle.devices.specs.Device
+pub mod Device
 pub mod PrintValue
 pub mod Status
 pub mod StatusSeen

@@ -1,7 +1,7 @@
 -- What becomes of a text that is given piece by piece.
 use Rattle.std.specs.Prelude.{◌≡◌, ℕ, ◌+◌, Bool, true, false, List, ◌++◌, Option, ◌⊎◌}
 use Rattle.std.specs.Io.KnownBytes.{Appends, Keeps}
-use Rattle.devices.specs.Device.{AppendsBeginning}
+use Rattle.phase_records.specs.Device.{AppendsBeginning}
 
 -- the device, by the name of its borrow, the bytes that it holds, those that wait for it, whether giving has failed, and the
 -- count of the device's failures

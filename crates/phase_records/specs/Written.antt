@@ -1,7 +1,7 @@
 -- What a call that writes a text leaves.
 use Rattle.std.specs.Prelude.{◌≡◌, ℕ, ◌+◌, List, Option, Result, Ok, Err}
 use Rattle.std.specs.Io.KnownBytes.{Appends, Keeps}
-use Rattle.devices.specs.Device.{AppendsBeginning}
+use Rattle.phase_records.specs.Device.{AppendsBeginning}
 use Rattle.phase_records.specs.declared.report.WriteFault.{WriteFault}
 use Rattle.phase_records.specs.declared.report.WriteFault.TheVariants.{Write, Memory}
 

@@ -2,7 +2,7 @@
 ghost use Rattle.std.specs.Prelude.{◌≡◌, Some, [], if◌then◌else◌};
 ghost use Rattle.phase_records.specs.Taken.{Outlet, Took};
 
-use devices::{CountedWrite, write_all};
+use crate::device::{CountedWrite, write_all};
 
 // Takes bytes, one piece after another. Once it has failed, it takes no more.
 pub(crate) trait Sink {

@@ -7,9 +7,9 @@ ghost use Rattle.phase_records.specs.StatusSeen.{status_seen};
 ghost use Rattle.phase_records.specs.ReportText.{path_text, shown_path, print_line, record_line, cell_text, array_line, status_line};
 ghost use Rattle.phase_records.specs.ReportText.{front_of, rest_of, steps_text, report_text};
 
+use crate::device::CountedWrite;
 use crate::pieces::{Pieces, Sink, Whole};
 use crate::record::{JobStatus, PhaseRecord, Print, Report};
-use devices::CountedWrite;
 use itoa::{Buffer, Integer};
 use std::alloc::{AllocError, Global};
 use superstep_memory::arrays::Arrays;

@@ -2,7 +2,7 @@
 use Rattle.std.proofs.Common.{◌≡◌, ℕ, false, true≢false, List, [], Option, Some, None, Result, Ok, Err, refl, subst, ◌∙◌, append-nil}
 use Rattle.std.specs.Prelude.{is_some}
 use Rattle.std.specs.Io.KnownBytes.{Appends, Keeps}
-use Rattle.devices.proofs.PassedBytes.{Appends-none}
+use Rattle.phase_records.proofs.PassedBytes.{Appends-none}
 use Rattle.phase_records.specs.declared.record.JobStatus.{JobStatus}
 use Rattle.task_code.specs.JobValue.{JobValue}
 use Rattle.job_program.specs.Program.{Program, program_of}

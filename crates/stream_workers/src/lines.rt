@@ -11,8 +11,8 @@ ghost use Rattle.stretch_queue.specs.declared.fault.WorkerFault.TheVariants as w
 
 use crate::outlet::Outlet;
 use crate::streaming::Streaming;
-use devices::CountedWrite;
 use job_program::JobProgram;
+use phase_records::CountedWrite;
 use program_stretches::{Lines, Outcome, Stretches};
 use std::alloc::{AllocError, Global};
 use std::marker::Model;

@@ -4,8 +4,8 @@ ghost use Rattle.job_program.specs.Program.{program_of};
 ghost use Rattle.job_stream.specs.Streamed.{IsPiece};
 
 use crate::streaming::Streaming;
-use devices::CountedWrite;
 use job_stream::{StreamFault, pass_on};
+use phase_records::CountedWrite;
 use program_stretches::Lines;
 use std::alloc::{AllocError, Global};
 use std::marker::{Model, PhantomData};

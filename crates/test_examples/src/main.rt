@@ -5,7 +5,7 @@ mod row;
 
 use anyhow::Error;
 use bsp_cli::run;
-use devices::{Reader, Writer};
+use phase_records::{Reader, Writer};
 use row::{Row, row_of, words_of, written_out};
 use std::alloc::Global;
 use std::fs;

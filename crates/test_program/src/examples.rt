@@ -1,7 +1,6 @@
 //! The examples of use in the docs of calls of the command line: each text there is that of a test here.
 use bsp_cli::{NoProgress, run_bytes};
-use devices::{Reader, Writer};
-use phase_records::JobStatus;
+use phase_records::{JobStatus, Reader, Writer};
 use tier_shape::Shape;
 
 #[test]

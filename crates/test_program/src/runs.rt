@@ -1,7 +1,7 @@
 //! Texts, and runs of the program on them.
 use crate::fakes::{ALL, Plan, Sink, Source};
 use bsp_cli::{Progress, run, run_telling};
-use devices::{Reader, Writer};
+use phase_records::{Reader, Writer};
 use std::alloc::Global;
 use std::sync::Wait;
 use std::thread::Threads;

@@ -4,9 +4,9 @@ use Rattle.std.specs.Prelude.{OnOk}
 use Rattle.trace_text.specs.declared.fault.TraceFault.{TraceFault}
 use Rattle.trace_text.specs.declared.fault.TraceFault.TheVariants.{Text, Read, Write, Memory}
 use Rattle.trace_text.specs.Runs.{run_text}
-use Rattle.devices.specs.Device.{AppendsBeginning}
+use Rattle.phase_records.specs.Device.{AppendsBeginning}
 use Rattle.trace_text.specs.Outcome.{Writes, WriteCause, Moves}
-use Rattle.devices.proofs.PassedBytes.{Passed, passed_none, passed_part, passed_begun, passed_whole, Appends-none}
+use Rattle.phase_records.proofs.PassedBytes.{Passed, passed_none, passed_part, passed_begun, passed_whole, Appends-none}
 
 -- Commands C of a thing that represents S: what each prints, and what it leaves.
 module _ {C S : Type 0} (text : C → S → List ℕ) (after : C → S → S) where

@@ -28,7 +28,7 @@ use crate::tree_words::{TreeCommand, TreeHead};
 use crate::words::{PhaserCommand, PhaserHead};
 use advance_rule::{StoredAction, StoredCount};
 use cyclic_gate::BarrierCore;
-use devices::{CountedRead, CountedWrite, ReadFault, read_all, write_all};
+use phase_records::{CountedRead, CountedWrite, ReadFault, read_all, write_all};
 use phaser_one::PhaserOne;
 use std::alloc::{AllocError, Global};
 use text_lines::{Code, Refusal};

@@ -1,7 +1,7 @@
 use Rattle.std.proofs.Common.{Result, Ok, Err, decimal, codes, ◌++◌, List, ℕ}
 use Rattle.std.specs.Prelude.{OnOk}
 use Rattle.text_lines.specs.Refusals.{code_number}
-use Rattle.devices.proofs.PassedBytes.{Appends-more}
+use Rattle.phase_records.proofs.PassedBytes.{Appends-more}
 use Rattle.bsp_cli.proofs.fault.write_refusal.Goals as goal
 
 on_ok : {A E : Type 0} {P Q : Type 0} (result : Result A E) → OnOk result P → (P → Q) → OnOk result Q

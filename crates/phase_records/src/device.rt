@@ -1,7 +1,7 @@
 //! Devices whose calls and failures are counted, and texts read and written whole.
 ghost use Rattle.std.specs.Prelude.{◌≡◌, ℕ, ◌+◌, ◌≤◌, ◌<◌, List, Option, length, IfOk, IfSome, IsErrOf, OnOk, is_err};
 ghost use Rattle.std.specs.Io.KnownBytes.{ReadConsumes, Appends};
-ghost use Rattle.devices.specs.Device.{CountsFailure, TakesSome, AppendsBeginning, ReadCause, BlamesReader};
+ghost use Rattle.phase_records.specs.Device.{CountsFailure, TakesSome, AppendsBeginning, ReadCause, BlamesReader};
 
 use crate::count::Count;
 use crate::metered::Metered;

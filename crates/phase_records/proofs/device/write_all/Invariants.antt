@@ -1,6 +1,6 @@
 use Rattle.std.proofs.Common.{◌≡◌, ◌≤◌, ◌+◌, length}
-use Rattle.devices.proofs.PassedBytes.{Passed}
-use Rattle.devices.proofs.device.write_all.Given as goal
+use Rattle.phase_records.proofs.PassedBytes.{Passed}
+use Rattle.phase_records.proofs.device.write_all.Given as goal
 
 abbrev pub invariant-loop-rest : goal.invariant-loop-rest
 invariant-loop-rest g l =

@@ -1,6 +1,6 @@
 use Rattle.std.proofs.Common.{◌≡◌, ◌≤◌, ◌+◌, ◌-◌}
-use Rattle.devices.specs.Device.{LeavesFewer}
-use Rattle.devices.proofs.device.without_memory.Given as goal
+use Rattle.phase_records.specs.Device.{LeavesFewer}
+use Rattle.phase_records.proofs.device.without_memory.Given as goal
 
 abbrev pub invariant-loop : goal.invariant-loop
 invariant-loop g l =

@@ -1,8 +1,8 @@
 use Rattle.std.proofs.Common.{◌≡◌, Err, ◌∙◌, List, ℕ, subst, sym, ap, arith, length, take, length-take-le}
 use Rattle.std.specs.Prelude.{IsErrOf}
 use Rattle.std.specs.Io.KnownBytes.{Consumes}
-use Rattle.devices.proofs.ReadBytes.{came_more, came_all, more_behind, no_more_behind, too_many_came}
-use Rattle.devices.proofs.device.read_all.Goals as goal
+use Rattle.phase_records.proofs.ReadBytes.{came_more, came_all, more_behind, no_more_behind, too_many_came}
+use Rattle.phase_records.proofs.device.read_all.Goals as goal
 
 -- a result has one fault
 same_fault : {T E : Type 0} {x y : E} → IsErrOf {T = T} {E = E} (Err x) y → x ≡ y

@@ -1,2 +1,0 @@
-pub mod PassedBytes
-pub mod ReadBytes
