@@ -75,7 +75,7 @@
 //! use phasers::parties::{Parties, PartiesArrived, PartiesLeft};
 //! use phasers::tree::{EndPlan, Party, PhaserTree};
 //! use std::sync::Wait;
-//! use std::thread;
+//! use std::thread::{self, Threads};
 //!
 //! // Meets the others until the tree ends, and returns the last phase in which this thread took part.
 //! fn last_phase<R: Wait>(rt: &R, (number, mut own): (usize, Party<'_>)) -> u32 {
@@ -130,23 +130,24 @@
 //!     }
 //! }
 //!
-//! fn main(rt: HostRuntime) -> anyhow::Result<()> {
+//! /// Runs the threads at the two trees, and prints what they return.
+//! pub(crate) fn run<R: AllocGlobal + Print + Threads + Wait + Sync>(rt: &R) -> anyhow::Result<()> {
 //!     let mut tree = PhaserTree::from_widths(rt.alloc(), "2x2", EndPlan::at_phase(9))?;
 //!     let mut guest = tree.guest();
 //!     let mut parties = Vec::new(rt.alloc());
 //!     for number in 0..4 {
-//!         parties.push((number, guest.split().join(&rt, number)?))?;
+//!         parties.push((number, guest.split().join(rt, number)?))?;
 //!     }
-//!     let last = thread::map_vec(&rt, parties, &|it: (usize, Party<'_>)| last_phase(&rt, it))?;
+//!     let last = thread::map_vec(rt, parties, &|it: (usize, Party<'_>)| last_phase(rt, it))?;
 //!     println!(rt; "{last:?}")?;
 //!
 //!     // Each thread ends with 1000 + 2000 - 999 members: in a thousand phases, 2000 join and 999 leave.
 //!     let mut tree = PhaserTree::from_widths(rt.alloc(), "2x2", EndPlan::when_empty())?;
-//!     if let Ok((_guest, thousands)) = tree.with_parties(rt.alloc(), &rt, &[1000; 4]) {
+//!     if let Ok((_guest, thousands)) = tree.with_parties(rt.alloc(), rt, &[1000; 4]) {
 //!         let left = thread::map_vec(
-//!             &rt,
+//!             rt,
 //!             thousands,
-//!             &|parties: Parties<'_>| stands_for(&rt, parties),
+//!             &|parties: Parties<'_>| stands_for(rt, parties),
 //!         )?;
 //!         println!(rt; "{left:?}")?;
 //!     }
@@ -171,7 +172,7 @@
 //! use phasers::barrier::{Action, Barrier, GateFault};
 //! use std::sync::Wait;
 //! use std::sync::atomic::{AtomicU64, Ordering};
-//! use std::thread;
+//! use std::thread::{self, Threads};
 //!
 //! #[derive(Drop)]
 //! struct Counting<'a>(&'a AtomicU64);
@@ -198,15 +199,11 @@
 //!     Ok(sum)
 //! }
 //!
-//! fn main(rt: HostRuntime) -> anyhow::Result<()> {
+//! /// Runs the threads at the barrier, and prints what they return.
+//! pub(crate) fn run<R: AllocGlobal + Print + Threads + Wait + Sync>(rt: &R) -> anyhow::Result<()> {
 //!     let count = AtomicU64::new(0);
 //!     let barrier = Barrier::new(rt.alloc(), 3, Counting(&count))?;
-//!     let sums = thread::map_indices(
-//!         &rt,
-//!         rt.alloc(),
-//!         3,
-//!         &|i: usize| turns(&rt, &barrier, i as u32),
-//!     )?;
+//!     let sums = thread::map_indices(rt, rt.alloc(), 3, &|i: usize| turns(rt, &barrier, i as u32))?;
 //!     let mut all = 0u64;
 //!     for sum in sums {
 //!         all = all.saturating_add(sum?);

@@ -1,10 +1,9 @@
 //! Three threads meet twenty times at a barrier, whose action counts the generations.
-#![tactic(auto)]
 
 use phasers::barrier::{Action, Barrier, GateFault};
 use std::sync::Wait;
 use std::sync::atomic::{AtomicU64, Ordering};
-use std::thread;
+use std::thread::{self, Threads};
 
 #[derive(Drop)]
 struct Counting<'a>(&'a AtomicU64);
@@ -31,15 +30,11 @@ fn turns<R: Wait, A: Action>(rt: &R, barrier: &Barrier<A>, caller: u32) -> Resul
     Ok(sum)
 }
 
-fn main(rt: HostRuntime) -> anyhow::Result<()> {
+/// Runs the threads at the barrier, and prints what they return.
+pub(crate) fn run<R: AllocGlobal + Print + Threads + Wait + Sync>(rt: &R) -> anyhow::Result<()> {
     let count = AtomicU64::new(0);
     let barrier = Barrier::new(rt.alloc(), 3, Counting(&count))?;
-    let sums = thread::map_indices(
-        &rt,
-        rt.alloc(),
-        3,
-        &|i: usize| turns(&rt, &barrier, i as u32),
-    )?;
+    let sums = thread::map_indices(rt, rt.alloc(), 3, &|i: usize| turns(rt, &barrier, i as u32))?;
     let mut all = 0u64;
     for sum in sums {
         all = all.saturating_add(sum?);

@@ -1,11 +1,10 @@
 //! Four threads meet at a tree, which ends with phase 9: thread 0 brings a member in phase 3, thread 1 leaves in phase 5.
 //! Then each of four threads takes part for a thousand members, which come and go for a thousand phases.
-#![tactic(auto)]
 
 use phasers::parties::{Parties, PartiesArrived, PartiesLeft};
 use phasers::tree::{EndPlan, Party, PhaserTree};
 use std::sync::Wait;
-use std::thread;
+use std::thread::{self, Threads};
 
 // Meets the others until the tree ends, and returns the last phase in which this thread took part.
 fn last_phase<R: Wait>(rt: &R, (number, mut own): (usize, Party<'_>)) -> u32 {
@@ -60,23 +59,24 @@ fn stands_for<R: Wait>(rt: &R, mut parties: Parties<'_>) -> u32 {
     }
 }
 
-fn main(rt: HostRuntime) -> anyhow::Result<()> {
+/// Runs the threads at the two trees, and prints what they return.
+pub(crate) fn run<R: AllocGlobal + Print + Threads + Wait + Sync>(rt: &R) -> anyhow::Result<()> {
     let mut tree = PhaserTree::from_widths(rt.alloc(), "2x2", EndPlan::at_phase(9))?;
     let mut guest = tree.guest();
     let mut parties = Vec::new(rt.alloc());
     for number in 0..4 {
-        parties.push((number, guest.split().join(&rt, number)?))?;
+        parties.push((number, guest.split().join(rt, number)?))?;
     }
-    let last = thread::map_vec(&rt, parties, &|it: (usize, Party<'_>)| last_phase(&rt, it))?;
+    let last = thread::map_vec(rt, parties, &|it: (usize, Party<'_>)| last_phase(rt, it))?;
     println!(rt; "{last:?}")?;
 
     // Each thread ends with 1000 + 2000 - 999 members: in a thousand phases, 2000 join and 999 leave.
     let mut tree = PhaserTree::from_widths(rt.alloc(), "2x2", EndPlan::when_empty())?;
-    if let Ok((_guest, thousands)) = tree.with_parties(rt.alloc(), &rt, &[1000; 4]) {
+    if let Ok((_guest, thousands)) = tree.with_parties(rt.alloc(), rt, &[1000; 4]) {
         let left = thread::map_vec(
-            &rt,
+            rt,
             thousands,
-            &|parties: Parties<'_>| stands_for(&rt, parties),
+            &|parties: Parties<'_>| stands_for(rt, parties),
         )?;
         println!(rt; "{left:?}")?;
     }
