@@ -1,11 +1,8 @@
 //! Tasks written in Rattle, on worker threads: heat in a rod, also until a cell of it is warm, the game of life, a shop whose
 //! customers come and go, also until a watcher has counted to a number, a search in a graph, and its ranks. Each run leaves on
 //! workers what it leaves on one thread. Then a run with hooks: a gate that gets each segment, and a starter that gets each worker.
-#![tactic(auto)]
 
 ghost use Rattle.std.specs.Prelude.{◌≡◌};
-
-mod hooks;
 
 use crate::hooks::{Meets, Starts};
 use bodies::{Arrays, Grid, Hooks, Run, Shape, TaskBody, Watch, Window, Workers};
@@ -270,18 +267,19 @@ fn hooked<R: Threads + Wait + Sync>(rt: &R, alloc: Global) -> anyhow::Result<Hoo
     })
 }
 
-fn main(rt: HostRuntime) -> anyhow::Result<()> {
+/// Runs bodies on workers, and prints whether they leave the same, and what the hooks got.
+pub(crate) fn run<R: AllocGlobal + Print + Threads + Wait + Sync>(rt: &R) -> anyhow::Result<()> {
     let alloc = rt.alloc();
     let left = all_alone(alloc)?;
     for widths in ["flat", "2x3"] {
-        let one = is_same(&rt, alloc, 1, widths, &left)?;
-        let two = is_same(&rt, alloc, 2, widths, &left)?;
-        let eight = is_same(&rt, alloc, 8, widths, &left)?;
+        let one = is_same(rt, alloc, 1, widths, &left)?;
+        let two = is_same(rt, alloc, 2, widths, &left)?;
+        let eight = is_same(rt, alloc, 8, widths, &left)?;
         println!(rt; "1 worker on {widths}: the same is {one}")?;
         println!(rt; "2 workers on {widths}: the same is {two}")?;
         println!(rt; "8 workers on {widths}: the same is {eight}")?;
     }
-    let got = hooked(&rt, alloc)?;
+    let got = hooked(rt, alloc)?;
     println!(rt;
         "{} supersteps, {} segments entered, {} left",
         got.supersteps, got.entered, got.left
