@@ -27,3 +27,8 @@ pub mod Above
 pub mod Named
 pub mod Lacking
 pub mod Upgraded
+pub mod EnoughSteps
+pub mod HeadParts
+pub mod TraceHeads
+pub mod Advances
+pub mod TreeAdvances

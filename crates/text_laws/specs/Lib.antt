@@ -6,3 +6,8 @@ pub mod WorkedSecond
 pub mod Upgrades
 pub mod WorkedRefusals
 pub mod WorkedNames
+pub mod Enough
+pub mod Heads
+pub mod Advances
+pub mod TreeAdvances
+pub mod WorkedTraces

@@ -15,8 +15,8 @@ use Rattle.trace_text.specs.TreeWords.{TreeHeadWords, TreeAsked, take_keyword, w
 use Rattle.trace_text.specs.BarrierWords.{BarrierHeadWords, barrier_head_words, generation_if, barrier_head_numbers, barrier_numbered}
 use Rattle.trace_text.specs.Trace.{Head, OfPhaser, OfTree, OfBarrier, head_of}
 use Rattle.trace_text.proofs.ReadWords.{from-made, from-next, from-or}
-use Rattle.trace_laws.specs.Heads.{SpellsPhaser, SpellsTree, SpellsBarrier, HeadsAreSpelled}
-use Rattle.trace_laws.proofs.HeadParts.{
+use Rattle.text_laws.specs.Heads.{SpellsPhaser, SpellsTree, SpellsBarrier, HeadsAreSpelled}
+use Rattle.text_laws.proofs.HeadParts.{
   alone,
   keyed,
   worded,

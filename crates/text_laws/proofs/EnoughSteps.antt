@@ -18,7 +18,7 @@ use Rattle.tier_laws.specs.Count.{IsAnswered, IsAnsweredWithin}
 use Rattle.tier_laws.proofs.Along.{begun_known}
 use Rattle.tier_laws.proofs.Sixteen.{sixteen_steps_are_enough}
 use Rattle.trace_text.specs.TreeAnswers.{call_of, has_tier, is_token, rest_text, rest_after, going_on, is_underway, advance_reported, answer_text}
-use Rattle.trace_laws.specs.Enough.{RunsReachTheirAnswer, CallsDoneReachTheirAnswer}
+use Rattle.text_laws.specs.Enough.{RunsReachTheirAnswer, CallsDoneReachTheirAnswer}
 
 -- a call that has its last answer doesn't go on
 not_underway : (p : Played) → is_last p ≡ true → is_underway (answer.Played p) ≡ false

@@ -11,7 +11,7 @@ use Rattle.trace_text.specs.Words.{Word, up_to, begins_number, take_number, take
 use Rattle.trace_text.specs.TreeWords.{take_keyword}
 use Rattle.trace_text.specs.BarrierWords.{not_below_zero, generation_if}
 use Rattle.trace_text.proofs.ReadWords.{small-read, up-to-read, up-to-said}
-use Rattle.trace_laws.specs.Heads.{IsNumberOr, IsKeyOr, IsKey, IsWordIf, IsUpTo}
+use Rattle.text_laws.specs.Heads.{IsNumberOr, IsKeyOr, IsKey, IsWordIf, IsUpTo}
 
 -- the words of a number that may lack, and of a keyword with one
 abbrev pub alone : Option Word → List Word

@@ -41,8 +41,8 @@ use Rattle.trace_text.specs.declared.tree_words.TreeCommand.TheVariants as comma
 use Rattle.trace_text.specs.Lines.{advance_line}
 use Rattle.trace_text.specs.TreeWords.{HasMembers}
 use Rattle.trace_text.specs.TreeAnswers.{call_of, has_tier, is_token, if_token, if_known, rest_text, rest_after, going_on, is_underway, advance_reported, answer_text, tree_text, tree_after}
-use Rattle.trace_laws.specs.TreeAdvances.{root_of, last_answer, IsInOrder, ComesInOrder, AdvancesOfTreesComeFirst}
-use Rattle.trace_laws.proofs.Whole.{answered, text_step, after_step}
+use Rattle.text_laws.specs.TreeAdvances.{root_of, last_answer, IsInOrder, ComesInOrder, AdvancesOfTreesComeFirst}
+use Rattle.text_laws.proofs.EnoughSteps.{answered, text_step, after_step}
 
 -- a step that is no advance leaves the root in its phase
 

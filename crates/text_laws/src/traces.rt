@@ -1,11 +1,9 @@
 //! Laws on traces. Each function does nothing: its contract is the law.
-#![tactic(auto)]
-
-ghost use Rattle.trace_laws.specs.Advances.{AdvancesComeFirst};
-ghost use Rattle.trace_laws.specs.Enough.{RunsReachTheirAnswer, CallsDoneReachTheirAnswer};
-ghost use Rattle.trace_laws.specs.Heads.{HeadsAreSpelled};
-ghost use Rattle.trace_laws.specs.TreeAdvances.{AdvancesOfTreesComeFirst};
-ghost use Rattle.trace_laws.specs.Worked.{RefusedTracesAreWorkedOut, TracesAreWorkedOut};
+ghost use Rattle.text_laws.specs.Advances.{AdvancesComeFirst};
+ghost use Rattle.text_laws.specs.Enough.{RunsReachTheirAnswer, CallsDoneReachTheirAnswer};
+ghost use Rattle.text_laws.specs.Heads.{HeadsAreSpelled};
+ghost use Rattle.text_laws.specs.TreeAdvances.{AdvancesOfTreesComeFirst};
+ghost use Rattle.text_laws.specs.WorkedTraces.{RefusedTracesAreWorkedOut, TracesAreWorkedOut};
 
 /// `run` takes a call to its answer: more steps would print nothing more, and leave the same tree.
 pub fn runs_reach_their_answer()

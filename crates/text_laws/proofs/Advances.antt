@@ -14,7 +14,7 @@ use Rattle.phaser_one.specs.declared.call.Call.TheVariants as call
 use Rattle.phaser_one.specs.Calls.{answer, is_refused, step_of, taken_by, called}
 use Rattle.trace_text.specs.Lines.{advance_line}
 use Rattle.trace_text.specs.Answers.{advance_text, reply_text}
-use Rattle.trace_laws.specs.Advances.{AdvancesComeFirst}
+use Rattle.text_laws.specs.Advances.{AdvancesComeFirst}
 
 -- before an advance a call leaves the phase, and has made one due only if the phaser goes on
 record Keeps (f g : Flat) : Type 0 where

@@ -4,7 +4,7 @@ use Rattle.trace_text.specs.TreeAnswers as tree
 use Rattle.tier_shape.specs.InText as in_text
 use Rattle.trace_text.specs.Trace as trace
 use Rattle.trace_text.specs.Answers as answers
-use Rattle.trace_laws.proofs.refused_traces_are_worked_out.Goals as goal
+use Rattle.text_laws.proofs.traces.refused_traces_are_worked_out.Goals as goal
 
 pub returns : goal.returns
 unfolding trace.asked_of answers.output_of fmt.digits tree.rest_text tree.rest_after in_text.width_in_text
