@@ -61,6 +61,23 @@ const ONE_TIER: [Row; 20] = [
     (0, Register(0, 1), Ended(-2147483645), 0, 0),
 ];
 
+// A group that has polled begins with the word that it found. If another group has joined since then, this costs a try.
+const KEPT_WORDS: [Row; 13] = [
+    (0, Register(0, 3), Joined(0), 3, 0),
+    (0, Poll, Here(0), 3, 0),
+    (1, Register(0, 2), Joined(0), 2, 0),
+    (0, ArriveIn(1), Busy, 3, 0),
+    (0, ArriveIn(1), Done(0, false), 3, 0),
+    (1, Poll, Here(0), 2, 0),
+    (1, ArriveWithIn(2, 1, 1), Done(0, true), 3, 1),
+    (0, Poll, Passed(1), 3, 1),
+    (1, Poll, Here(1), 3, 1),
+    (1, Arrive, Done(1, false), 3, 1),
+    (0, ArriveIn(2), Done(1, true), 3, 2),
+    (1, Poll, Passed(2), 3, 2),
+    (1, Leave, Left(2, false), 0, 0),
+];
+
 // Groups of the root and of both its leaves. A leaf's group leaves in parts, and the last part empties the leaf, so that
 // the root has one party less.
 const TWO_LEAVES: [Row; 15] = [
@@ -165,8 +182,9 @@ const NO_ROOM: [Row; 13] = [
     (0, Arrive, Done(0, true), 65535, 1),
 ];
 
-const RUNS: [Run; 7] = [
+const RUNS: [Run; 8] = [
     ("flat", 0, &ONE_TIER, &[(3, 0, 1, true)]),
+    ("flat", 0, &KEPT_WORDS, &[(2, 3, 3, false)]),
     (
         "2",
         0,

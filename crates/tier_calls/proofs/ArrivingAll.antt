@@ -112,7 +112,7 @@ glanced_below zero w v h = absurd (omega arith)
 glanced_below (suc t) w v h = refl
 
 -- how many tries the first token made
-spent_looks : (t : ℕ) (w : Fields) (tries : ℕ) (l : List Sight) → 0 < length l → HasSpent tries l (looked_all t w tries l)
+pub spent_looks : (t : ℕ) (w : Fields) (tries : ℕ) (l : List Sight) → 0 < length l → HasSpent tries l (looked_all t w tries l)
 spent_looks t w tries [] h = absurd (omega arith)
 spent_looks t w tries (x ∷ xs) h = refl
 
@@ -239,7 +239,7 @@ refreshed_crowd {k} {me} {me'} {v} {count} {w} {next} seated g =
       view = seated.view;
     }
 
-still : (v : View) → StillHere v v
+pub still : (v : View) → StillHere v v
 still v = record { same = record { tier = refl; size = refl; phase = refl; arrived = refl }; unled = λ e. e }
 
 pub refreshed_keeps : {id one : TableId} {k : Key} {v : View} {count : ℕ} {h : GroupHeld} {w next : Fields} (me me' : Seat) → AreSeated me v count → group_of id me v ≡ h → one ≡ id → HaveGone k v.tier w next me me' (first_stepped Refresh v.tier w me.0) → KeepsAll 1 h (group_of one me' v)
@@ -370,11 +370,11 @@ comes_then {a} {b} m o few k (tried.Done group) other q = counts_then m o few k 
 comes_then {a} {b} m o few k (tried.Owing errand rest) other q = last_then m o few k q
 comes_then {a} {b} m o few k (tried.Ended group word) other q = (soon_then m 1 o few k q.0, q.1, q.2)
 
-first_tokens : (w : Fields) (l : List Sight) → Each (Did Looks 0) l (looked_all 0 w 0 l)
+pub first_tokens : (w : Fields) (l : List Sight) → Each (Did Looks 0) l (looked_all 0 w 0 l)
 first_tokens w [] = tt
 first_tokens w (x ∷ xs) = (record { key = refl; tried = omega arith; since = omega arith; steps = refl; opened = refl }, first_tokens w xs)
 
-looked_unled : (w : Fields) (v : View) → (looked w v).led ≡ false
+pub looked_unled : (w : Fields) (v : View) → (looked w v).led ≡ false
 looked_unled w v = looked_cases (λ u. u.led ≡ false) w v (λ e. refl) (λ e. refl) (λ e. refl)
 
 pub first_beside : {t : ℕ} {w : Fields} {old new : GroupHeld} → AllLooked t w 0 old new → Beside old.tree.key.shape t w old.view

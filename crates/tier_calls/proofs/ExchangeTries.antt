@@ -51,7 +51,7 @@ eager_now {t = zero} {w} {old} {mid} r here none eager going =
 eager_now {t = suc t} {w} {old} {mid} r here none eager going = subst IsEager (sym r.view) (eager (omega arith))
 
 -- a tier at which members are to arrive has parties
-parties_there : (ps : List ℕ) (t : ℕ) (w : Fields) (v : View) → Beside ps t w v → CanPass t w v → 0 < w.parties
+pub parties_there : (ps : List ℕ) (t : ℕ) (w : Fields) (v : View) → Beside ps t w v → CanPass t w v → 0 < w.parties
 parties_there ps t w v b can =
     let here = b.word in
     let can' : CanPass t (word_at b.words t) v = subst (λ (z : Fields). CanPass t z v) (sym here) can in
@@ -100,8 +100,8 @@ others_from {old} {mid} {m} (Some d) kept a c is =
     crowd_or d None = d
     crowd_or d (Some c) = c
 
-passed_then : {a b : GroupHeld} {tree : Named} {view : View} {tokens : List Sight} (m o joining leaving : ℕ) → m + 1 ≤ o → KeepsAll m a b → HasExchanged 1 joining leaving b tree view tokens → HasExchanged o joining leaving a tree view tokens
-passed_then {a} {b} {tree} {view} {tokens} m o joining leaving few k p = record {
+pub passed_then : {a b : GroupHeld} {tree : Named} {view : View} {tokens : List Sight} (m n o joining leaving : ℕ) → m + n ≤ o → KeepsAll m a b → HasExchanged n joining leaving b tree view tokens → HasExchanged o joining leaving a tree view tokens
+passed_then {a} {b} {tree} {view} {tokens} m n o joining leaving few k p = record {
   mid = p.mid;
   word = p.word;
   pool = p.pool;
@@ -119,9 +119,9 @@ passed_then {a} {b} {tree} {view} {tokens} m o joining leaving few k p = record 
 -- one more try, unless nothing was counted by it
 pub went_then : {a b : GroupHeld} (m o joining leaving : ℕ) → m + 1 ≤ o → KeepsAll m a b → (r : TriedWith) → ((group : GroupHeld) → r ≢ went.Yet group) → TriesWith 1 joining leaving b r → TriesWith o joining leaving a r
 went_then {a} {b} m o joining leaving few k (went.Yet group) other q = absurd (other group refl)
-went_then {a} {b} m o joining leaving few k (went.Done group) other q = passed_then m o joining leaving few k q
+went_then {a} {b} m o joining leaving few k (went.Done group) other q = passed_then m 1 o joining leaving few k q
 went_then {a} {b} m o joining leaving few k (went.Owing errand rest) other q =
-    (passed_then m o joining leaving few k q.0, λ c is. (let r = q.1 c is in (r.0 ∙ k.tree, here_then a.view b.view c.view k.view r.1)))
+    (passed_then m 1 o joining leaving few k q.0, λ c is. (let r = q.1 c is in (r.0 ∙ k.tree, here_then a.view b.view c.view k.view r.1)))
 went_then {a} {b} m o joining leaving few k (went.Full group count) other q = let h = q.1 in (m + q.0, (omega arith), keeps_then m q.0 (m + q.0) refl k q.2, q.3)
 went_then {a} {b} m o joining leaving few k (went.Ended group word) other q = (soon_then m 1 o few k q.0, q.1, q.2)
 

@@ -49,9 +49,9 @@ counted_since a b c s q = record {
   departure = λ e. let d = q.departure e in (d.0 ∙ s.size, d.1 ∙ s.arrived);
 }
 
-module _ {a b : GroupHeld} {first : Holding} (m o : ℕ) (few : m + 1 ≤ o) (k : KeepsAll m a b) (q : HasCounted Departure b.view first.view) (w : Fields) (h : HaveLeft LeavesOnce 1 w b first) where
+module _ {a b : GroupHeld} {first : Holding} (m n o : ℕ) (few : m + n ≤ o) (k : KeepsAll m a b) (q : HasCounted Departure b.view first.view) (w : Fields) (h : HaveLeft LeavesOnce n w b first) where
   since : HaveLeft LeavesOnce o w a first
-  since = left_since OnlyLooks LeavesOnce LeavesOnce m 1 o waits_leaves few k.tokens k.tree k.view.same.tier (kept_many k) h
+  since = left_since OnlyLooks LeavesOnce LeavesOnce m n o waits_leaves few k.tokens k.tree k.view.same.tier (kept_many k) h
 
   pub left_after : length b.tokens < w.unarrived → HasCounted Departure a.view first.view × LeftEarly LeavesOnce o a first
   left_after more = (counted_since a.view b.view first.view k.view.same q, (w, since, (let e = kept_many k in omega arith)))
@@ -70,17 +70,17 @@ module _ {a b : GroupHeld} {first : Holding} (m o : ℕ) (few : m + 1 ≤ o) (k 
 
 pub left_first : {a b : GroupHeld} {first : Holding} → KeepsAll 0 a b → HasCounted Departure b.view first.view → (w : Fields) → HaveLeft LeavesOnce 1 w b first → length b.tokens < w.unarrived
     → HasCounted Departure a.view first.view × LeftEarly LeavesOnce 1 a first
-left_first {a} {b} {first} k q w h more = left_after 0 1 (omega arith) k q w h more
+left_first {a} {b} {first} k q w h more = left_after 0 1 1 (omega arith) k q w h more
 
 pub left_last : {a b : GroupHeld} {first : Holding} → KeepsAll 0 a b → HasCounted Departure b.view first.view → (w : Fields) → HaveLeft LeavesOnce 1 w b first → length b.tokens ≡ w.unarrived
     → first.view.errand ≡ owed_by_last (parent_of (shape_of first) b.view.tier) b.view.tier (w.parties == length b.tokens) → HasCounted Departure a.view first.view × LeftLast LeavesOnce 1 a first
-left_last {a} {b} {first} k q w h all owes = left_last_after 0 1 (omega arith) k q w h all owes
+left_last {a} {b} {first} k q w h all owes = left_last_after 0 1 1 (omega arith) k q w h all owes
 
 -- one more try, unless none of the members has left by it
 pub leaves_then : {a b : GroupHeld} (m o : ℕ) → m + 1 ≤ o → KeepsAll m a b → (r : TriedLeaving) → ((group : GroupHeld) → r ≢ tried.Yet group) → TriesLeaving 1 b r → TriesLeaving o a r
 leaves_then {a} {b} m o few k (tried.Yet group) other q = absurd (other group refl)
-leaves_then {a} {b} m o few k (tried.Left door) other q = left_after m o few k q.0 q.1.0 q.1.1 q.1.2
-leaves_then {a} {b} m o few k (tried.Owing errand) other q = left_last_after m o few k q.0 q.1.0 q.1.1 q.1.2 q.1.3
+leaves_then {a} {b} m o few k (tried.Left door) other q = left_after m 1 o few k q.0 q.1.0 q.1.1 q.1.2
+leaves_then {a} {b} m o few k (tried.Owing errand) other q = left_last_after m 1 o few k q.0 q.1.0 q.1.1 q.1.2 q.1.3
 leaves_then {a} {b} m o few k (tried.Ended group word) other q = (soon_then m 1 o few k q.0, q.1, q.2)
 
 -- a call whose members have left, from its first look on

@@ -25,6 +25,7 @@ pub mod LastOnes
 pub mod Exchanging
 pub mod ArrivingAll
 pub mod CatchingUp
+pub mod Keeping
 pub mod Splitting
 pub mod NewTokens
 pub mod ExchangeTry
@@ -35,5 +36,7 @@ pub mod Few
 pub mod Leading
 pub mod LeavingAll
 pub mod LeavingTries
+pub mod KeepingLeaving
+pub mod KeepingWith
 pub mod JoiningTries
 pub mod Registering

@@ -6,6 +6,7 @@ use Rattle.tier_rule.specs.declared.sight.Sight.{Sight}
 use Rattle.tier_rule.specs.Group.{looked_all}
 use Rattle.tier_calls.specs.Groups.{GroupHeld, exchanged_all, glanced}
 use Rattle.tier_calls.specs.NewTokens.{TokensHeld}
+use Rattle.tier_calls.specs.Kept.{begun}
 use Rattle.tier_calls.specs.Holding.{sight_held}
 use Rattle.tier_calls.specs.LastOnes.{tokens_in}
 use Rattle.tier_calls.specs.Settles.{OthersOf}
@@ -24,13 +25,13 @@ abbrev pub word_with : GroupHeld → TokensHeld → ℕ → Fields → Fields
 word_with c p leaving w = record w { parties = w.parties + length p.tokens - leaving; unarrived = w.unarrived - length c.tokens }
 
 -- One exchange: all old members have arrived, but for `leaving`, which have left, and all new ones have joined and arrived. The tokens of those that left are gone, and have
--- no members. Or it was lost to another word, and all have looked.
-abbrev pub ExchangesBy : GroupHeld → TokensHeld → ℕ → Fields → EarlyTry → Type 0
-ExchangesBy c p leaving w (Done group) = (group.tree ≡ c.tree) × (group.view ≡ record c.view { arrived = 1 }) × ((gone : List Sight) × (group.tokens ++ gone ≡ sights_with c p leaving w) × (length gone ≡ leaving))
-ExchangesBy c p leaving w (Lost group z) = (z ≢ w) × (group.tree ≡ c.tree) × (group.view ≡ glanced c.view.tier z c.view) × (group.tokens ≡ looked_all c.view.tier z 1 c.tokens)
+-- no members. Or it was lost to another word, and all have looked. `before` is what the old tokens know before these steps.
+abbrev pub ExchangesBy : GroupHeld → List Sight → TokensHeld → ℕ → Fields → EarlyTry → Type 0
+ExchangesBy c before p leaving w (Done group) = (group.tree ≡ c.tree) × (group.view ≡ record c.view { arrived = 1 }) × ((gone : List Sight) × (group.tokens ++ gone ≡ sights_with (begun c before) p leaving w) × (length gone ≡ leaving))
+ExchangesBy c before p leaving w (Lost group z) = (z ≢ w) × (group.tree ≡ c.tree) × (group.view ≡ glanced c.view.tier z c.view) × (group.tokens ≡ looked_all c.view.tier z 1 c.tokens)
 
 -- The same where one of the arrivals is the last at the tier. Its token owes what follows.
-abbrev pub ExchangesLast : GroupHeld → TokensHeld → ℕ → Fields → LastPass → Type 0
-ExchangesLast c p leaving w (last.Owing errand rest) = (errand.token.tree ≡ c.tree) × (errand.token.view ≡ record c.view { arrived = 1; errand = errand.token.view.errand }) × OthersOf c.tree c.view rest
-    × ((gone : List Sight) × ((sight_held errand.token ∷ tokens_in rest) ++ gone ≡ sights_with c p leaving w) × (length gone ≡ leaving))
-ExchangesLast c p leaving w (last.Lost group z) = (z ≢ w) × (group.tree ≡ c.tree) × (group.view ≡ glanced c.view.tier z c.view) × (group.tokens ≡ looked_all c.view.tier z 1 c.tokens)
+abbrev pub ExchangesLast : GroupHeld → List Sight → TokensHeld → ℕ → Fields → LastPass → Type 0
+ExchangesLast c before p leaving w (last.Owing errand rest) = (errand.token.tree ≡ c.tree) × (errand.token.view ≡ record c.view { arrived = 1; errand = errand.token.view.errand }) × OthersOf c.tree c.view rest
+    × ((gone : List Sight) × ((sight_held errand.token ∷ tokens_in rest) ++ gone ≡ sights_with (begun c before) p leaving w) × (length gone ≡ leaving))
+ExchangesLast c before p leaving w (last.Lost group z) = (z ≢ w) × (group.tree ≡ c.tree) × (group.view ≡ glanced c.view.tier z c.view) × (group.tokens ≡ looked_all c.view.tier z 1 c.tokens)

@@ -34,6 +34,7 @@ pub record LastArrived (w : Fields) (old : GroupHeld) (first : Holding) (rest : 
   pub tokens : sight_held first ∷ tokens_in rest ≡ all_stepped Arrive 1 old.view.tier old.view w old.tokens
   pub others : Others old rest
 
-abbrev pub TriesLast : Fields → GroupHeld → LastTry → Type 0
-TriesLast w old (Owing errand rest) = LastArrived w old errand.token rest
-TriesLast w old (Lost group z) = AllLost w z old group
+-- The arrivals of tokens that know as much as those of `from`, or else a look of all.
+abbrev pub TriesLast : Fields → GroupHeld → GroupHeld → LastTry → Type 0
+TriesLast w from old (Owing errand rest) = LastArrived w from errand.token rest
+TriesLast w from old (Lost group z) = AllLost w z old group

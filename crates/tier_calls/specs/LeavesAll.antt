@@ -68,12 +68,12 @@ abbrev pub LeftLast : (List Kind → List Kind → Type 0) → ℕ → GroupHeld
 LeftLast P tries old first = (w : Fields) × HaveLeft P tries w old first × (length old.tokens ≡ w.unarrived)
     × (first.view.errand ≡ owed_by_last (parent_of (shape_of first) old.view.tier) old.view.tier (w.parties == length old.tokens))
 
--- one try from the word w
-abbrev pub TriesOnce : Fields → GroupHeld → LeavingTry → Type 0
-TriesOnce w old (once.Left door) = HasCounted Departure old.view door.view × HaveLeft LeavesOnce 1 w old door × (length old.tokens < w.unarrived)
-TriesOnce w old (once.Owing errand) = HasCounted Departure old.view errand.token.view × HaveLeft LeavesOnce 1 w old errand.token × (length old.tokens ≡ w.unarrived)
-    × (errand.token.view.errand ≡ owed_by_last (parent_of (shape_of errand.token) old.view.tier) old.view.tier (w.parties == length old.tokens))
-TriesOnce w old (once.Lost group z) = AllLost w z old group
+-- One try from the word w: the departures of tokens that know as much as those of `from`, or else a look of all.
+abbrev pub TriesOnce : Fields → GroupHeld → GroupHeld → LeavingTry → Type 0
+TriesOnce w from old (once.Left door) = HasCounted Departure from.view door.view × HaveLeft LeavesOnce 1 w from door × (length from.tokens < w.unarrived)
+TriesOnce w from old (once.Owing errand) = HasCounted Departure from.view errand.token.view × HaveLeft LeavesOnce 1 w from errand.token × (length from.tokens ≡ w.unarrived)
+    × (errand.token.view.errand ≡ owed_by_last (parent_of (shape_of errand.token) from.view.tier) from.view.tier (w.parties == length from.tokens))
+TriesOnce w from old (once.Lost group z) = AllLost w z old group
 
 -- some tries
 abbrev pub TriesLeaving : ℕ → GroupHeld → TriedLeaving → Type 0

@@ -21,11 +21,14 @@ pub mod ArrivesAll
 pub mod Splits
 pub mod Settles
 pub mod NewTokens
+pub mod Kept
 pub mod Exchanges
 pub mod ArrivesWith
+pub mod KeptWith
 pub mod Finishes
 pub mod Led
 pub mod LeavesAll
+pub mod KeptTries
 pub mod JoinsAll
 pub mod RegistersAll
 pub mod Watches

@@ -1,9 +1,12 @@
 //! The exchange by which some new members join a tier, some old ones leave it, and all others arrive there.
 
-ghost use Rattle.std.specs.Prelude.{◌≡◌, ◌+◌, ◌-◌, ◌<◌, ◌≤◌, [], length, take, drop};
+ghost use Rattle.std.specs.Prelude.{◌≡◌, ◌+◌, ◌-◌, ◌<◌, ◌≤◌, [], length, take, drop, IfSome};
+ghost use Rattle.tier_calls.specs.Kept.{MayBegin, Begins, begun};
 
 use crate::groups::{Group, view_glanced};
+use crate::kept::Begun;
 use crate::seated::Seated;
+use crate::seen::Seen;
 use crate::tiers::Tiers;
 use crate::tokens::{Door, Errand};
 use atomic_table::Seat;
@@ -211,23 +214,25 @@ impl Tiers {
     /// Makes one try by which all tokens of a group and some new ones pass the tier, from the word that was found there:
     /// one member of each new token joins and arrives, `leaving` of the old members leave, and the others arrive. Others are
     /// still to arrive there, so no arrival is the last. `J` names the steps, for the table's rule.
-    fn exchange_early_as<J: Gone>(
+    fn exchange_early_as<J: Gone, B: Begun>(
         &self,
         group: Group,
         new_tokens: NewTokens,
         leaving: u32,
         word: Word,
     ) -> EarlyTry
+        requires begins { Begins group word B.before }
         requires may { MayExchange self.now leaving word group new_tokens }
         requires more { length group.tokens < word.unarrived }
         requires ends { (J.key ≡ self.now.key) × (J.from ≡ word) × (J.to ≡ word_with group new_tokens leaving word) }
-        requires sights { J.sights ≡ sights_with group new_tokens leaving word }
-        ensures { ExchangesBy group new_tokens leaving word result }
+        requires sights { J.sights ≡ sights_with (begun group B.before) new_tokens leaving word }
+        ensures { ExchangesBy group B.before new_tokens leaving word result }
     {
         let Group {
             seat: olds,
             view,
             count,
+            found: _,
         } = group;
         let NewTokens {
             mut seat,
@@ -240,7 +245,7 @@ impl Tiers {
             ..word
         };
         self.table.shared.join_seat::<Joins>(&mut seat, olds);
-        if let Some(other) = self.go_together::<J>(&mut seat, tier, word, next) {
+        if let Some(other) = self.go_from::<J, Brand>(&mut seat, tier, word, next) {
             let olds = self.keep_last(seat, news);
             let view = view_glanced(tier, other, view);
             return EarlyTry::Lost(
@@ -248,6 +253,7 @@ impl Tiers {
                     seat: olds,
                     view,
                     count,
+                    found: None,
                 },
                 other,
             );
@@ -258,42 +264,46 @@ impl Tiers {
             seat,
             view: View { arrived: 1, ..view },
             count: come,
+            found: None,
         })
     }
 
     /// Makes one try by which all tokens of a group and some new ones pass the tier, as `exchange_early_as` says.
-    pub(crate) fn exchange_early(
+    pub(crate) fn exchange_early<B: Begun>(
         &self,
         group: Group,
         new_tokens: NewTokens,
         leaving: u32,
         word: Word,
     ) -> EarlyTry
+        requires begins { Begins group word B.before }
         requires may { MayExchange self.now leaving word group new_tokens }
         requires more { length group.tokens < word.unarrived }
-        ensures { ExchangesBy group new_tokens leaving word result }
+        ensures { ExchangesBy group B.before new_tokens leaving word result }
     {
-        self.exchange_early_as::<Brand>(group, new_tokens, leaving, word)
+        self.exchange_early_as::<Brand, B>(group, new_tokens, leaving, word)
     }
 
     /// Does the same as `exchange_early_as`, if nobody else is to arrive there. So one of the arrivals is the last.
-    fn exchange_last_as<J: Gone>(
+    fn exchange_last_as<J: Gone, B: Begun>(
         &self,
         group: Group,
         new_tokens: NewTokens,
         leaving: u32,
         word: Word,
     ) -> LastPass
+        requires begins { Begins group word B.before }
         requires may { MayExchange self.now leaving word group new_tokens }
         requires last { length group.tokens ≡ word.unarrived }
         requires ends { (J.key ≡ self.now.key) × (J.from ≡ word) × (J.to ≡ word_with group new_tokens leaving word) }
-        requires sights { J.sights ≡ sights_with group new_tokens leaving word }
-        ensures { ExchangesLast group new_tokens leaving word result }
+        requires sights { J.sights ≡ sights_with (begun group B.before) new_tokens leaving word }
+        ensures { ExchangesLast group B.before new_tokens leaving word result }
     {
         let Group {
             seat: olds,
             view,
             count,
+            found: _,
         } = group;
         let NewTokens {
             mut seat,
@@ -312,7 +322,7 @@ impl Tiers {
             ..word
         };
         self.table.shared.join_seat::<Joins>(&mut seat, olds);
-        if let Some(other) = self.go_together::<J>(&mut seat, tier, word, next) {
+        if let Some(other) = self.go_from::<J, Brand>(&mut seat, tier, word, next) {
             let olds = self.keep_last(seat, news);
             let view = view_glanced(tier, other, view);
             return LastPass::Lost(
@@ -320,6 +330,7 @@ impl Tiers {
                     seat: olds,
                     view,
                     count,
+                    found: None,
                 },
                 other,
             );
@@ -331,35 +342,90 @@ impl Tiers {
     }
 
     /// Does the same as `exchange_early`, if nobody else is to arrive there.
-    pub(crate) fn exchange_last(
+    pub(crate) fn exchange_last<B: Begun>(
         &self,
         group: Group,
         new_tokens: NewTokens,
         leaving: u32,
         word: Word,
     ) -> LastPass
+        requires begins { Begins group word B.before }
         requires may { MayExchange self.now leaving word group new_tokens }
         requires last { length group.tokens ≡ word.unarrived }
-        ensures { ExchangesLast group new_tokens leaving word result }
+        ensures { ExchangesLast group B.before new_tokens leaving word result }
     {
-        self.exchange_last_as::<Brand>(group, new_tokens, leaving, word)
+        self.exchange_last_as::<Brand, B>(group, new_tokens, leaving, word)
+    }
+}
+
+impl Group {
+    /// Returns the root's word if the group has kept it and the first of `tries` tries, by which `joining` new members join, can
+    /// begin with it.
+    #[inline(always)]
+    fn kept_for(&self, joining: u32, tries: u32) -> Option<Seen>
+        ensures { IfSome result (λ w. MayBegin self.now w × (0 < tries) × (w.parties + joining ≤ MOST_PARTIES)) }
+    {
+        let kept = self.kept(tries)?;
+        if joining > MOST_PARTIES - kept.word().parties {
+            return None;
+        }
+        Some(kept)
     }
 }
 
 impl Tiers {
     ghost use Rattle.tier_calls.specs.NewTokens.{IsEager};
+    ghost use Rattle.tier_steps.specs.Step.{CanPass};
+    ghost use Rattle.tier_calls.specs.KeptWith.{PassesFrom, TriesWithKept};
     ghost use Rattle.tier_calls.specs.ArrivesAll.{KeepsAll};
     ghost use Rattle.std.specs.Prelude.{ℕ, Some};
     ghost use Rattle.tier_calls.specs.ArrivesWith.{TriesWith, ArrivesWith, HasEnded, OnlySplit};
 
-    /// Makes at most one try by which all tokens pass their tier, after a load of its word. If the tier lags, the try brings
-    /// it into the tokens' phase instead. The new tokens are split off the door.
+    /// Makes one try by which all tokens pass their tier, from the word that they found there. The new tokens are split off the
+    /// door.
+    fn pass_from<B: Begun>(
+        &self,
+        door: &mut Door,
+        group: Group,
+        joining: u32,
+        leaving: u32,
+        word: Word,
+    ) -> TriedWith
+        requires own { (door.old.tree ≡ self.now) × (group.tree ≡ self.now) }
+        requires begins { Begins group word B.before }
+        requires may { CanPass group.view.tier word group.view }
+        requires eager { IsEager group.view }
+        requires place { group.view.tier < length self.now.key.shape }
+        requires some { 0 < word.parties }
+        requires capacity { word.parties + joining ≤ MOST_PARTIES }
+        requires enough { length group.tokens ≤ word.unarrived }
+        requires few { leaving ≤ length group.tokens }
+        requires come { leaving < joining + length group.tokens }
+        ensures went { PassesFrom joining leaving (begun group B.before) group result }
+        ensures door { OnlySplit door.old door.new }
+    {
+        let new_tokens = self.new_tokens(door, joining);
+        if word.unarrived > group.size() {
+            return match self.exchange_early::<B>(group, new_tokens, leaving, word) {
+                EarlyTry::Done(group) => TriedWith::Done(group),
+                EarlyTry::Lost(group, _) => TriedWith::Yet(group),
+            };
+        }
+        match self.exchange_last::<B>(group, new_tokens, leaving, word) {
+            LastPass::Owing(errand, others) => TriedWith::Owing(errand, others),
+            LastPass::Lost(group, _) => TriedWith::Yet(group),
+        }
+    }
+
+    /// Makes at most one try by which all tokens pass their tier, from the root's word that they have kept or after a load. If the
+    /// tier lags, the try brings it into the tokens' phase instead. The new tokens are split off the door.
     fn try_with_once(
         &self,
         door: &mut Door,
         mut group: Group,
         joining: u32,
         leaving: u32,
+        kept: Option<Seen>,
     ) -> TriedWith
         requires own { (door.old.tree ≡ self.now) × (group.tree ≡ self.now) }
         requires place { group.view.tier < length self.now.key.shape }
@@ -367,11 +433,12 @@ impl Tiers {
         requires eager { 0 < group.view.tier → IsEager group.view }
         requires few { leaving ≤ length group.tokens }
         requires come { leaving < joining + length group.tokens }
-        ensures went { TriesWith 1 joining leaving group result }
+        requires kept { IfSome kept (λ w. MayBegin group w × (w.parties + joining ≤ MOST_PARTIES)) }
+        ensures went { TriesWithKept kept 1 joining leaving group result }
         ensures door { OnlySplit door.old door.new }
     {
         let tier = group.tier();
-        let word = self.look_all(&mut group, tier);
+        let word = self.find(&mut group, tier, &kept);
         if word.ended {
             return TriedWith::Ended(group, word);
         }
@@ -382,39 +449,36 @@ impl Tiers {
         if joining > MOST_PARTIES - word.parties {
             return TriedWith::Full(group, word.parties);
         }
-        let new_tokens = self.new_tokens(door, joining);
-        if word.unarrived > group.size() {
-            return match self.exchange_early(group, new_tokens, leaving, word) {
-                EarlyTry::Done(group) => TriedWith::Done(group),
-                EarlyTry::Lost(group, _) => TriedWith::Yet(group),
-            };
-        }
-        match self.exchange_last(group, new_tokens, leaving, word) {
-            LastPass::Owing(errand, others) => TriedWith::Owing(errand, others),
-            LastPass::Lost(group, _) => TriedWith::Yet(group),
-        }
+        self.pass_from::<Brand>(door, group, joining, leaving, word)
     }
 
-    /// Makes at most `tries` tries by which all tokens pass their tier.
+    /// Makes at most `tries` tries by which all tokens pass their tier, the first of them from the root's word if they have kept
+    /// it. If that try is won, it has found this word once more, so it is their look at the root too.
     fn try_with(
         &self,
         door: &mut Door,
         mut group: Group,
         joining: u32,
         leaving: u32,
+        mut kept: Option<Seen>,
         tries: u32,
     ) -> TriedWith
         requires own { (door.old.tree ≡ self.now) × (group.tree ≡ self.now) }
         requires place { group.view.tier < length self.now.key.shape }
-        requires eager { IsEager group.view }
+        requires unarrived { group.view.arrived ≡ 0 }
+        requires eager { 0 < group.view.tier → IsEager group.view }
         requires few { leaving ≤ length group.tokens }
         requires come { leaving < joining + length group.tokens }
-        ensures went { TriesWith tries joining leaving group result }
+        requires kept { IfSome kept (λ w. MayBegin group w × (0 < tries) × (w.parties + joining ≤ MOST_PARTIES)) }
+        ensures went { TriesWithKept kept tries joining leaving group result }
         ensures door { OnlySplit door.old door.new }
     {
         for _ in 0..tries {
-            match self.try_with_once(door, group, joining, leaving) {
-                TriedWith::Yet(next) => group = next,
+            match self.try_with_once(door, group, joining, leaving, kept) {
+                TriedWith::Yet(next) => {
+                    group = next;
+                    kept = None;
+                }
                 answer => return answer,
             }
         }
@@ -444,7 +508,8 @@ impl Tiers {
     {
         // Only for the prover: brings in that the tree has a root.
         let _ = self.shape();
-        let root = self.look_all(&mut group, 0);
+        let kept = group.kept_for(joining, tries);
+        let root = self.find(&mut group, 0, &kept);
         if root.ended {
             return ArrivedWith::Ended(group, root.shown());
         }
@@ -452,7 +517,7 @@ impl Tiers {
             let phase = group.phase();
             return ArrivedWith::AlreadyArrived(group, phase);
         }
-        match self.try_with(door, group, joining, leaving, tries) {
+        match self.try_with(door, group, joining, leaving, kept, tries) {
             TriedWith::Yet(group) => ArrivedWith::Busy(group),
             TriedWith::Done(group) => {
                 let phase = group.phase();

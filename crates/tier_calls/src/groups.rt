@@ -14,9 +14,12 @@ ghost use Rattle.tier_calls.specs.Holding.{sight_held};
 ghost use Rattle.tier_rule.specs.Reach.{those, front_of, rest_of};
 ghost use Rattle.tier_calls.specs.LastOnes.{IsLast, TriesLast};
 ghost use Rattle.tier_calls.specs.declared.groups.TriedAll.TheVariants as tried;
+ghost use Rattle.tier_calls.specs.Kept.{MayKeep, MayBegin, Begins, begun};
+ghost use Rattle.tier_calls.specs.KeptTries.{TriesFrom, TriesKept};
 ghost use Rattle.tier_calls.specs.Groups.{AreSeated, group_of, AllLooked, glanced, MayGo, HaveGone, HaveLost, AllArrived, AllLost};
 
 use crate::going::Going;
+use crate::kept::Begun;
 use crate::polling::Polled;
 use crate::seated::Seated;
 use crate::seen::Seen;
@@ -43,17 +46,21 @@ pub struct Group {
     pub(crate) seat: Seat<Kind, Sights>,
     pub(crate) view: View,
     pub(crate) count: u32,
+    /// The root's word, if the members are there, their tokens' last step found it, and they may pass from it.
+    pub(crate) found: Option<Seen>,
 }
 
 impl Model for Group {
     ghost use Rattle.tier_calls.specs.Holding.{sight_of};
     ghost use Rattle.tier_calls.specs.Groups.{GroupHeld, AreSeated};
+    ghost use Rattle.tier_calls.specs.Kept.{FoundThere};
+    ghost use Rattle.std.specs.Prelude.{IfSome};
 
     ghost Value = { GroupHeld };
 
     ghost view = { λ c. record { tree = record { id = c.seat.table_id; key = (sight_of c.seat.me).key }; view = c.view; tokens = c.seat.me.0 } };
 
-    ghost invariant = { λ c. AreSeated c.seat.me c.view c.count };
+    ghost invariant = { λ c. AreSeated c.seat.me c.view c.count × IfSome c.found (FoundThere c.seat.me c.view) };
 }
 
 /// Returns the errand of a token that arrived last at its tier.
@@ -82,7 +89,12 @@ fn others_of(seat: Option<Seat<Kind, Sights>>, view: View, count: u32) -> Option
 {
     match seat {
         None => None,
-        Some(seat) => Some(Group { seat, view, count }),
+        Some(seat) => Some(Group {
+            seat,
+            view,
+            count,
+            found: None,
+        }),
     }
 }
 
@@ -157,7 +169,27 @@ fn tried_early(group: Group, lost: Option<Word>) -> TriedAll
     }
 }
 
+/// Returns what a group keeps of a look at a tier: the root's word, if its members are there and may pass from it.
+#[inline(always)]
+fn kept_after(tier: u16, seen: Seen, word: Word, view: &View) -> Option<Seen>
+    requires { seen ≡ word }
+    ensures { IfSome result (λ kept. (kept ≡ word) × MayKeep tier view.now word) }
+{
+    if tier != 0 || view.tier != 0 || view.arrived == 1 || word.ended || is_behind(word, view) {
+        return None;
+    }
+    Some(seen)
+}
+
 impl Group {
+    /// Returns the root's word if the group has kept it and the first of `tries` tries can begin with it.
+    #[inline(always)]
+    pub(crate) fn kept(&self, tries: u32) -> Option<Seen>
+        ensures { IfSome result (λ w. MayBegin self.now w × (0 < tries)) }
+    {
+        if tries == 0 { None } else { self.found }
+    }
+
     /// Makes one of a crew with one member.
     pub fn of(crew: Crew) -> Group
         requires { crew.view.size ≡ 1 }
@@ -172,6 +204,7 @@ impl Group {
             seat,
             view,
             count: 1,
+            found: None,
         }
     }
 
@@ -184,6 +217,7 @@ impl Group {
             seat,
             view: _,
             count: _,
+            found: _,
         } = self;
         seat
     }
@@ -227,6 +261,7 @@ impl Tiers {
         let seen = Seen::at(found);
         let word = seen.word();
         group.view = view_glanced(tier, word, group.view);
+        group.found = kept_after(tier, seen, word, &group.view);
         word
     }
 
@@ -270,16 +305,18 @@ impl Tiers {
 
     /// Makes one try of the arrivals of all tokens at their tier, from the word that they found there. Others are still to
     /// arrive there, so no arrival is the last. Returns the other word if the try is lost.
-    fn arrive_early(&self, group: &mut Group, word: Word) -> Option<Word>
+    fn arrive_early<B: Begun>(&self, group: &mut Group, word: Word) -> Option<Word>
         requires own { group.old.tree ≡ self.now }
+        requires begins { Begins group.old word B.before }
         requires may { CanPass group.old.view.tier word group.old.view }
         requires place { group.old.view.tier < length self.now.key.shape }
         requires more { length group.old.tokens < word.unarrived }
-        ensures { MatchOption result (AllArrived word group.old group.new) (λ z. AllLost word z group.old group.new) }
+        ensures { MatchOption result (AllArrived word (begun group.old B.before) group.new) (λ z. AllLost word z group.old group.new) }
     {
         let tier = group.view.tier;
         let next = after_arrivals(word, group.count);
-        match self.go_together::<Brand>(&mut group.seat, tier, word, next) {
+        group.found = None;
+        match self.go_from::<Brand, B>(&mut group.seat, tier, word, next) {
             None => {
                 group.view.arrived = 1;
                 None
@@ -314,18 +351,20 @@ impl Tiers {
 
     /// Makes one try of the arrivals of all tokens at their tier, from the word that they found there. Nobody else is to
     /// arrive there, so one of the arrivals is the last.
-    pub(crate) fn arrive_last(&self, group: Group, word: Word) -> LastTry
+    pub(crate) fn arrive_last<B: Begun>(&self, group: Group, word: Word) -> LastTry
         requires own { group.tree ≡ self.now }
+        requires begins { Begins group word B.before }
         requires may { CanPass group.view.tier word group.view }
         requires place { group.view.tier < length self.now.key.shape }
         requires unled { group.view.led ≡ false }
         requires last { length group.tokens ≡ word.unarrived }
-        ensures { TriesLast word group result }
+        ensures { TriesLast word (begun group B.before) group result }
     {
         let Group {
             mut seat,
             view,
             count,
+            found: _,
         } = group;
         let tier = view.tier;
         let before = Word {
@@ -336,9 +375,17 @@ impl Tiers {
             unarrived: word.unarrived - count,
             ..word
         };
-        if let Some(other) = self.go_together::<Brand>(&mut seat, tier, word, next) {
+        if let Some(other) = self.go_from::<Brand, B>(&mut seat, tier, word, next) {
             let view = view_glanced(tier, other, view);
-            return LastTry::Lost(Group { seat, view, count }, other);
+            return LastTry::Lost(
+                Group {
+                    seat,
+                    view,
+                    count,
+                    found: None,
+                },
+                other,
+            );
         }
         let behind = self.part_first(&mut seat, count);
         let others = others_of(behind, View { arrived: 1, ..view }, count - 1);
@@ -369,22 +416,45 @@ impl Tiers {
     {
         let tier = group.view.tier;
         let next = step_word(Kind::Refresh, tier, word, &group.view);
+        group.found = None;
         if let Some(other) = self.go_together::<Brand>(&mut group.seat, tier, word, next) {
             group.view = view_glanced(tier, other, group.view);
         }
     }
 
-    /// Makes at most one try of the arrivals of all tokens at their tier, after a load of its word. If the tier lags, the
-    /// try brings it into the tokens' phase instead.
-    fn try_all_once(&self, mut group: Group) -> TriedAll
+    /// Makes one try of the arrivals of all tokens at their tier, from the word that they found there.
+    fn arrive_from<B: Begun>(&self, mut group: Group, word: Word) -> TriedAll
+        requires own { group.tree ≡ self.now }
+        requires begins { Begins group word B.before }
+        requires may { CanPass group.view.tier word group.view }
+        requires place { group.view.tier < length self.now.key.shape }
+        requires unled { group.view.led ≡ false }
+        requires unarrived { group.view.arrived ≡ 0 }
+        requires enough { length group.tokens ≤ word.unarrived }
+        ensures { TriesFrom word (begun group B.before) group result }
+    {
+        if word.unarrived > group.size() {
+            let lost = self.arrive_early::<B>(&mut group, word);
+            return tried_early(group, lost);
+        }
+        match self.arrive_last::<B>(group, word) {
+            LastTry::Owing(errand, others) => TriedAll::Owing(errand, others),
+            LastTry::Lost(group, _) => TriedAll::Yet(group),
+        }
+    }
+
+    /// Makes at most one try of the arrivals of all tokens at their tier, from the root's word that they have kept or after a
+    /// load. If the tier lags, the try brings it into the tokens' phase instead.
+    fn try_all_once(&self, mut group: Group, kept: Option<Seen>) -> TriedAll
         requires own { group.tree ≡ self.now }
         requires place { group.view.tier < length self.now.key.shape }
         requires unled { group.view.led ≡ false }
         requires unarrived { group.view.arrived ≡ 0 }
-        ensures { TriesAll 1 group result }
+        requires kept { IfSome kept (MayBegin group) }
+        ensures { TriesKept kept 1 group result }
     {
         let tier = group.tier();
-        let word = self.look_all(&mut group, tier);
+        let word = self.find(&mut group, tier, &kept);
         if word.ended {
             return TriedAll::Ended(group, word);
         }
@@ -392,27 +462,25 @@ impl Tiers {
             self.refresh_first(&mut group, word);
             return TriedAll::Yet(group);
         }
-        if word.unarrived > group.size() {
-            let lost = self.arrive_early(&mut group, word);
-            return tried_early(group, lost);
-        }
-        match self.arrive_last(group, word) {
-            LastTry::Owing(errand, others) => TriedAll::Owing(errand, others),
-            LastTry::Lost(group, _) => TriedAll::Yet(group),
-        }
+        self.arrive_from::<Brand>(group, word)
     }
 
-    /// Makes at most `tries` tries of the arrivals of all tokens.
-    fn try_all(&self, mut group: Group, tries: u32) -> TriedAll
+    /// Makes at most `tries` tries of the arrivals of all tokens, the first of them from the root's word if they have kept it.
+    /// If that try is won, it has found this word once more, so it is their look at the root too.
+    fn try_all(&self, mut group: Group, mut kept: Option<Seen>, tries: u32) -> TriedAll
         requires own { group.tree ≡ self.now }
         requires place { group.view.tier < length self.now.key.shape }
         requires unled { group.view.led ≡ false }
         requires unarrived { group.view.arrived ≡ 0 }
-        ensures { TriesAll tries group result }
+        requires kept { IfSome kept (λ w. MayBegin group w × (0 < tries)) }
+        ensures { TriesKept kept tries group result }
     {
         for _ in 0..tries {
-            match self.try_all_once(group) {
-                TriedAll::Yet(next) => group = next,
+            match self.try_all_once(group, kept) {
+                TriedAll::Yet(next) => {
+                    group = next;
+                    kept = None;
+                }
                 answer => return answer,
             }
         }
@@ -422,8 +490,9 @@ impl Tiers {
     /// Arrives with all members, as Java's `arrive` by each of them, by one exchange of their tier's word. Doesn't wait for
     /// the phase to pass.
     ///
-    /// Makes at most `tries` tries, each of which may also bring the tier into the root's phase. See [`ArrivedAll`] for what
-    /// to do after each answer.
+    /// Makes at most `tries` tries, each of which may also bring the tier into the root's phase. The first one needs no load
+    /// if the group's last step was a look at the root, its members are there, and they may arrive. See [`ArrivedAll`] for
+    /// what to do after each answer.
     pub fn arrive_all(&self, mut group: Group, tries: u32) -> ArrivedAll
         requires own { group.tree ≡ self.now }
         ensures answer { ArrivesAll group tries result }
@@ -431,7 +500,8 @@ impl Tiers {
     {
         // Only for the prover: brings in that the tree has a root.
         let _ = self.shape();
-        let root = self.look_all(&mut group, 0);
+        let kept = group.kept(tries);
+        let root = self.find(&mut group, 0, &kept);
         if root.ended {
             return ArrivedAll::Ended(group, root.shown());
         }
@@ -439,7 +509,7 @@ impl Tiers {
             let phase = group.phase();
             return ArrivedAll::AlreadyArrived(group, phase);
         }
-        match self.try_all(group, tries) {
+        match self.try_all(group, kept, tries) {
             TriedAll::Yet(group) => ArrivedAll::Busy(group),
             TriedAll::Done(group) => {
                 let phase = group.phase();
@@ -510,10 +580,12 @@ impl Tiers {
         let seat = self.table.shared.split_seat::<PartsAt<J>>(&mut group.seat);
         let count = group.count - n;
         group.count = n;
+        group.found = None;
         Group {
             seat,
             view: group.view,
             count,
+            found: None,
         }
     }
 
@@ -571,7 +643,9 @@ impl Tiers {
             seat,
             view: _,
             count,
+            found: _,
         } = other;
+        group.found = None;
         self.table.shared.join_seat::<Joins>(&mut group.seat, seat);
         let word = self.look_seat(&mut group.seat, 0);
         group.count += count;

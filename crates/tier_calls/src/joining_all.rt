@@ -89,6 +89,7 @@ impl Tiers {
             seat: olds,
             view,
             count,
+            found: _,
         } = group;
         let NewTokens {
             mut seat,
@@ -105,6 +106,7 @@ impl Tiers {
                     seat: olds,
                     view,
                     count,
+                    found: None,
                 },
                 other,
             );
@@ -113,6 +115,7 @@ impl Tiers {
             seat,
             view,
             count: news + count,
+            found: None,
         })
     }
 

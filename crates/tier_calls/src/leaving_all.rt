@@ -1,16 +1,19 @@
 //! The exchange by which all members of a group leave their tier.
 
-ghost use Rattle.std.specs.Prelude.{◌≡◌, ◌<◌, ◌≤◌, ℕ, Some, length, false};
+ghost use Rattle.std.specs.Prelude.{◌≡◌, ◌<◌, ◌≤◌, ℕ, Some, length, false, IfSome};
 ghost use Rattle.phaser_word.specs.Fields.{IsLegal};
 ghost use Rattle.tier_shape.specs.Parents.{parent_of};
 ghost use Rattle.tier_steps.specs.Step.{CanPass, owed};
 ghost use Rattle.tier_steps.specs.declared.view.Passage.TheVariants.{Departure};
 ghost use Rattle.tier_calls.specs.Groups.{left_less};
 ghost use Rattle.tier_calls.specs.LastOnes.{IsLast};
+ghost use Rattle.tier_calls.specs.Kept.{MayBegin, Begins, begun};
+ghost use Rattle.tier_calls.specs.KeptTries.{TriesLeavingKept};
 ghost use Rattle.tier_calls.specs.LeavesAll.{TriesOnce, TriesLeaving, LeavesAll, HasEnded};
 
 use crate::going::Going;
 use crate::groups::{Group, view_glanced};
+use crate::kept::Begun;
 use crate::seated::Seated;
 use crate::seen::Seen;
 use crate::tiers::Tiers;
@@ -106,27 +109,37 @@ impl Tiers {
 
     /// Makes one try by which all members leave their tier, from the word that they found there. The last token leaves
     /// first, and the first one last. The other tokens are dropped then.
-    fn leave_together(&self, group: Group, word: Word) -> LeavingTry
+    fn leave_together<B: Begun>(&self, group: Group, word: Word) -> LeavingTry
         requires own { group.tree ≡ self.now }
+        requires begins { Begins group word B.before }
         requires may { CanPass group.view.tier word group.view }
         requires place { group.view.tier < length self.now.key.shape }
         requires unled { group.view.led ≡ false }
         requires legal { IsLegal word }
         requires some { 0 < word.parties }
         requires enough { length group.tokens ≤ word.unarrived }
-        ensures { TriesOnce word group result }
+        ensures { TriesOnce word (begun group B.before) group result }
     {
         let Group {
             mut seat,
             view,
             count,
+            found: _,
         } = group;
         let tier = view.tier;
         let before = word_left(word, count - 1);
         let next = word_passed(tier, Passage::Departure, before);
-        if let Some(other) = self.go_together::<Brand>(&mut seat, tier, word, next) {
+        if let Some(other) = self.go_from::<Brand, B>(&mut seat, tier, word, next) {
             let view = view_glanced(tier, other, view);
-            return LeavingTry::Lost(Group { seat, view, count }, other);
+            return LeavingTry::Lost(
+                Group {
+                    seat,
+                    view,
+                    count,
+                    found: None,
+                },
+                other,
+            );
         }
         let _ = self.part_first(&mut seat, count);
         let errand = self.errand_left(tier, before);
@@ -146,17 +159,18 @@ impl Tiers {
         LeavingTry::Owing(owing_left(token))
     }
 
-    /// Makes at most one try by which all members leave their tier, after a load of its word. If the tier lags, the try
-    /// brings it into the tokens' phase instead.
-    fn try_leaving_once(&self, mut group: Group) -> TriedLeaving
+    /// Makes at most one try by which all members leave their tier, from the root's word that they have kept or after a load.
+    /// If the tier lags, the try brings it into the tokens' phase instead.
+    fn try_leaving_once(&self, mut group: Group, kept: Option<Seen>) -> TriedLeaving
         requires own { group.tree ≡ self.now }
         requires place { group.view.tier < length self.now.key.shape }
         requires unled { group.view.led ≡ false }
         requires unarrived { group.view.arrived ≡ 0 }
-        ensures { TriesLeaving 1 group result }
+        requires kept { IfSome kept (MayBegin group) }
+        ensures { TriesLeavingKept kept 1 group result }
     {
         let tier = group.tier();
-        let word = self.look_all(&mut group, tier);
+        let word = self.find(&mut group, tier, &kept);
         if word.ended {
             return TriedLeaving::Ended(group, word);
         }
@@ -164,24 +178,29 @@ impl Tiers {
             self.refresh_first(&mut group, word);
             return TriedLeaving::Yet(group);
         }
-        match self.leave_together(group, word) {
+        match self.leave_together::<Brand>(group, word) {
             LeavingTry::Left(door) => TriedLeaving::Left(door),
             LeavingTry::Owing(errand) => TriedLeaving::Owing(errand),
             LeavingTry::Lost(group, _) => TriedLeaving::Yet(group),
         }
     }
 
-    /// Makes at most `tries` tries by which all members leave their tier.
-    fn try_leaving(&self, mut group: Group, tries: u32) -> TriedLeaving
+    /// Makes at most `tries` tries by which all members leave their tier, the first of them from the root's word if they have
+    /// kept it. If that try is won, it has found this word once more, so it is their look at the root too.
+    fn try_leaving(&self, mut group: Group, mut kept: Option<Seen>, tries: u32) -> TriedLeaving
         requires own { group.tree ≡ self.now }
         requires place { group.view.tier < length self.now.key.shape }
         requires unled { group.view.led ≡ false }
         requires unarrived { group.view.arrived ≡ 0 }
-        ensures { TriesLeaving tries group result }
+        requires kept { IfSome kept (λ w. MayBegin group w × (0 < tries)) }
+        ensures { TriesLeavingKept kept tries group result }
     {
         for _ in 0..tries {
-            match self.try_leaving_once(group) {
-                TriedLeaving::Yet(next) => group = next,
+            match self.try_leaving_once(group, kept) {
+                TriedLeaving::Yet(next) => {
+                    group = next;
+                    kept = None;
+                }
                 answer => return answer,
             }
         }
@@ -191,8 +210,9 @@ impl Tiers {
     /// Leaves with all members, as Java's `arriveAndDeregister` by each of them, by one exchange of their tier's word.
     /// Doesn't wait for the phase to pass.
     ///
-    /// The group's first token becomes a door, and its other tokens are dropped. Makes at most `tries` tries, each of which
-    /// may also bring the tier into the root's phase. See [`LeftAll`] for what to do after each answer.
+    /// The group's first token becomes a door, and its other tokens are dropped. Makes at most `tries` tries, each of which may
+    /// also bring the tier into the root's phase. The first one needs no load if that of `arrive_all` needs none. See
+    /// [`LeftAll`] for what to do after each answer.
     pub fn leave_all(&self, mut group: Group, tries: u32) -> LeftAll
         requires own { group.tree ≡ self.now }
         ensures answer { LeavesAll group tries result }
@@ -200,7 +220,8 @@ impl Tiers {
     {
         // Only for the prover: brings in that the tree has a root.
         let _ = self.shape();
-        let root = self.look_all(&mut group, 0);
+        let kept = group.kept(tries);
+        let root = self.find(&mut group, 0, &kept);
         if root.ended {
             return LeftAll::Ended(group, root.shown());
         }
@@ -208,7 +229,7 @@ impl Tiers {
             let phase = group.phase();
             return LeftAll::AlreadyArrived(group, phase);
         }
-        match self.try_leaving(group, tries) {
+        match self.try_leaving(group, kept, tries) {
             TriedLeaving::Yet(group) => LeftAll::Busy(group),
             TriedLeaving::Left(door) => {
                 let phase = door.phase();

@@ -36,10 +36,10 @@
 //!   crew isn't moved), `joining.rt`, `beside.rt` (`join_here`), `polling.rt`, `looking.rt`, `forcing.rt`,
 //!   `closing.rt`: the calls;
 //!   `next.rt`: which tier a call looks for; `seated.rt`: a token's seat.
-//! * `groups.rt`: groups, their arrivals and polls, how they split and go together; `arriving_with.rt`: an arrival with
-//!   which others join and leave, and the new tokens for it; `joining_all.rt`: registrations beside a group;
-//!   `registering_all.rt`: those of a new group at any tier; `leaving_all.rt`: all departures; `finishing.rt`: the rest of
-//!   an arrival that was counted, and the group as a whole.
+//! * `groups.rt`: groups, their arrivals and polls, how they split and go together; `kept.rt`: from what an exchange by all
+//!   tokens begins; `arriving_with.rt`: an arrival with which others join and leave, and the new tokens for it;
+//!   `joining_all.rt`: registrations beside a group; `registering_all.rt`: those of a new group at any tier;
+//!   `leaving_all.rt`: all departures; `finishing.rt`: the rest of an arrival that was counted, and the group as a whole.
 //! * `proofs/Seating.antt`: a token's seat; `Turning.antt` and `Running.antt`: the loop; `Tries.antt`: those steps;
 //!   `Settling.antt`, `Staying.antt`, `Coming.antt`, `Waits.antt`: the answers; `Sitting.antt` and `Pairing.antt`:
 //!   new seats, and two that look at once; `StayingHere.antt` and `Greeting.antt`: a door beside a crew;
@@ -47,8 +47,9 @@
 //!   `Gathering.antt`: the end; `Ending.antt`: the end that was seen.
 //! * `proofs/Grouping.antt`: a group's seat; `Arrivals.antt`, `LastOnes.antt`, `LeavingAll.antt`, `Exchanging.antt`: their
 //!   exchanges; `ExchangeTry.antt`, `JoiningTry.antt`: one try of these; `ArrivingAll.antt`, `ExchangeTries.antt`,
-//!   `JoiningTries.antt`, `LeavingTries.antt`: what each token did; `Splitting.antt`, `Few.antt`, `Settled.antt`: groups that
-//!   split and go together; `CatchingUp.antt`: the tier after a poll; `Registering.antt`: a new group.
+//!   `JoiningTries.antt`, `LeavingTries.antt`: what each token did; `Keeping.antt`, `KeepingLeaving.antt`,
+//!   `KeepingWith.antt`: exchanges from a word that a group has kept; `Splitting.antt`, `Few.antt`, `Settled.antt`: groups
+//!   that split and go together; `CatchingUp.antt`: the tier after a poll; `Registering.antt`: a new group.
 #![tactic(auto)]
 
 pub mod arriving;
@@ -62,6 +63,7 @@ pub mod groups;
 pub mod in_place;
 pub mod joining;
 pub mod joining_all;
+mod kept;
 pub mod leaving_all;
 mod looking;
 mod next;

@@ -1,12 +1,13 @@
 use Rattle.tier_steps.specs.declared.kind.Kind.TheVariants.{Leave}
 use Rattle.tier_rule.specs.Group.{all_stepped}
 use Rattle.tier_calls.specs.Holding.{sight_of}
+use Rattle.tier_calls.specs.Kept.{as_seat}
 use Rattle.tier_calls.proofs.tiers.Tiers.leave_together.Given as goal
 
-abbrev pub ghosts-go_together : goal.ghosts-go_together
-ghosts-go_together a = record {
+abbrev pub ghosts-go_from : goal.ghosts-go_from
+ghosts-go_from g a = record {
   key = a.self.now.key;
   from = a.word;
   to = a.next;
-  sights = all_stepped Leave 1 a.tier (sight_of a.seat.now.me).view a.word a.seat.now.me.0;
+  sights = all_stepped Leave 1 a.tier (sight_of (as_seat g.B.Begun.before)).view a.word g.B.Begun.before;
 }

@@ -1,45 +1,51 @@
-use Rattle.std.proofs.Common.{ℕ, refl, sym, ap, subst, ◌∙◌, arith}
+use Rattle.std.proofs.Common.{Option, refl, sym, ap, subst, ◌∙◌, arith}
 use Rattle.phaser_word.specs.Fields.{Fields}
 use Rattle.tier_core.specs.Turn.{lags}
-use Rattle.tier_steps.specs.Step.{CanPass}
 use Rattle.tier_calls.specs.Groups.{GroupHeld}
-use Rattle.tier_calls.proofs.ArrivingAll.{looked_yet, ready, lost_after, keeps_then, early_tried, last_counts, last_then, last_count, end_shown_all, keeps_soon}
+use Rattle.tier_calls.specs.KeptTries.{TriesKept}
+use Rattle.tier_calls.specs.declared.groups.TriedAll.TheVariants as tried
+use Rattle.tier_calls.proofs.ArrivingAll.{looked_yet, none_now, behind, keeps_then, end_shown_all, keeps_soon}
+use Rattle.tier_calls.proofs.Keeping.{unkept_ended, unkept_behind, looks_unkept, finds_keeps, finds_begins, finds_may, finds_enough, finds_tries}
 use Rattle.tier_calls.proofs.tiers.Tiers.try_all_once.Goals as goal
 
 pub returns-then-word : goal.returns-then-word
 returns-then-word c =
     let e = ap (λ (w : Fields). w.ended) (sym c.word.view_is) ∙ c.if-word.true in
-    (keeps_soon 0 1 (omega arith) (looked_yet c.look_all-word.ensures c.tier-tier.ensures c.requires.unarrived), e, end_shown_all c.look_all-word.ensures e)
+    let n = unkept_ended c.args.kept c.requires.kept c.find-word.ensures e in
+    let l = looks_unkept c.find-word.ensures n in
+    subst (λ (k : Option Fields). TriesKept k 1 c.args.group (tried.Ended c.find-word.new.group c.find-word.result)) (sym n) (keeps_soon 0 1 (omega arith) (looked_yet l c.tier-tier.ensures c.requires.unarrived), e, end_shown_all l e)
+
+pub refresh_first-requires-clause-may : goal.refresh_first-requires-clause-may
+refresh_first-requires-clause-may c =
+    let e = ap (λ (z : GroupHeld). lags c.find-word.result z.view) (sym c.group.view_is) ∙ (sym c.is_behind.ensures ∙ c.if-is_behind.true) in
+    let n = unkept_behind c.args.kept c.requires.kept c.find-word.ensures e in
+    behind (looks_unkept c.find-word.ensures n) c.tier-tier.ensures c.requires.unarrived e
+
+pub refresh_first-requires-clause-unarrived : goal.refresh_first-requires-clause-unarrived
+refresh_first-requires-clause-unarrived c = none_now (finds_keeps c.args.kept c.find-word.ensures c.tier-tier.ensures c.requires.unarrived) c.requires.unarrived
 
 pub returns-then-is_behind : goal.returns-then-is_behind
-returns-then-is_behind c = keeps_then 0 1 1 refl (looked_yet c.look_all-word.ensures c.tier-tier.ensures c.requires.unarrived) c.refresh_first.ensures.kept
+returns-then-is_behind c =
+    let e = ap (λ (z : GroupHeld). lags c.find-word.result z.view) (sym c.group.view_is) ∙ (sym c.is_behind.ensures ∙ c.if-is_behind.true) in
+    let n = unkept_behind c.args.kept c.requires.kept c.find-word.ensures e in
+    subst (λ (k : Option Fields). TriesKept k 1 c.args.group (tried.Yet c.refresh_first.new.group)) (sym n) (keeps_then 0 1 1 refl (looked_yet (looks_unkept c.find-word.ensures n) c.tier-tier.ensures c.requires.unarrived) c.refresh_first.ensures.kept)
 
-pub arrive_early-lost-requires-clause-may : goal.arrive_early-lost-requires-clause-may
-arrive_early-lost-requires-clause-may c =
-    ready c.look_all-word.ensures c.tier-tier.ensures c.requires.unarrived (ap (λ (w : Fields). w.ended) (sym c.word.view_is) ∙ c.if-word.false)
-    (ap (λ (z : GroupHeld). lags c.look_all-word.result z.view) (sym c.group.view_is) ∙ (sym c.is_behind.ensures ∙ c.if-is_behind.false))
+pub arrive_from-requires-clause-begins : goal.arrive_from-requires-clause-begins
+arrive_from-requires-clause-begins c = finds_begins c.args.kept c.requires.kept c.find-word.ensures c.tier-tier.ensures c.requires.unarrived (ap (λ (w : Fields). w.ended) (sym c.word.view_is) ∙ c.if-word.false)
 
-pub returns-then-word-size : goal.returns-then-word-size
-returns-then-word-size c = early_tried _ c.tried_early.result c.arrive_early-lost.result c.look_all-word.ensures c.tier-tier.ensures c.requires.unarrived c.arrive_early-lost.ensures c.tried_early.ensures
+pub arrive_from-requires-clause-may : goal.arrive_from-requires-clause-may
+arrive_from-requires-clause-may c =
+    finds_may c.args.kept c.requires.kept c.find-word.ensures c.tier-tier.ensures c.requires.unarrived (ap (λ (w : Fields). w.ended) (sym c.word.view_is) ∙ c.if-word.false)
+    (ap (λ (z : GroupHeld). lags c.find-word.result z.view) (sym c.group.view_is) ∙ (sym c.is_behind.ensures ∙ c.if-is_behind.false))
 
-pub arrive_last-requires-clause-may : goal.arrive_last-requires-clause-may
-arrive_last-requires-clause-may c =
-    ready c.look_all-word.ensures c.tier-tier.ensures c.requires.unarrived (ap (λ (w : Fields). w.ended) (sym c.word.view_is) ∙ c.if-word.false)
-    (ap (λ (z : GroupHeld). lags c.look_all-word.result z.view) (sym c.group.view_is) ∙ (sym c.is_behind.ensures ∙ c.if-is_behind.false))
+pub arrive_from-requires-clause-unarrived : goal.arrive_from-requires-clause-unarrived
+arrive_from-requires-clause-unarrived c = none_now (finds_keeps c.args.kept c.find-word.ensures c.tier-tier.ensures c.requires.unarrived) c.requires.unarrived
 
-pub arrive_last-requires-clause-last : goal.arrive_last-requires-clause-last
-arrive_last-requires-clause-last c =
-    let can = ready c.look_all-word.ensures c.tier-tier.ensures c.requires.unarrived (ap (λ (w : Fields). w.ended) (sym c.word.view_is) ∙ c.if-word.false)
-    (ap (λ (z : GroupHeld). lags c.look_all-word.result z.view) (sym c.group.view_is) ∙ (sym c.is_behind.ensures ∙ c.if-is_behind.false)) in
-    let k = looked_yet c.look_all-word.ensures c.tier-tier.ensures c.requires.unarrived in
-    let few = last_count c.look_all-word.ensures (subst (λ (n : ℕ). CanPass n c.look_all-word.result c.look_all-word.new.group.view) (k.view.same.tier ∙ sym c.tier-tier.ensures) can) in
-    let a = c.size.ensures.size in
-    let b = ap (λ (z : Fields). z.unarrived) c.word-2.view_is in
-    let d = c.if-word-size.false in
-    omega arith
+pub arrive_from-requires-clause-enough : goal.arrive_from-requires-clause-enough
+arrive_from-requires-clause-enough c =
+    let can = finds_may c.args.kept c.requires.kept c.find-word.ensures c.tier-tier.ensures c.requires.unarrived (ap (λ (w : Fields). w.ended) (sym c.word.view_is) ∙ c.if-word.false)
+    (ap (λ (z : GroupHeld). lags c.find-word.result z.view) (sym c.group.view_is) ∙ (sym c.is_behind.ensures ∙ c.if-is_behind.false)) in
+    finds_enough c.args.kept c.requires.kept c.find-word.ensures c.tier-tier.ensures c.requires.unarrived can
 
-pub returns-in-Owing : goal.returns-in-Owing
-returns-in-Owing c = last_then 0 1 (omega arith) (looked_yet c.look_all-word.ensures c.tier-tier.ensures c.requires.unarrived) (last_counts c.in-Owing.ensures)
-
-pub returns-in-Lost : goal.returns-in-Lost
-returns-in-Lost c = lost_after c.look_all-word.ensures c.tier-tier.ensures c.requires.unarrived c.in-Lost.ensures
+pub returns : goal.returns
+returns c = finds_tries c.args.kept c.requires.kept c.find-word.ensures c.tier-tier.ensures c.requires.unarrived c.arrive_from.result c.arrive_from.ensures

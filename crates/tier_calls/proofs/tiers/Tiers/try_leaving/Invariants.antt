@@ -1,5 +1,5 @@
-use Rattle.tier_calls.specs.ArrivesAll.{KeepsAll}
+use Rattle.tier_calls.specs.KeptTries.{SoFar}
 use Rattle.tier_calls.proofs.tiers.Tiers.try_leaving.Given as goal
 
 abbrev pub invariant-loop : goal.invariant-loop
-invariant-loop l = KeepsAll l.counter l.fn.group l.group
+invariant-loop l = SoFar l.fn.kept l.kept l.counter l.fn.group l.group
