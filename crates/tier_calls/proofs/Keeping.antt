@@ -19,7 +19,7 @@ use Rattle.tier_calls.specs.Made.{is_quiet}
 use Rattle.tier_calls.specs.Groups.{GroupHeld, group_of, IsOne, AreSeated, IsGroup, glanced, AllLooked, MayGo, HaveGone, HaveLost, AllArrived, AllLost}
 use Rattle.tier_calls.specs.NewTokens.{IsEager}
 use Rattle.tier_calls.specs.Kept.{FoundThere, MayBegin, MayKeep, LooksUnlessKept, Finds, before_of, as_seat, GoesFrom, Begins, begun}
-use Rattle.tier_calls.specs.KeptTries.{TriesFrom, LooksAndTries, TriesKept, SoFar, TriedSome, TriedOnce}
+use Rattle.tier_calls.specs.KeptTries.{TriesFrom, LooksAndTries, TriesKept, SoFar, TriedOnce}
 use Rattle.tier_calls.specs.ArrivesAll.{Each, Did, HasSpent, OnlyLooks, Looks, StillHere, KeepsAll, TriesAll}
 use Rattle.tier_calls.specs.ArrivesWith.{FirstLook, OnlyTried}
 use Rattle.tier_calls.specs.declared.groups.TriedAll.{TriedAll}
@@ -328,25 +328,12 @@ module _ {n : ℕ} {old group : GroupHeld} where
           (b.0, b.1, b.2, comes_then 0 tries (omega arith) (keeps_none b.0) r other b.3)
       go (inr h) = let o = h.0 in (o.mid, o.first, o.none, comes_then n tries few o.kept r other (subst (λ (p : Option Fields). TriesKept p 1 group r) h.1 q))
 
-  -- all tries were made
-  pub so_far_tried : (kept now : Option Fields) → IfSome kept (λ w. MayBegin old w × (0 < n)) → SoFar kept now n old group → TriedSome kept n old group
-  so_far_tried None now b s = s.how.0
-  so_far_tried (Some k) now b s = go s.how
-    where
-      go : ((n ≡ 0) × (group ≡ old) × (now ≡ Some k)) ⊎ (OnlyTried n old group × (now ≡ None)) → OnlyTried n old group
-      go (inl h) = absurd (let e = h.0 in let f = b.1 in omega arith)
-      go (inr h) = h.0
-
 tried_once : (kept : Option Fields) (old group : GroupHeld) → TriesKept kept 1 old (tried.Yet group) → TriedOnce kept old group
 tried_once None old group q = q
 tried_once (Some k) old group q = record { mid = q.0; first = q.1; none = q.2; kept = q.3 }
 
 pub yet_next : {n : ℕ} {old group next : GroupHeld} (kept now : Option Fields) → SoFar kept now n old group → TriesKept now 1 group (tried.Yet next) → SoFar kept None (n + 1) old next
 yet_next {n} {old} {group} {next} kept now s q = so_far_next kept now s (tried_once now group next q)
-
-pub tries_yet : (tries : ℕ) (kept : Option Fields) (old group : GroupHeld) → TriedSome kept tries old group → TriesKept kept tries old (tried.Yet group)
-tries_yet tries None old group s = s
-tries_yet tries (Some k) old group o = (o.mid, o.first, o.none, o.kept)
 
 -- what a call finds at the root first, or has kept
 pub begins_only : (tries : ℕ) (kept : Option Fields) (old : GroupHeld) → IfSome kept (λ w. MayBegin old w × (0 < tries)) → IfSome kept (MayBegin old)

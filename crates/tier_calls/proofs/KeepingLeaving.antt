@@ -10,7 +10,7 @@ use Rattle.tier_calls.specs.declared.going.Going.{Going}
 use Rattle.tier_calls.specs.Passes.{HasCounted}
 use Rattle.tier_calls.specs.Groups.{GroupHeld, IsGroup, AllLost}
 use Rattle.tier_calls.specs.Kept.{MayBegin, Finds, before_of, begun}
-use Rattle.tier_calls.specs.KeptTries.{LooksAndTriesLeaving, TriesLeavingKept, SoFar, TriedSome, TriedOnce}
+use Rattle.tier_calls.specs.KeptTries.{LooksAndTriesLeaving, TriesLeavingKept, SoFar, TriedOnce}
 use Rattle.tier_calls.specs.ArrivesAll.{KeepsAll}
 use Rattle.tier_calls.specs.ArrivesWith.{OnlyTried}
 use Rattle.tier_calls.specs.LeavesAll.{LeavesOnce, owed_by_last, HaveLeft, TriesOnce, TriesLeaving}
@@ -79,10 +79,6 @@ leaving_once (Some k) old group q = record { mid = q.0; first = q.1; none = q.2;
 
 pub leaving_next : {n : ℕ} {old group next : GroupHeld} (kept now : Option Fields) → SoFar kept now n old group → TriesLeavingKept now 1 group (tried.Yet next) → SoFar kept None (n + 1) old next
 leaving_next {n} {old} {group} {next} kept now s q = so_far_next kept now s (leaving_once now group next q)
-
-pub leaving_yet : (tries : ℕ) (kept : Option Fields) (old group : GroupHeld) → TriedSome kept tries old group → TriesLeavingKept kept tries old (tried.Yet group)
-leaving_yet tries None old group s = s
-leaving_yet tries (Some k) old group o = (o.mid, o.first, o.none, o.kept)
 
 module _ {n : ℕ} {old group : GroupHeld} where
   pub leaving_done : (tries : ℕ) (kept now : Option Fields) → n + 1 ≤ tries → SoFar kept now n old group → (r : TriedLeaving) → ((z : GroupHeld) → r ≢ tried.Yet z) → TriesLeavingKept now 1 group r → TriesLeavingKept kept tries old r

@@ -10,14 +10,14 @@ use Rattle.tier_steps.specs.declared.kind.Kind.{Kind}
 use Rattle.tier_rule.specs.declared.sight.Key.{Key}
 use Rattle.tier_rule.specs.declared.sight.Sight.{Sight}
 use Rattle.tier_rule.specs.Reach.{those}
-use Rattle.tier_rule.specs.Group.{AreOf, Goes, passes, looked_all}
+use Rattle.tier_rule.specs.Group.{AreOf, Goes, passes}
 use Rattle.tier_rule.proofs.Seats.{those-append}
 use Rattle.tier_calls.specs.Holding.{Named}
 use Rattle.tier_calls.specs.Groups.{GroupHeld, IsOne, IsGroup}
 use Rattle.tier_calls.specs.NewTokens.{TokensHeld, MayExchange, IsEager}
 use Rattle.tier_calls.specs.ArrivesAll.{KeepsAll}
 use Rattle.tier_calls.specs.ArrivesWith.{TriesWith, OnlyTried}
-use Rattle.tier_calls.specs.KeptTries.{SoFar, TriedSome, TriedOnce}
+use Rattle.tier_calls.specs.KeptTries.{SoFar, TriedOnce}
 use Rattle.tier_calls.specs.KeptWith.{AllTried, PassesFrom, LooksAndTriesWith, TriesWithKept}
 use Rattle.tier_calls.specs.declared.arriving_with.TriedWith.{TriedWith}
 use Rattle.tier_calls.specs.declared.arriving_with.TriedWith.TheVariants as went

@@ -41,10 +41,7 @@ CountsNothing (Some kept) now n old group = ((n ≡ 0) × (group ≡ old) × (no
 pub record SoFar (kept now : Option Fields) (n : ℕ) (old group : GroupHeld) : Type 0 where
   pub how : CountsNothing kept now n old group
 
--- tries that counted nothing, and one of them
-abbrev pub TriedSome : Option Fields → ℕ → GroupHeld → GroupHeld → Type 0
-TriedSome None n old group = KeepsAll n old group
-TriedSome (Some kept) n old group = OnlyTried n old group
-
+-- one of these tries, which counted nothing
 abbrev pub TriedOnce : Option Fields → GroupHeld → GroupHeld → Type 0
-TriedOnce kept old group = TriedSome kept 1 old group
+TriedOnce None old group = KeepsAll 1 old group
+TriedOnce (Some kept) old group = OnlyTried 1 old group

@@ -377,9 +377,8 @@ impl Tiers {
     ghost use Rattle.tier_calls.specs.NewTokens.{IsEager};
     ghost use Rattle.tier_steps.specs.Step.{CanPass};
     ghost use Rattle.tier_calls.specs.KeptWith.{PassesFrom, TriesWithKept};
-    ghost use Rattle.tier_calls.specs.ArrivesAll.{KeepsAll};
     ghost use Rattle.std.specs.Prelude.{ℕ, Some};
-    ghost use Rattle.tier_calls.specs.ArrivesWith.{TriesWith, ArrivesWith, HasEnded, OnlySplit};
+    ghost use Rattle.tier_calls.specs.ArrivesWith.{ArrivesWith, HasEnded, OnlySplit};
 
     /// Makes one try by which all tokens pass their tier, from the word that they found there. The new tokens are split off the
     /// door.

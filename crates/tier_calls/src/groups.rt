@@ -6,7 +6,7 @@ ghost use Rattle.tier_steps.specs.Step.{CanPass, CanRefresh};
 ghost use Rattle.tier_rule.specs.Group.{AreOf, Among, LookedAll};
 ghost use Rattle.tier_calls.specs.Splits.{SplitAt, AreTogether, Together};
 ghost use Rattle.tier_calls.specs.Settles.{HaveAllArrived, Settles};
-ghost use Rattle.tier_calls.specs.ArrivesAll.{KeepsAll, KeepsSoon, TriesAll, ArrivesAll, PollsAll, HaveCaughtUp, AllCaughtUpBy, HasEnded};
+ghost use Rattle.tier_calls.specs.ArrivesAll.{KeepsAll, KeepsSoon, ArrivesAll, PollsAll, HaveCaughtUp, AllCaughtUpBy, HasEnded};
 ghost use Rattle.tier_calls.specs.Polls as polls;
 ghost use Rattle.tier_calls.specs.Waited.{PollAllWaited};
 ghost use Rattle.tier_rule.specs.declared.sight.Key.{Key};

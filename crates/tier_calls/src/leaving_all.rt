@@ -9,7 +9,7 @@ ghost use Rattle.tier_calls.specs.Groups.{left_less};
 ghost use Rattle.tier_calls.specs.LastOnes.{IsLast};
 ghost use Rattle.tier_calls.specs.Kept.{MayBegin, Begins, begun};
 ghost use Rattle.tier_calls.specs.KeptTries.{TriesLeavingKept};
-ghost use Rattle.tier_calls.specs.LeavesAll.{TriesOnce, TriesLeaving, LeavesAll, HasEnded};
+ghost use Rattle.tier_calls.specs.LeavesAll.{TriesOnce, LeavesAll, HasEnded};
 
 use crate::going::Going;
 use crate::groups::{Group, view_glanced};

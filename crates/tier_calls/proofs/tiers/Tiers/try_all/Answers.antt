@@ -1,7 +1,6 @@
-use Rattle.std.proofs.Common.{◌+◌, ◌<◌, length, refl, subst, ◌∙◌, arith}
-use Rattle.tier_calls.specs.Holding.{Named}
+use Rattle.std.proofs.Common.{◌∙◌, arith}
 use Rattle.tier_calls.specs.Kept.{MayBegin}
-use Rattle.tier_calls.proofs.Keeping.{so_far_none, so_far_still, so_far_begin, so_far_done, so_far_tried, yet_next, tries_yet, begins_only}
+use Rattle.tier_calls.proofs.Keeping.{so_far_none, so_far_still, so_far_begin, so_far_done, yet_next, begins_only}
 use Rattle.tier_calls.proofs.tiers.Tiers.try_all.Goals as goal
 
 pub loop-init : goal.loop-init

@@ -1,5 +1,4 @@
-use Rattle.std.proofs.Common.{◌+◌, ◌<◌, length, refl, subst, ◌∙◌, arith}
-use Rattle.tier_calls.specs.Holding.{Named}
+use Rattle.std.proofs.Common.{◌∙◌, arith}
 use Rattle.tier_calls.specs.Kept.{MayBegin}
 use Rattle.tier_calls.proofs.Keeping.{so_far_none, so_far_still, so_far_begin, begins_only}
 use Rattle.tier_calls.proofs.KeepingLeaving.{leaving_next, leaving_done}

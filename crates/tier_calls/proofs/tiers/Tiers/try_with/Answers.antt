@@ -1,4 +1,4 @@
-use Rattle.std.proofs.Common.{◌+◌, ◌≤◌, refl, ◌∙◌, arith}
+use Rattle.std.proofs.Common.{◌+◌, ◌≤◌, ◌∙◌, arith}
 use Rattle.tier_calls.specs.Kept.{MayBegin}
 use Rattle.tier_calls.proofs.ExchangeTries.{split_none, split_then}
 use Rattle.tier_calls.proofs.Keeping.{so_far_none, so_far_still, so_far_begin}
