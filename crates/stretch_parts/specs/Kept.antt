@@ -1,11 +1,22 @@
 -- What a stretch keeps of its tasks, before and after the next live ones have replaced them (own).
-use Rattle.std.specs.Prelude.{◌≡◌, ◌≤◌, ℕ, Bool, true, List, [], ◌∷◌, ◌++◌, length, map, slice_get, Option, Some, None, Vec, IfSome}
+use Rattle.std.specs.Prelude.{◌≡◌, ◌≤◌, ℕ, Bool, true, false, List, [], ◌∷◌, ◌++◌, length, map, slice_get, Option, Some, None, Vec, IfSome}
 use Rattle.std.specs.Option.{option_map}
 use Rattle.std.specs.declared.alloc.Global.{Global}
 use Rattle.superstep_memory.specs.PathOrder.{in_path_order}
 use Rattle.programs.specs.DeedValue.{DeedValue}
 use Rattle.programs.specs.InPlace.{living_with, left_in, spawned_in, made_in}
 use Rattle.stretch_parts.specs.declared.part.Settled.{Settled}
+
+module _ {A : Type 0} where
+  -- what tasks did, if they have run; else nothing
+  abbrev pub if_done : Bool → List A → List A
+  if_done false xs = []
+  if_done true xs = xs
+
+  -- and their fault
+  abbrev pub fault_if_done : Bool → Option A → Option A
+  fault_if_done false o = None
+  fault_if_done true o = o
 
 module _ {S : Type 0} where
   -- the tasks that are noted, if any are, else those that are there

@@ -2,17 +2,17 @@
 use Rattle.std.specs.Prelude.{ℕ, List, reverse}
 use Rattle.stretch_parts.specs.declared.part.Part.TheInside.{Inside}
 use Rattle.stretch_parts.specs.PartValue.{PartValue}
-use Rattle.stretch_parts.specs.Kept.{IsKept, tasks_by, deeds_by}
+use Rattle.stretch_parts.specs.Kept.{IsKept, tasks_by, deeds_by, if_done, fault_if_done}
 
 abbrev pub part_of : {S : Type 0} → Inside S → PartValue S
 part_of i = record {
   first = i.state.value.first;
   tasks = tasks_by i.state.value.notes.items i.state.value.tasks.items;
   done = i.state.value.done;
-  puts = i.state.value.work.puts;
-  deeds = deeds_by i.state.value.notes.items i.state.value.deeds;
-  prints = i.state.value.prints.items;
-  fault = i.state.value.fault;
+  puts = if_done i.state.value.done i.state.value.work.puts;
+  deeds = if_done i.state.value.done (deeds_by i.state.value.notes.items i.state.value.deeds);
+  prints = if_done i.state.value.done i.state.value.prints.items;
+  fault = fault_if_done i.state.value.done i.state.value.fault;
 }
 
 abbrev pub IsPartInside : {S : Type 0} → (S → List ℕ) → Inside S → Type 0

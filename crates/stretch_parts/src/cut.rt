@@ -11,12 +11,17 @@ use superstep_memory::path::Path;
 // The most tasks of a stretch.
 const MOST_TASKS: usize = 512;
 
-/// Returns how many tasks each of about `pieces` stretches has.
+// With fewer tasks than this, a stretch costs more than it helps to share out the work.
+const FEW_TASKS: usize = 16;
+
+/// Returns how many tasks each of about `pieces` stretches has. If they would have few, there are about half as many.
 pub(crate) fn size_for(count: usize, pieces: usize) -> usize
     requires { 1 ≤ pieces }
     ensures { 1 ≤ result }
 {
-    (count / pieces).clamp(1, MOST_TASKS)
+    let double = count / (pieces / 2).max(1);
+    let equal = count / pieces;
+    equal.max(double.min(FEW_TASKS)).clamp(1, MOST_TASKS)
 }
 
 // Returns a place near to the end of this list, about `size` tasks in front of it: that of a task with a short path, so that

@@ -33,19 +33,21 @@ pub(crate) struct Settled {
     first: Option<Path>,
 }
 
-// What a stretch of live tasks has.
+// What a stretch of live tasks has. As long as its tasks haven't run, its deeds, prints, puts and fault are those of an earlier
+// superstep and mean nothing: so whoever closes a superstep, on another processor, needn't clear them. What is read then is
+// side by side.
 #[derive(Drop)]
 pub(crate) struct State<T> {
+    deeds: Deeds<T>,
     // The place of its first task among the live ones.
     first: usize,
     // Its tasks. Once it is settled, the next live ones.
     tasks: Vec<T>,
     // Whether they have run.
     done: bool,
+    prints: Vec<Print>,
     // Their puts, and room for a segment.
     work: Work<T>,
-    deeds: Deeds<T>,
-    prints: Vec<Print>,
     fault: Option<Blame>,
     // The path of the first live task after its own, when it was cut; `None` if there was none.
     bound: Option<Path>,
@@ -105,9 +107,11 @@ impl<T: OnPath> Part<T> {
         let state = Box::new(
             alloc,
             State {
+                deeds: Deeds::new(alloc),
                 first: 0,
                 tasks: Vec::new(alloc),
                 done: false,
+                prints: Vec::new(alloc),
                 work: Work {
                     puts: Puts::new(alloc),
                     own: Puts::new(alloc),
@@ -115,8 +119,6 @@ impl<T: OnPath> Part<T> {
                     spawns: Vec::new(alloc),
                     effort: 0,
                 },
-                deeds: Deeds::new(alloc),
-                prints: Vec::new(alloc),
                 fault: None,
                 bound: None,
                 spare: Regrouping::new(alloc),
@@ -176,8 +178,8 @@ impl<T: OnPath> Part<T> {
         ensures { result ≡ self.now.fault }
     {
         match &self.state.fault {
-            Some(blame) => Some(blame_again(blame)),
-            None => None,
+            Some(blame) if self.state.done => Some(blame_again(blame)),
+            Some(_) | None => None,
         }
     }
 
@@ -185,7 +187,7 @@ impl<T: OnPath> Part<T> {
     pub fn has_faulted(&self) -> bool
         ensures { result ≡ is_some self.now.fault }
     {
-        self.state.fault.is_some()
+        self.state.done && self.state.fault.is_some()
     }
 
     /// Returns how much its tasks computed in the last superstep in which they ran: what they counted, such as statements, and
@@ -198,7 +200,11 @@ impl<T: OnPath> Part<T> {
     pub fn print_count(&self) -> usize
         ensures { result ≡ length self.now.prints }
     {
-        self.state.prints.len()
+        if self.state.done {
+            self.state.prints.len()
+        } else {
+            0
+        }
     }
 
     /// Returns the number of its tasks that stopped.
@@ -207,7 +213,8 @@ impl<T: OnPath> Part<T> {
     {
         match &self.state.settled {
             Some(settled) => settled.left,
-            None => self.state.deeds.left(),
+            None if self.state.done => self.state.deeds.left(),
+            None => 0,
         }
     }
 
@@ -217,7 +224,8 @@ impl<T: OnPath> Part<T> {
     {
         match &self.state.settled {
             Some(settled) => settled.spawned,
-            None => self.state.deeds.spawned(),
+            None if self.state.done => self.state.deeds.spawned(),
+            None => 0,
         }
     }
 
@@ -227,17 +235,18 @@ impl<T: OnPath> Part<T> {
     {
         match &self.state.settled {
             Some(_) => false,
-            None => self.state.deeds.all_stay(),
+            None => !self.state.done || self.state.deeds.all_stay(),
         }
     }
 
-    /// Returns its tasks, and what each of them did to the list of tasks, up to the first fault. Returns `None` if it is settled.
+    /// Returns its tasks, and what each of them did to the list of tasks, up to the first fault. Returns `None` if it is settled, or
+    /// if its tasks haven't run.
     pub fn changes(&self) -> Option<(&[T], Changes<'_, T>)>
         ensures { IfSome result (λ r. (r.0.now ≡ self.now.tasks) × (r.1 ≡ self.now.deeds)) }
     {
         match &self.state.settled {
-            Some(_) => None,
-            None => Some((&self.state.tasks, self.state.deeds.changes())),
+            None if self.state.done => Some((&self.state.tasks, self.state.deeds.changes())),
+            Some(_) | None => None,
         }
     }
 
@@ -245,7 +254,7 @@ impl<T: OnPath> Part<T> {
     pub fn are_sets(&self) -> bool
         ensures { result ≡ list_all is_set self.now.puts }
     {
-        self.state.work.puts.are_sets()
+        !self.state.done || self.state.work.puts.are_sets()
     }
 
     /// Lands its puts. None of them adds.
@@ -253,7 +262,9 @@ impl<T: OnPath> Part<T> {
         requires { IsTrue (list_all is_set self.now.puts) }
         ensures { arrays.new ≡ landed self.now.puts arrays.old }
     {
-        self.state.work.puts.land_sets(arrays);
+        if self.state.done {
+            self.state.work.puts.land_sets(arrays);
+        }
     }
 
     /// Moves its puts to the end of others.
@@ -261,6 +272,9 @@ impl<T: OnPath> Part<T> {
         ensures given { OnOk result (puts.new ≡ puts.old ++ self.old.puts) }
         ensures rest { OnOk result (self.new ≡ record self.old { puts = [] }) }
     {
+        if !self.state.done {
+            return Ok(());
+        }
         puts.append(&mut self.state.work.puts)
     }
 
@@ -273,7 +287,9 @@ impl<T: OnPath> Part<T> {
         if self.state.settled.is_some() {
             return Err(AllocError);
         }
-        deeds.append(&mut self.state.deeds)?;
+        if self.state.done {
+            deeds.append(&mut self.state.deeds)?;
+        }
         tasks.append(&mut self.state.tasks)?;
         Ok(())
     }
@@ -285,6 +301,9 @@ impl<T: OnPath> Part<T> {
         ensures capacity { vec_capacity prints.old ≤ vec_capacity prints.new }
         ensures rest { self.new ≡ record self.old { prints = [] } }
     {
+        if !self.state.done {
+            return;
+        }
         match prints.append(&mut self.state.prints) {
             Ok(()) => {}
             Err(_) => unreachable!(),
@@ -296,7 +315,7 @@ impl<T: OnPath> Part<T> {
         requires { (left_in self.old.deeds ≡ 0) × (spawned_in self.old.deeds ≡ 0) }
         ensures { self.new ≡ fresh_part self.old.first self.old.tasks }
     {
-        forget(&mut self.state);
+        self.state.done = false;
     }
 
     // Loses its tasks.
@@ -314,17 +333,19 @@ impl<T: OnPath> Part<T> {
     {
         match &self.state.settled {
             Some(settled) => Some(settled.puts),
-            None => self.state.deeds.put_count(),
+            None if self.state.done => self.state.deeds.put_count(),
+            None => Some(0),
         }
     }
 
-    /// Returns the fault of the task that made the put at this place of its puts. `None` if fewer were made, or if it is settled.
+    /// Returns the fault of the task that made the put at this place of its puts. `None` if fewer were made, if it is settled, or if
+    /// its tasks haven't run.
     pub fn blame_at(&self, place: usize) -> Option<Blame>
         ensures { IfSome result (λ blame. Some blame ≡ option_map overflow_at (maker T.path_of self.now.tasks self.now.deeds place)) }
     {
         match &self.state.settled {
-            Some(_) => None,
-            None => self.state.deeds.blame_at(&self.state.tasks, place),
+            None if self.state.done => self.state.deeds.blame_at(&self.state.tasks, place),
+            Some(_) | None => None,
         }
     }
 
@@ -393,14 +414,10 @@ pub(crate) fn first_of<T: OnPath>(tasks: &[T]) -> Option<Path>
 // Forgets what tasks did, and whether they have run.
 fn forget<T: OnPath>(state: &mut State<T>)
     ensures same { (state.new.first ≡ state.old.first) × (state.new.tasks.items ≡ state.old.tasks.items) }
-    ensures fresh { (state.new.done ≡ false) × (state.new.work.puts ≡ []) × (state.new.deeds ≡ []) × (state.new.prints.items ≡ []) × (state.new.fault ≡ None) }
+    ensures fresh { state.new.done ≡ false }
     ensures kept { (state.new.settled ≡ None) × (state.new.notes.items ≡ []) × (state.new.spare.waiting.items ≡ []) }
 {
     state.done = false;
-    state.work.puts.clear();
-    state.deeds.clear();
-    state.prints.clear();
-    state.fault = None;
     state.spare.waiting.clear();
     state.settled = None;
     state.notes = Notes::new();

@@ -1,6 +1,7 @@
 //! The stretches of a worker: those that it is to run, and those that it has run.
 ghost use Rattle.std.specs.Prelude.{◌≡◌, ◌<◌, ◌+◌, IfOk, IfSome, length, vec_len};
 
+use crate::published::GAP;
 use programs::program::TaskLoop;
 use std::alloc::{AllocError, Global};
 use std::sync::atomic::{AtomicU64, Ordering};
@@ -21,6 +22,8 @@ pub(crate) struct Lane<'p, P: TaskLoop, H: Hook<P>, J: Running> {
     outbox: Mutex<Outbox<'p, P, J>>,
     // How many stretches the inbox has.
     waiting: AtomicU64,
+    // Keeps the next lane out of this one's cache lines.
+    after: [u64; GAP],
 }
 
 impl<'p, P: TaskLoop, H: Hook<P>, J: Running> Lane<'p, P, H, J> {
@@ -30,6 +33,7 @@ impl<'p, P: TaskLoop, H: Hook<P>, J: Running> Lane<'p, P, H, J> {
             inbox: Mutex::new(Inbox::new(alloc)),
             outbox: Mutex::new(Outbox::new(alloc)),
             waiting: AtomicU64::new(0),
+            after: [0; GAP],
         }
     }
 

@@ -13,10 +13,18 @@ pub(crate) const OVER: u64 = u64::MAX;
 
 /// The number of the superstep whose stretches were handed out last, or `OVER`. Only a queue can change it, so no superstep is
 /// published that the queue hasn't begun.
+///
+/// Workers that wait look at the word all the time. If other words in its cache line were written meanwhile, as those of the queue
+/// are, each write would wait for these workers. So it has the line for itself, and the one beside it, wherever it lies.
 #[derive(Drop)]
 pub(crate) struct Published {
+    before: [u64; GAP],
     word: AtomicU64,
+    after: [u64; GAP],
 }
+
+/// How many words keep two others out of each other's cache line, and out of the one beside it.
+pub(crate) const GAP: usize = 15;
 
 // Returns what is published of a queue: its superstep, or `OVER` if workers must stop.
 fn word_of<P: TaskLoop, H: Hook<P>, J: Running>(queue: &Queue<'_, '_, P, H, J>) -> u64
@@ -34,7 +42,9 @@ impl Published {
     /// Creates the state of the first superstep.
     pub(crate) fn new() -> Self {
         Published {
+            before: [0; GAP],
             word: AtomicU64::new(0),
+            after: [0; GAP],
         }
     }
 

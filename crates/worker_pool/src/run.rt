@@ -49,7 +49,7 @@ const STRETCHES_EACH: usize = 4;
 const MOST_STARTS: usize = 65536;
 
 // How often a worker looks for a ready stretch before it sleeps.
-const MOST_SPINS: u32 = 2000;
+const MOST_SPINS: u32 = 6000;
 
 // The same if there are more workers than processors.
 const FEW_SPINS: u32 = 100;
