@@ -14,14 +14,45 @@ const MOST_TASKS: usize = 512;
 // With fewer tasks than this, a stretch costs more than it helps to share out the work.
 const FEW_TASKS: usize = 16;
 
-/// Returns how many tasks each of about `pieces` stretches has. If they would have few, there are about half as many.
+// Returns into how many stretches `count` tasks are cut, if about `pieces` are wanted: into half as many, if each had few tasks.
+fn number_for(count: usize, pieces: usize) -> usize
+    requires { 1 ≤ pieces }
+    ensures { 1 ≤ result }
+{
+    let wanted = if count / pieces < FEW_TASKS {
+        pieces / 2
+    } else {
+        pieces
+    };
+    wanted.max(count / MOST_TASKS).min(count).max(1)
+}
+
+/// Returns how many tasks each of about `pieces` stretches has at most.
 pub(crate) fn size_for(count: usize, pieces: usize) -> usize
     requires { 1 ≤ pieces }
     ensures { 1 ≤ result }
 {
-    let double = count / (pieces / 2).max(1);
-    let equal = count / pieces;
-    equal.max(double.min(FEW_TASKS)).clamp(1, MOST_TASKS)
+    (count.saturating_sub(1) / number_for(count, pieces)).min(MOST_TASKS - 1) + 1
+}
+
+/// Returns into how many stretches of at least this size a list of tasks can be cut, but at least 1.
+pub(crate) fn number_in<T>(tasks: &[T], size: usize) -> usize
+    requires { 1 ≤ size }
+    ensures { 1 ≤ result }
+{
+    (tasks.len() / size).max(1)
+}
+
+// Returns the size of the next stretch that is cut off from the end of these `len` tasks. They were `total`, which are cut into
+// `pieces` about equal ones.
+fn next_size(len: usize, total: usize, pieces: usize) -> usize
+    requires pieces { 1 ≤ pieces }
+    requires some { 2 ≤ len }
+    ensures { (1 ≤ result) × (result < len) }
+{
+    let before = len.saturating_mul(pieces).saturating_sub(1) / total.max(1);
+    let front = total.saturating_mul(before) / pieces;
+    len.saturating_sub(front).clamp(1, len - 1)
 }
 
 // Returns a place near to the end of this list, about `size` tasks in front of it: that of a task with a short path, so that
@@ -45,18 +76,18 @@ fn place_to_cut<T: OnPath>(tasks: &[T], size: usize) -> usize
     best
 }
 
-/// Cuts stretches of about this size off from the end, the last first, as long as more than `most` tasks are left and there is
-/// memory. `from` is the place of the first task, and there is room for one stretch more.
+/// Cuts stretches off from the end, the last first, as if `pieces` equal ones were made, as long as more than `most` tasks are left
+/// and there is memory. `from` is the place of the first task, and there is room for one stretch more.
 pub(crate) fn cut_off<T: OnPath>(
     alloc: Global,
     rest: &mut Vec<T>,
     from: usize,
-    size: usize,
+    pieces: usize,
     most: usize,
     parts: &mut Vec<Option<Part<T>>>,
 )
-    requires size { 1 ≤ size }
-    requires most { size ≤ most }
+    requires pieces { 1 ≤ pieces }
+    requires most { 1 ≤ most }
     requires end { from + length rest.old.items < 2 ^ 64 }
     requires fresh { AreFresh (from + length rest.old.items) (reverse parts.old.items) }
     requires capacity { vec_len parts.old < vec_capacity parts.old }
@@ -64,6 +95,7 @@ pub(crate) fn cut_off<T: OnPath>(
     ensures tasks { rest.new.items ++ tasks_in (reverse parts.new.items) ≡ rest.old.items ++ tasks_in (reverse parts.old.items) }
     ensures capacity { vec_len parts.new < vec_capacity parts.new }
 {
+    let total = rest.len();
     while rest.len() > most {
         let Ok(()) = parts.reserve(2) else {
             return;
@@ -71,6 +103,7 @@ pub(crate) fn cut_off<T: OnPath>(
         let Ok(part) = Part::new(alloc) else {
             return;
         };
+        let size = next_size(rest.len(), total, pieces);
         let at = place_to_cut(rest, size);
         match rest.split_off(at) {
             Ok(behind) => parts.push_reserved(Some(part.with_tasks(from + at, behind))),
@@ -126,9 +159,16 @@ pub fn cut<T: OnPath>(
     ensures fresh { AreFresh 0 parts.new.items }
     ensures tasks { tasks_in parts.new.items ≡ tasks.items }
 {
-    let size = size_for(tasks.len(), pieces);
+    let count = tasks.len();
     let mut rest = tasks;
-    cut_off(alloc, &mut rest, 0, size, size, parts);
+    cut_off(
+        alloc,
+        &mut rest,
+        0,
+        number_for(count, pieces),
+        size_for(count, pieces),
+        parts,
+    );
     parts.push_reserved(Some(first.with_tasks(0, rest)));
     parts.reverse();
     set_bounds(parts);

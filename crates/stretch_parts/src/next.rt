@@ -8,7 +8,7 @@ ghost use Rattle.programs.specs.Regroup.{IsWithin, IsInOrder};
 ghost use Rattle.stretch_parts.specs.Parts.{AreFresh, fresh_part, tasks_in, living_in};
 ghost use Rattle.stretch_parts.specs.Next.{Receives, PassesBy, IsStrayNext, HasMovedLast, IsEndWithin, IsFirstBefore, AreEmpty, CanSettle, CanAllSettle, all_in, all_of};
 
-use crate::cut::{cut_off, set_bounds, size_for};
+use crate::cut::{cut_off, number_in, set_bounds, size_for};
 use crate::part::{Part, first_of};
 use programs::program::OnPath;
 use std::alloc::{AllocError, Global};
@@ -329,7 +329,8 @@ fn make_parts<T: OnPath>(
         let Piece { part, mut tasks } = piece;
         let from = end - tasks.len();
         parts.reserve(1)?;
-        cut_off(alloc, &mut tasks, from, size, most, &mut parts);
+        let number = number_in(&tasks, size);
+        cut_off(alloc, &mut tasks, from, number, most, &mut parts);
         parts.push_reserved(Some(part.with_tasks(from, tasks)));
         end = from;
     }
