@@ -135,7 +135,7 @@ returns-in-Some-clause-taken g c =
     let n = known (g.P.Program.frame q) (g.P.Program.may q) c.args.most (g.P.Program.meant q) g.P.Task.OnPath.path_of law c.args.run_state.now _ _ _ _ _ done c.requires.rising in
     let few = n.numbers in
     let same = n.stays in
-    let h = faulted p law few same c.args.run_state.now c.in_ok-fault.fault c.in-Some.blame c.do_all.new.work.puts c.do_all.new.tasks.items c.do_all.new.deeds c.do_all.new.prints.items n.counts c.in-Some.is in
+    let h = faulted p law few same c.args.run_state.now c.in_ok-fault.fault c.in-Some.blame c.do_all.new.work.puts c.do_all.new.tasks.items c.do_all.new.deeds c.do_all.new.prints.items n.reported c.in-Some.is in
     record {
       entries = done.entries;
       entered = record { tasks = done.tasks; allowed = done.allowed };
