@@ -24,7 +24,7 @@ fn number_for(count: usize, pieces: usize) -> usize
     } else {
         pieces
     };
-    wanted.max(count / MOST_TASKS).min(count).max(1)
+    wanted.max(count.div_ceil(MOST_TASKS)).min(count).max(1)
 }
 
 /// Returns how many tasks each of about `pieces` stretches has at most.
