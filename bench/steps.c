@@ -1,4 +1,4 @@
-/* Supersteps told from C, beside plain C: steps puts | steps rod LAST THREADS
+/* Supersteps whose tasks C runs, beside plain C: steps puts | steps rod LAST THREADS
  *
  * By `puts`, prints how long a close with 100,000 puts takes beside a plain loop that checks all cells and then writes, and keeps what
  * the cells held: for puts that set and puts that add, to cells in order and anywhere; the medians of 201 closes in turns. By `rod`, a rod of

@@ -1,6 +1,6 @@
 //! What the options of `bsp draw` mean: a picture of a report with a given title, arrays in rows of a width, and arrays
-//! over supersteps; and the picture of a job as it is asked for. And what a job
-//! leaves, as one JSON object (RFC 8259). Nothing here is part of Java's API.
+//! over supersteps. Also the picture of a job as it is asked for, and what a job leaves, as one JSON object (RFC 8259). Nothing
+//! here is part of Java's API.
 //!
 //! # Where things are
 //!

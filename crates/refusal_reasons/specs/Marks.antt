@@ -1,6 +1,6 @@
 -- What a fault of a line of a job is about (own): a word, or the array or the index of a cell. Each is read as the reader of jobs
 -- reads it.
-use Rattle.std.specs.Prelude.{ℕ, ◌+◌, ◌==◌, ◌||◌, if◌then◌else◌, List, [], ◌∷◌, ◌++◌, take, codes, Option, Some, None, Result, Ok, Err}
+use Rattle.std.specs.Prelude.{ℕ, ◌+◌, ◌==◌, ◌||◌, if◌then◌else◌, [], ◌∷◌, ◌++◌, take, codes, Option, Some, None, Result, Ok, Err}
 use Rattle.std.specs.Option.{option_map, option_or}
 use Rattle.std.specs.Str.{bytes_eq}
 use Rattle.text_lines.specs.Number.{begins_number}

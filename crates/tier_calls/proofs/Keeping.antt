@@ -35,18 +35,17 @@ use Rattle.tier_calls.proofs.ArrivingAll.{among_beside, crowd_alike, each_long, 
 abbrev Seat : Type 0
 Seat = Me Kind (List Sight)
 
--- what a look of all lets a group keep
-pub found_after : {t : ℕ} {w : Fields} {h : GroupHeld} {id : TableId} {u : View} (me : Seat) (o : Option Fields) → AllLooked t w 0 h (group_of id me u) → IfSome o (λ f. (f ≡ w) × MayKeep t u w) → IfSome o (FoundThere me u)
-found_after {t} {w} {h} {id} {u} me None r is = tt
-found_after {t} {w} {h} {id} {u} me (Some f) r is =
+-- what a look at the root lets a group keep
+pub found_after : {w : Fields} {h : GroupHeld} {id : TableId} {u : View} (me : Seat) (o : Option Fields) → AllLooked 0 w 0 h (group_of id me u) → IfSome o (λ f. (f ≡ w) × MayKeep u w) → IfSome o (FoundThere me u)
+found_after {w} {h} {id} {u} me None r is = tt
+found_after {w} {h} {id} {u} me (Some f) r is =
     let may = is.1 in
     let none = to_arrive u r.group.view may.some in
-    let here : t ≡ u.tier = may.looked ∙ sym may.root in
     subst (FoundThere me u) (sym is.0) (record {
       root = may.root;
-      among = subst (λ (n : ℕ). Among (sight_of me).key.shape n w (those me.0)) here (subst (λ (z : Named). Among z.key.shape t w (those me.0)) (sym r.tree) r.looked.after);
-      may = subst (λ (n : ℕ). CanPass n w u) here (may_pass_all r (sym here) none may.going may.current);
-      eager = eager_first (subst (λ (n : ℕ). AllLooked n w 0 h (group_of id me u)) may.looked r) may.going none;
+      among = subst (λ (n : ℕ). Among (sight_of me).key.shape n w (those me.0)) (sym may.root) (subst (λ (z : Named). Among z.key.shape 0 w (those me.0)) (sym r.tree) r.looked.after);
+      may = subst (λ (n : ℕ). CanPass n w u) (sym may.root) (may_pass_all r may.root none may.going may.current);
+      eager = eager_first r may.going none;
     })
 
 begin_by : {id : TableId} {me : Seat} {v : View} {count : ℕ} {h : GroupHeld} {w : Fields} → AreSeated me v count → FoundThere me v w → group_of id me v ≡ h → MayBegin h w

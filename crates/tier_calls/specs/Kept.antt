@@ -29,9 +29,8 @@ pub record MayBegin (c : GroupHeld) (w : Fields) : Type 0 where
   pub may : CanPass c.view.tier w c.view
   pub eager : IsEager c.view
 
--- the tier t and that of the members is the root; they are to arrive, and it doesn't lag
-pub record MayKeep (t : ℕ) (v : View) (w : Fields) : Type 0 where
-  pub looked : t ≡ 0
+-- the members are at the root; they are to arrive, and it doesn't lag
+pub record MayKeep (v : View) (w : Fields) : Type 0 where
   pub root : v.tier ≡ 0
   pub some : v.arrived ≢ 1
   pub going : w.ended ≡ false

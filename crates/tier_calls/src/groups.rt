@@ -169,16 +169,15 @@ fn tried_early(group: Group, lost: Option<Word>) -> TriedAll
     }
 }
 
-/// Returns what a group keeps of a look at a tier: the root's word, if its members are there and may pass from it.
+/// Returns what a group keeps of a look at the root: its word, if the members are there and may pass from it.
 #[inline(always)]
-fn kept_after(tier: u16, seen: Seen, word: Word, view: &View) -> Option<Seen>
-    requires { seen ≡ word }
-    ensures { IfSome result (λ kept. (kept ≡ word) × MayKeep tier view.now word) }
+fn kept_after(word: Word, view: &View) -> Option<Seen>
+    ensures { IfSome result (λ kept. (kept ≡ word) × MayKeep view.now word) }
 {
-    if tier != 0 || view.tier != 0 || view.arrived == 1 || word.ended || is_behind(word, view) {
+    if view.tier != 0 || view.arrived == 1 || word.ended || is_behind(word, view) {
         return None;
     }
-    Some(seen)
+    Some(Seen::of(word))
 }
 
 impl Group {
@@ -261,7 +260,7 @@ impl Tiers {
         let seen = Seen::at(found);
         let word = seen.word();
         group.view = view_glanced(tier, word, group.view);
-        group.found = kept_after(tier, seen, word, &group.view);
+        group.found = None;
         word
     }
 
@@ -272,6 +271,17 @@ impl Tiers {
         ensures { AllLooked tier result 0 group.old group.new }
     {
         self.look_all_as::<Brand>(group, tier)
+    }
+
+    /// Loads the root's word once for all tokens. The group keeps it, if its members are there and may pass from it.
+    fn look_and_keep(&self, group: &mut Group) -> Word
+        requires own { group.old.tree ≡ self.now }
+        requires root { 0 < length self.now.key.shape }
+        ensures { AllLooked 0 result 0 group.old group.new }
+    {
+        let word = self.look_all(group, 0);
+        group.found = kept_after(word, &group.view);
+        word
     }
 
     /// Makes one try by which all tokens of a seat take their steps at a tier, one after another, from the word that was
@@ -491,8 +501,8 @@ impl Tiers {
     /// the phase to pass.
     ///
     /// Makes at most `tries` tries, each of which may also bring the tier into the root's phase. The first one needs no load
-    /// if the group's last step was a look at the root, its members are there, and they may arrive. See [`ArrivedAll`] for
-    /// what to do after each answer.
+    /// if the group's last call was a poll, its members are at the root, and they may arrive. See [`ArrivedAll`] for what to do
+    /// after each answer.
     pub fn arrive_all(&self, mut group: Group, tries: u32) -> ArrivedAll
         requires own { group.tree ≡ self.now }
         ensures answer { ArrivesAll group tries result }
@@ -553,7 +563,7 @@ impl Tiers {
         // Only for the prover: brings in that the tree has a root.
         let _ = self.shape();
         let before = group.phase();
-        let word = self.look_all(group, 0);
+        let word = self.look_and_keep(group);
         if word.ended {
             return Polled::Ended(word.shown());
         }

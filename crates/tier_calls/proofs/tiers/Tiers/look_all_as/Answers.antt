@@ -2,7 +2,6 @@ use Rattle.std.proofs.Common.{◌∙◌, sym, ap, arith, subst, ◌<◌, length}
 use Rattle.tier_rule.specs.declared.sight.Key.{Key}
 use Rattle.tier_calls.specs.Holding.{Named}
 use Rattle.tier_calls.proofs.Grouping.{facts, saw_allow_by, all_saw, saw_number, looked_crowd, all_looked}
-use Rattle.tier_calls.proofs.Keeping.{found_after}
 use Rattle.tier_calls.proofs.tiers.Tiers.look_all_as.Goals as goal
 
 pub load-found-requires : goal.load-found-requires
@@ -22,8 +21,7 @@ pub invariant_of-group : goal.invariant_of-group
 invariant_of-group g c =
     let f = facts {me = c.group.inside.seat.me} c.group.invariant.0 c.group.view_is c.self.view_is c.requires.own in
     let r = all_saw c.group.inside.seat.me c.load-found.new.seat.me 0 c.word-word.result c.load-found.ensures.2 (λ w legal is. c.word-word.ensures ∙ c.at-seen.ensures w legal is) c.requires.key c.from.ensures in
-    let looked = all_looked c.group.inside.seat.me c.load-found.new.seat.me c.group.invariant.0 r.0 c.group.view_is (f.own ∙ ap (λ (n : Named). n.key) c.self.view_is) c.load-found.ensures.0 r.1 c.view_glanced-group-inside.ensures in
-    (looked_crowd _ _ _ _ _ _ _ _ _ c.group.invariant.0 r.0 r.1 c.view_glanced-group-inside.ensures, found_after c.load-found.new.seat.me c.kept_after-group-inside.result looked c.kept_after-group-inside.ensures)
+    (looked_crowd _ _ _ _ _ _ _ _ _ c.group.invariant.0 r.0 r.1 c.view_glanced-group-inside.ensures, tt)
 
 pub returns : goal.returns
 returns g c =
