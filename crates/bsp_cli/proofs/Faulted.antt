@@ -9,7 +9,8 @@ use Rattle.bsp_cli.specs.declared.fault.RunFault.{RunFault}
 use Rattle.bsp_cli.specs.declared.fault.RunFault.TheVariants.{Text, Read, Write, Memory, NotStarted, Internal}
 
 -- by its fault, the line that was said, and its status
-pub faulted : (a : Asked) (look : LookValue) (input old new : Option (List ℕ)) (reported : List ℕ → Type 0) (fault : RunFault) (status : ℕ) → Does a look input old new (Err fault)
+pub faulted : (a : Asked) (look : LookValue) (input old new : Option (List ℕ)) (reported : List ℕ → Type 0) (fault : RunFault) (status : ℕ)
+    → Does a look input old new (Err fault)
     → reported (fault_text fault) → status ≡ fault_status fault → Did a look input old new reported status
 faulted a look input old new reported (Text r) status does line e =
     let known : status ≡ 4 = e in

@@ -30,7 +30,8 @@ checks_job text old new job (Err (NotStarted k)) e w = absurd w
 checks_job text old new job (Err Internal) e w = absurd w
 
 -- a text that is refused
-pub checks_refused : (text lines : List ℕ) (old new : Option (List ℕ)) (first : Refusal) (r : Result (Unit {0}) RunFault) → job_in text ≡ Err first
+pub checks_refused : (text lines : List ℕ) (old new : Option (List ℕ)) (first : Refusal) (r : Result (Unit {0}) RunFault)
+    → job_in text ≡ Err first
     → listing text ≡ lines → ListsFaults lines first old new r → ChecksText text old new r
 checks_refused text lines old new first (Ok x) e s w = absurd w
 checks_refused text lines old new first (Err (Text q)) e s w =
@@ -46,7 +47,8 @@ long_line = record { line = 1; code = TooLong }
 
 -- a text that is too long
 long_faults : (text : List ℕ) → 1048576 < length text → faults_in text ≡ long_line ∷ []
-long_faults text h = sym (last_fault [] (faults_in text) (long_line ∷ []) 20 text long_line (omega arith) (long-refused text h) refl refl refl)
+long_faults text h =
+    sym (last_fault [] (faults_in text) (long_line ∷ []) 20 text long_line (omega arith) (long-refused text h) refl refl refl)
 
 long_listing : (text : List ℕ) → 1048576 < length text → listing text ≡ codes "line 1 code 1 TooLong\n"
 unfolding fmt.digits
@@ -71,7 +73,8 @@ checks_known (Some bytes) old new text (Err (NotStarted k)) e w = absurd w
 checks_known (Some bytes) old new text (Err Internal) e w = absurd w
 
 -- and the reader isn't asked again
-pub checks_unread : (text : List ℕ) (old new : Option (List ℕ)) (before after : ℕ) (r : Result (Unit {0}) RunFault) → ChecksText text old new r
+pub checks_unread : (text : List ℕ) (old new : Option (List ℕ)) (before after : ℕ) (r : Result (Unit {0}) RunFault)
+    → ChecksText text old new r
     → after ≡ before → ReadCause before after r
 checks_unread text old new before after (Ok x) w e = e
 checks_unread text old new before after (Err (Text q)) w e = e

@@ -22,7 +22,8 @@ out (Explain topic) input old = keeps old
 out (Draw workers limit) input old = keeps old
 
 -- memory ran out before anything was read
-pub no-memory : (a : Asked) (look : LookValue) (input old new : Option (List ℕ)) (reported : List ℕ → Type 0) (status : ℕ) → new ≡ old → status ≡ 6
+pub no-memory : (a : Asked) (look : LookValue) (input old new : Option (List ℕ)) (reported : List ℕ → Type 0) (status : ℕ) → new ≡ old
+    → status ≡ 6
     → Did a look input old new reported status
 no-memory a look input old new reported status same e = record {
   finished = λ h. absurd (omega arith);

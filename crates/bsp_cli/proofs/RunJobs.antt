@@ -46,20 +46,23 @@ small (Fault c n p) = omega arith
 small (Limit n) = omega arith
 
 -- a job that was read and run, and its report that was written
-pub runs : (form : ReportValue → List ℕ) (workers limit : ℕ) (input old new : Option (List ℕ)) (j : JobValue) (report : ReportValue) (r : Result JobStatus RunFault)
+pub runs : (form : ReportValue → List ℕ) (workers limit : ℕ) (input old new : Option (List ℕ)) (j : JobValue) (report : ReportValue)
+    (r : Result JobStatus RunFault)
     → IfSome input (λ bytes. job_in bytes ≡ Ok (job_tree j)) → report_of (program_of j) limit ≡ Some report → Reports form report old new r
     → Runs form workers limit input old new r
 runs form workers limit input old new j report (Ok status) read left_it h =
     if-some input (λ bytes e. (report, (job_tree j, e, left j limit report left_it), h.0, h.1)) read
 runs form workers limit input old new j report (Err (Text x)) read left_it h = absurd h
 runs form workers limit input old new j report (Err Read) read left_it h = absurd h
-runs form workers limit input old new j report (Err Write) read left_it h = if-some input (λ bytes e. (report, (job_tree j, e, left j limit report left_it), h)) read
+runs form workers limit input old new j report (Err Write) read left_it h =
+    if-some input (λ bytes e. (report, (job_tree j, e, left j limit report left_it), h)) read
 runs form workers limit input old new j report (Err Memory) read left_it h = h
 runs form workers limit input old new j report (Err (NotStarted k)) read left_it h = absurd h
 runs form workers limit input old new j report (Err Internal) read left_it h = absurd h
 
 -- and so what was asked for was done
-pub does : (workers limit : ℕ) (look : LookValue) (input old new : Option (List ℕ)) (r : Result JobStatus RunFault) → Runs report_text workers limit input old new r
+pub does : (workers limit : ℕ) (look : LookValue) (input old new : Option (List ℕ)) (r : Result JobStatus RunFault)
+    → Runs report_text workers limit input old new r
     → Does (Run workers limit) look input old new (end_result r)
 does workers limit look input old new (Ok status) h =
     (small (status_seen status), if-some input (λ bytes w. (w.0, w.1, w.2, ap status_number w.3)) h)
@@ -71,7 +74,8 @@ does workers limit look input old new (Err (NotStarted k)) h = h
 does workers limit look input old new (Err Internal) h = h
 
 -- and written as JSON
-pub does_json : (workers limit : ℕ) (look : LookValue) (input old new : Option (List ℕ)) (r : Result JobStatus RunFault) → Runs json_text workers limit input old new r
+pub does_json : (workers limit : ℕ) (look : LookValue) (input old new : Option (List ℕ)) (r : Result JobStatus RunFault)
+    → Runs json_text workers limit input old new r
     → Does (RunJson workers limit) look input old new (end_result r)
 does_json workers limit look input old new (Ok status) h =
     (small (status_seen status), if-some input (λ bytes w. (w.0, w.1, w.2, ap status_number w.3)) h)
@@ -83,7 +87,8 @@ does_json workers limit look input old new (Err (NotStarted k)) h = h
 does_json workers limit look input old new (Err Internal) h = h
 
 -- and drawn
-pub draws : (workers limit : ℕ) (look : LookValue) (input old new : Option (List ℕ)) (r : Result JobStatus RunFault) → Draws look workers limit input old new r
+pub draws : (workers limit : ℕ) (look : LookValue) (input old new : Option (List ℕ)) (r : Result JobStatus RunFault)
+    → Draws look workers limit input old new r
     → Does (Draw workers limit) look input old new (end_result r)
 draws workers limit look input old new (Ok status) h =
     (small (status_seen status), if-some input (λ bytes w. (w.0, w.1, w.2, ap status_number w.3)) h)
@@ -99,7 +104,8 @@ program-read : (j : JobValue) (bytes : List ℕ) → job_in bytes ≡ Ok (job_tr
 program-read j bytes e = sym (ap program_of_text e ∙ same-program j)
 
 -- a job that was read and run, and its picture that was written
-pub draws_runs : (look : LookValue) (workers limit : ℕ) (input old new : Option (List ℕ)) (j : JobValue) (report : ReportValue) (r : Result JobStatus RunFault)
+pub draws_runs : (look : LookValue) (workers limit : ℕ) (input old new : Option (List ℕ)) (j : JobValue) (report : ReportValue)
+    (r : Result JobStatus RunFault)
     → IfSome input (λ bytes. job_in bytes ≡ Ok (job_tree j)) → report_of (program_of j) limit ≡ Some report
     → Reports (drawn look (program_of j) limit) report old new r → Draws look workers limit input old new r
 draws_runs look workers limit input old new j report (Ok status) read left_it h =
@@ -126,7 +132,8 @@ keeps None = tt
 keeps (Some xs) = refl
 
 -- where workers leave nothing, nothing was written
-pub pool_runs : (form : ReportValue → List ℕ) (workers limit : ℕ) (input old : Option (List ℕ)) (fault : RunFault) → IsOfPool workers fault → Runs form workers limit input old old (Err fault)
+pub pool_runs : (form : ReportValue → List ℕ) (workers limit : ℕ) (input old : Option (List ℕ)) (fault : RunFault) → IsOfPool workers fault
+    → Runs form workers limit input old old (Err fault)
 pool_runs form workers limit input old (Text r) h = absurd h
 pool_runs form workers limit input old Read h = absurd h
 pool_runs form workers limit input old Write h = absurd h
@@ -135,7 +142,8 @@ pool_runs form workers limit input old (NotStarted k) h = (keeps old, h)
 pool_runs form workers limit input old Internal h = keeps old
 
 -- and no device failed
-pub pool_reads : (workers old new : ℕ) (fault : RunFault) → IsOfPool workers fault → new ≡ old → ReadCause {T = JobStatus} old new (Err fault)
+pub pool_reads : (workers old new : ℕ) (fault : RunFault) → IsOfPool workers fault → new ≡ old
+    → ReadCause {T = JobStatus} old new (Err fault)
 pool_reads workers old new (Text r) h e = absurd h
 pool_reads workers old new Read h e = absurd h
 pool_reads workers old new Write h e = absurd h
@@ -152,7 +160,8 @@ pool_writes workers old (NotStarted k) h = refl
 pool_writes workers old Internal h = refl
 
 -- nor drawn
-pub pool_draws : (look : LookValue) (workers limit : ℕ) (input old : Option (List ℕ)) (fault : RunFault) → IsOfPool workers fault → Draws look workers limit input old old (Err fault)
+pub pool_draws : (look : LookValue) (workers limit : ℕ) (input old : Option (List ℕ)) (fault : RunFault) → IsOfPool workers fault
+    → Draws look workers limit input old old (Err fault)
 pool_draws look workers limit input old (Text r) h = absurd h
 pool_draws look workers limit input old Read h = absurd h
 pool_draws look workers limit input old Write h = absurd h

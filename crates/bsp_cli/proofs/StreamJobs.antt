@@ -26,7 +26,8 @@ pub none_written : (p : Program) (limit : ℕ) (old new : Option (List ℕ)) →
 none_written p limit old new h = (0, Appends-kept old old new _ (Appends-none old) h)
 
 -- a report that was written whole
-pub reports_stream : (workers limit : ℕ) (p : Program) (old new : Option (List ℕ)) (report : ReportValue) (r : Result JobStatus RunFault) → report_of p limit ≡ Some report
+pub reports_stream : (workers limit : ℕ) (p : Program) (old new : Option (List ℕ)) (report : ReportValue) (r : Result JobStatus RunFault)
+    → report_of p limit ≡ Some report
     → Reports report_text report old new r → StreamsJob workers p limit old new r
 reports_stream workers limit p old new report (Ok status) e h = (report, e, h.0, h.1)
 reports_stream workers limit p old new report (Err (Text x)) e h = absurd h
@@ -38,7 +39,8 @@ reports_stream workers limit p old new report (Err Internal) e h = absurd h
 
 -- the job of the input
 pub runs_stream : (workers limit : ℕ) (input old new : Option (List ℕ)) (j : JobValue) (r : Result JobStatus RunFault)
-    → IfSome input (λ bytes. job_in bytes ≡ Ok (job_tree j)) → StreamsJob workers (program_of j) limit old new r → RunsStream workers limit input old new r
+    → IfSome input (λ bytes. job_in bytes ≡ Ok (job_tree j)) → StreamsJob workers (program_of j) limit old new r
+    → RunsStream workers limit input old new r
 runs_stream workers limit input old new j (Ok status) read h =
     if-some input (λ bytes e. (h.0, (job_tree j, e, left j limit h.0 h.1), h.2, h.3)) read
 runs_stream workers limit input old new j (Err (Text x)) read h = absurd h
@@ -46,13 +48,16 @@ runs_stream workers limit input old new j (Err Read) read h = absurd h
 runs_stream workers limit input old new j (Err Write) read h =
     if-some input (λ bytes e. (h.0, (job_tree j, e, left j limit h.0 h.1), h.2)) read
 runs_stream workers limit input old new j (Err Memory) read h =
-    inr (if-some input (λ bytes e. (job_tree j, e, subst (λ (p : Program). stream.WritesSteps p limit old new) (sym (same-program j)) h)) read)
+    inr
+    (if-some input (λ bytes e. (job_tree j, e, subst (λ (p : Program). stream.WritesSteps p limit old new) (sym (same-program j)) h)) read)
 runs_stream workers limit input old new j (Err (NotStarted k)) read h = h
 runs_stream workers limit input old new j (Err Internal) read h =
-    inr (if-some input (λ bytes e. (job_tree j, e, subst (λ (p : Program). stream.WritesSteps p limit old new) (sym (same-program j)) h)) read)
+    inr
+    (if-some input (λ bytes e. (job_tree j, e, subst (λ (p : Program). stream.WritesSteps p limit old new) (sym (same-program j)) h)) read)
 
 -- and so what was asked for was done
-pub does_stream : (workers limit : ℕ) (look : LookValue) (input old new : Option (List ℕ)) (r : Result JobStatus RunFault) → RunsStream workers limit input old new r
+pub does_stream : (workers limit : ℕ) (look : LookValue) (input old new : Option (List ℕ)) (r : Result JobStatus RunFault)
+    → RunsStream workers limit input old new r
     → Does (RunStream workers limit) look input old new (end_result r)
 does_stream workers limit look input old new (Ok status) h =
     (small (status_seen status), if-some input (λ bytes w. (w.0, w.1, w.2, ap status_number w.3)) h)

@@ -23,21 +23,27 @@ IsSame d = d.after ≡ d.before
 
 -- The status that words end with, and what was read, written and reported: words that are taken do what they ask for,
 -- at the tree that they ask for; help and the version are written; other words are refused, and nothing is read.
-pub record AnswersWords {R W E : Type 0} (words : List (List ℕ)) (reader : Around R) (writer : Around W) (errors : Around E) (status : ℕ) : Type 0 where
-  pub did : refused_by words ≡ [] → Did (asked_in words) (look_asked words) (reader.bytes reader.before) (writer.bytes writer.before) (writer.bytes writer.after)
+pub record AnswersWords {R W E : Type 0} (words : List (List ℕ)) (reader : Around R) (writer : Around W) (errors : Around E)
+    (status : ℕ) : Type 0 where
+  pub did : refused_by words ≡ []
+      → Did (asked_in words) (look_asked words) (reader.bytes reader.before) (writer.bytes writer.before) (writer.bytes writer.after)
       (Tells (errors.bytes errors.before) (errors.bytes errors.after) (errors.failures errors.before) (errors.failures errors.after)) status
   pub taken : refused_by words ≡ [] → IsOk (shape_in_text (tree_asked words)) → status ≢ 5
   pub reads_nothing : refused_by words ≡ [] → ReadsNothing (asked_in words) → IsSame reader
-  pub no_tree : refused_by words ≡ [] → IsErr (shape_in_text (tree_asked words)) → IsSame reader × IsSame writer × ((status ≡ 5) ⊎ (status ≡ 6))
+  pub no_tree : refused_by words ≡ [] → IsErr (shape_in_text (tree_asked words))
+      → IsSame reader × IsSame writer × ((status ≡ 5) ⊎ (status ≡ 6))
   pub helps : refused_by words ≡ kinds.DisplayHelp ∷ [] → IsSame reader × ((status ≡ 0) ⊎ (status ≡ 6) ⊎ (status ≡ 8))
   pub tells_version : refused_by words ≡ kinds.DisplayVersion ∷ [] → IsSame reader × ((status ≡ 0) ⊎ (status ≡ 6) ⊎ (status ≡ 8))
   pub helped : refused_by words ≡ kinds.DisplayHelp ∷ [] → status ≡ 0 → WritesSome (writer.bytes writer.before) (writer.bytes writer.after)
-  pub versioned : refused_by words ≡ kinds.DisplayVersion ∷ [] → status ≡ 0 → Appends (writer.bytes writer.before) (writer.bytes writer.after) version_line
+  pub versioned : refused_by words ≡ kinds.DisplayVersion ∷ [] → status ≡ 0
+      → Appends (writer.bytes writer.before) (writer.bytes writer.after) version_line
   pub refuses : are_refused (refused_by words) ≡ true → (status ≡ 5) ⊎ (status ≡ 6)
   pub untouched : refused_by words ≢ [] → IsSame reader
   pub nothing_written : refused_by words ≢ [] → status ≡ 6 → IsSame writer
   pub within : status ≤ 9
   pub silent : status ≤ 3 → IsSame errors
   pub command_line_refused : status ≡ 5 → IsSame reader × IsSame writer
-  pub says : Says status (errors.bytes errors.before) (errors.bytes errors.after) (errors.failures errors.before) (errors.failures errors.after)
-  pub counts : CountsFailures status (reader.failures reader.before) (reader.failures reader.after) (writer.failures writer.before) (writer.failures writer.after)
+  pub says : Says status (errors.bytes errors.before) (errors.bytes errors.after) (errors.failures errors.before)
+      (errors.failures errors.after)
+  pub counts : CountsFailures status (reader.failures reader.before) (reader.failures reader.after) (writer.failures writer.before)
+      (writer.failures writer.after)

@@ -86,7 +86,8 @@ ChecksText text old new _ = ⊥
 
 abbrev pub ChecksAll : Option (List ℕ) → Option (List ℕ) → Option (List ℕ) → Result (Unit {0}) RunFault → Type 0
 ChecksAll input old new (Ok x) = IfSome input (λ bytes. WritesCanonical bytes old new)
-ChecksAll input old new (Err (Text r)) = IfSome input (λ bytes. job_in bytes ≡ Err r) × IfSome input (λ bytes. Appends old new (listing bytes))
+ChecksAll input old new (Err (Text r)) =
+    IfSome input (λ bytes. job_in bytes ≡ Err r) × IfSome input (λ bytes. Appends old new (listing bytes))
 ChecksAll input old new (Err Read) = Keeps old new
 ChecksAll input old new (Err Write) = IfSome input (λ bytes. BeginsCanonical bytes old new ⊎ BeginsListing bytes old new)
 ChecksAll input old new (Err Memory) = Keeps old new

@@ -18,7 +18,8 @@ pub record LinesAreWorkedOut : Type 0 where
   pub refused : refusal_line (record { line = 12; code = BadName }) ≡ codes "refused line 12 code 5\n"
   pub too_long : refusal_line (record { line = 1; code = TooLong }) ≡ codes "refused line 1 code 1\n"
   pub worker : worker_line 63 ≡ codes "worker 63 not started\n"
-  pub text_fault : (fault_text (Text (record { line = 3; code = Reserved })) ≡ codes "refused line 3 code 14\n") × (fault_status (Text (record { line = 3; code = Reserved })) ≡ 4)
+  pub text_fault : (fault_text (Text (record { line = 3; code = Reserved })) ≡ codes "refused line 3 code 14\n")
+      × (fault_status (Text (record { line = 3; code = Reserved })) ≡ 4)
   pub memory_fault : (fault_text Memory ≡ codes "out of memory\n") × (fault_status Memory ≡ 6)
   pub worker_fault : (fault_text (NotStarted 0) ≡ codes "worker 0 not started\n") × (fault_status (NotStarted 0) ≡ 7)
   pub read_fault : (fault_text Read ≡ codes "read or write failed\n") × (fault_status Read ≡ 8)

@@ -21,7 +21,8 @@ same_program : (j : JobValue) → program_of_tree (job_tree j) ≡ program_of j
 same_program j = ap (λ (ps : List Plan). record { arrays = j.arrays; plans = ps; starts = j.starts }) (same_plans j.bodies)
 
 pub gives : (j : JobValue) (limit : ℕ) (r : ReportValue) (text out : List ℕ) (done status : ℤ) (reported : Reported)
-    → report_of (program_of j) limit ≡ Some r → text ≡ report_text r → done ≡ status_number r.status → reported.bytes ≡ length text → IsGiven text out done status (length text)
+    → report_of (program_of j) limit ≡ Some r → text ≡ report_text r → done ≡ status_number r.status → reported.bytes ≡ length text
+    → IsGiven text out done status (length text)
     → GivesReport (job_tree j) limit out status reported
 gives j limit r text out done status reported left is ends bytes given =
     let P : List ℕ → Type 0 = λ t. IsGiven t out done status (length t) in

@@ -25,6 +25,7 @@ one_run plan first number (x ∷ xs) word steps =
           let here = s.follows f a in
           let rest = r.follows (after plan x.call f) here.0 in
           (rest.0, ap (λ (p : Reply). p ∷ r.replies) here.1 ∙ ap (λ (ps : List Reply). answer x.call f ∷ ps) rest.1);
-      reported = ap (λ (z : ℤ). z ∷ map (λ (y : Exchange). y.status) xs) s.reported ∙ ap (λ (zs : List ℤ). status_of s.reply ∷ zs) r.reported;
+      reported =
+          ap (λ (z : ℤ). z ∷ map (λ (y : Exchange). y.status) xs) s.reported ∙ ap (λ (zs : List ℤ). status_of s.reply ∷ zs) r.reported;
       shown = ap (λ (z : ℤ). z ∷ map (λ (y : Exchange). y.answer) xs) s.shown ∙ ap (λ (zs : List ℤ). answer_of s.reply ∷ zs) r.shown;
     }

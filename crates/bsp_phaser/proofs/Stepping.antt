@@ -44,7 +44,8 @@ stays plan call w v reply h k follows r =
     alike_words w v h k (subst P same step.0)
 
 pub stepped : (plan : CountPlan) (call : Call) (w v : Fields) (number next : ℕ) (status answer : ℤ) (reply : Reply)
-    → IsWordOf w number → ((u : Fields) → IsWordOf u number → w ≡ u) → IsWordOf v next → Follows plan call w v reply → status ≡ status_of reply → answer ≡ answer_of reply
+    → IsWordOf w number → ((u : Fields) → IsWordOf u number → w ≡ u) → IsWordOf v next → Follows plan call w v reply
+    → status ≡ status_of reply → answer ≡ answer_of reply
     → IsStep plan call number next status answer
 stepped plan call w v number next status answer reply word only new follows reported shown = record {
   done = λ u it.
@@ -86,7 +87,8 @@ pub only_word : (o : Option Fields) (w u : Fields) → o ≡ Some w → o ≡ So
 only_word o w u e h = let both : Some w ≡ Some u = sym e ∙ h in cc
 
 -- waiting for the end of a phase leaves the number
-still : (plan : CountPlan) (phase : ℤ) (w : Fields) (number next : ℕ) (status answer : ℤ) → IsWordOf w number → Stepped plan (Await phase) w next status answer → next ≡ number
+still : (plan : CountPlan) (phase : ℤ) (w : Fields) (number next : ℕ) (status answer : ℤ) → IsWordOf w number
+    → Stepped plan (Await phase) w next status answer → next ≡ number
 still plan phase w number next status answer word s =
     let step = s.follows (flat_of w) (alike_self (flat_of w)) in
     let P : Flat → Type 0 = λ f. IsAlike f (flat_of s.new) in
@@ -107,18 +109,22 @@ awaited p q phase number next status answer step =
     let P : ℕ → Type 0 = λ n. IsStep q (Await phase) number n status answer in
     subst P same (any_plan p q (Await phase) number next status answer refl step)
 
-pub new_status : (w : Fields) (parties : ℤ) (phase : ℕ) → IsLegal w → pos w.parties ≡ parties → phase ≤ 2147483647 → status_of_new parties phase ≡ pos 0
+pub new_status : (w : Fields) (parties : ℤ) (phase : ℕ) → IsLegal w → pos w.parties ≡ parties → phase ≤ 2147483647
+    → status_of_new parties phase ≡ pos 0
 new_status w parties phase legal e early =
     let phases : nat_lt 2147483647 phase ≡ false = grind (arith, common_steps) in
     let many : nat_lt 65535 w.parties ≡ false = (let few : w.parties ≤ 65535 = legal.parties in grind (arith, common_steps)) in
     let count : status_of_count parties ≡ pos 0 = ap status_of_count (sym e) ∙ (rw many refl) in
     rw phases count
 
-pub many_status : (parties : ℤ) (phase : ℕ) → (parties <ℤ pos 0) ⊎ (pos 65535 <ℤ parties) → phase ≤ 2147483647 → pos 3 ≡ status_of_new parties phase
+pub many_status : (parties : ℤ) (phase : ℕ) → (parties <ℤ pos 0) ⊎ (pos 65535 <ℤ parties) → phase ≤ 2147483647
+    → pos 3 ≡ status_of_new parties phase
 many_status (negsuc n) phase h early = let phases : nat_lt 2147483647 phase ≡ false = grind (arith, common_steps) in rw phases refl
 many_status (pos n) phase h early =
     let phases : nat_lt 2147483647 phase ≡ false = grind (arith, common_steps) in
-    let many : nat_lt 65535 n ≡ true = ⊎_elim (λ low. absurd (let l : pos n <ℤ pos 0 = low in omega (arith, ints, l))) (λ high. (let l : pos 65535 <ℤ pos n = high in let m : 65535 < n = omega (arith, ints, l) in grind (arith, common_steps))) h in
+    let many : nat_lt 65535 n ≡ true =
+    ⊎_elim (λ low. absurd (let l : pos n <ℤ pos 0 = low in omega (arith, ints, l)))
+    (λ high. (let l : pos 65535 <ℤ pos n = high in let m : 65535 < n = omega (arith, ints, l) in grind (arith, common_steps))) h in
     rw (phases, many) refl
 
 pub late_status : (parties : ℤ) (phase : ℕ) → 2147483647 < phase → pos 1 ≡ status_of_new parties phase

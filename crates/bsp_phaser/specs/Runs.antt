@@ -40,9 +40,11 @@ pub record IsOneRun (plan : CountPlan) (first : Fields) (number : ℕ) (xs : Lis
 -- the order of the exchanges are a run of one phaser.
 abbrev pub ExchangesAreOneRun : Type 0
 ExchangesAreOneRun =
-    (plan : CountPlan) (first : Fields) (number : ℕ) (xs : List Exchange) → IsWordOf first number → AreExchanged plan number xs → IsOneRun plan first number xs
+    (plan : CountPlan) (first : Fields) (number : ℕ) (xs : List Exchange) → IsWordOf first number → AreExchanged plan number xs
+    → IsOneRun plan first number xs
 
--- a phase has passed: all but the one that made the call, if it arrived or left, had arrived before; the next phase has begun, and in it nobody has arrived
+-- a phase has passed: all but the one that made the call, if it arrived or left, had arrived before; the next phase has begun, and in it
+-- nobody has arrived
 pub record HasPassed (before after : Fields) : Type 0 where
   pub last : before.unarrived ≤ 1
   pub next : after.phase ≡ next_phase_of before.phase
@@ -51,5 +53,6 @@ pub record HasPassed (before after : Fields) : Type 0 where
 -- No call takes the phase on before all parties then registered have arrived.
 abbrev pub NoPhasePassesEarly : Type 0
 NoPhasePassesEarly =
-    (plan : CountPlan) (call : Call) (old : Fields) (number next : ℕ) (status answer : ℤ) (step : IsStep plan call number next status answer) (word : IsWordOf old number)
+    (plan : CountPlan) (call : Call) (old : Fields) (number next : ℕ) (status answer : ℤ)
+    (step : IsStep plan call number next status answer) (word : IsWordOf old number)
     → (step.done old word).new.phase ≢ old.phase → HasPassed old (step.done old word).new

@@ -36,7 +36,8 @@ answer_of (Number phase) = phase
 answer_of Waiting = pos 0
 answer_of (Refused fault) = pos 0
 
--- the plan of a phaser that ends with fewer parties than the least, and at the end of a phase; a number above 2147483647 is no phase's, and so names none
+-- the plan of a phaser that ends with fewer parties than the least, and at the end of a phase; a number above 2147483647 is no phase's, and
+-- so names none
 abbrev pub plan_of : ℕ → ℕ → CountPlan
 plan_of least at = record { least = least; at = Some at }
 

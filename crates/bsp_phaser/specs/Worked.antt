@@ -19,8 +19,8 @@ Gives plan call number next status answer = (n : ℕ) (s a : ℤ) → IsStep pla
 abbrev pub Reads : (Flat → ℤ) → ℕ → ℤ → Type 0
 Reads of number answer = (s a : ℤ) → IsReading of number s a → (s ≡ pos 0) × (a ≡ answer)
 
--- Three parties begin in phase 5. They end it with 1 party at least, at the end of phase 6, or by force. A number is its unarrived parties, 65536 times its
--- parties and 4294967296 times its phase, and 9223372036854775808 more after the end.
+-- Three parties begin in phase 5. They end it with 1 party at least, at the end of phase 6, or by force. A number is its unarrived parties,
+-- 65536 times its parties and 4294967296 times its phase, and 9223372036854775808 more after the end.
 pub record RunIsWorkedOut : Type 0 where
   pub new : Makes (pos 3) 5 21475033091
   pub late : status_of_new (pos 3) 2147483648 ≡ pos 1

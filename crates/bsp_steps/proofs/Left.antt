@@ -26,7 +26,8 @@ IsSo arrays t u e old new o = IsLeft (λ (x : TaskValue). x) path_of e t u old n
 -- how a task is settled by its deed, which ends so
 abbrev pub Settles : (arrays : List (List ℕ × List ℤ)) (d : Deed) (t u : TaskValue) (old new : Work TaskValue) → Ended → Ended → Type 0
 Settles arrays d t u old new ended e =
-    IsSettled (refused arrays t.path t.begun (written d t.kept.place).puts (length (written d t.kept.place).spawns)) t u (written d t.kept.place) old new ended e
+    IsSettled (refused arrays t.path t.begun (written d t.kept.place).puts (length (written d t.kept.place).spawns)) t u
+    (written d t.kept.place) old new ended e
 
 pub below : (n m : ℕ) → true ≡ ltb n m → n < m
 below n m e = grind (arith, nat_tests)
@@ -47,14 +48,16 @@ slice_none (x ∷ ds) zero le = absurd (omega (arith, le))
 slice_none (x ∷ ds) (suc n) le = slice_none ds n (omega (arith, le))
 
 -- nothing was given for it
-pub left_ungiven : (arrays : List (List ℕ × List ℤ)) (t : TaskValue) (work : Work TaskValue) → work.prints.items ≡ [] → work.spawns.items ≡ []
+pub left_ungiven : (arrays : List (List ℕ × List ℤ)) (t : TaskValue) (work : Work TaskValue) → work.prints.items ≡ []
+    → work.spawns.items ≡ []
     → IsSo arrays t t ended.Stops work work (left_so ending.Stops t.kept nothing)
 left_ungiven arrays t work printed spawned =
     (record { puts = sym (append-nil work.puts); prints = printed; spawns = same_of work.spawns.items ∙ spawned }, refl, refl)
 
 -- what it left is what was given for it
 pub has_left : (deeds : List Deed) (arrays : List (List ℕ × List ℤ)) (step : ℕ) (t u : TaskValue) (e : Ended) (old new : Work TaskValue)
-    → IsSo arrays t u e old new (given_of deeds t.kept) → HasLeft member_frame (AsGiven deeds) (λ (x : TaskValue). x) path_of arrays step e t u old new
+    → IsSo arrays t u e old new (given_of deeds t.kept)
+    → HasLeft member_frame (AsGiven deeds) (λ (x : TaskValue). x) path_of arrays step e t u old new
 has_left deeds arrays step t u e old new h = record {
   left = framed arrays t (given_of deeds t.kept);
   allowed = record { left = given_of deeds t.kept; allowed = refl; is = refl };
@@ -63,7 +66,8 @@ has_left deeds arrays step t u e old new h = record {
 }
 
 -- all its cells exist, and so its spawns alone may be refused
-pub refused_so : (arrays : List (List ℕ × List ℤ)) (d : Deed) (t : TaskValue) (r : Option ℕ) → list_all (is_cell arrays) (puts_given d.puts.now) ≡ true
+pub refused_so : (arrays : List (List ℕ × List ℤ)) (d : Deed) (t : TaskValue) (r : Option ℕ)
+    → list_all (is_cell arrays) (puts_given d.puts.now) ≡ true
     → refused_spawns t.path t.begun d.spawns ≡ r
     → refused arrays t.path t.begun (written d t.kept.place).puts (length (written d t.kept.place).spawns) ≡ r
 refused_so arrays d t r all is =
@@ -73,7 +77,8 @@ refused_so arrays d t r all is =
 pub settles_so : (arrays : List (List ℕ × List ℤ)) (d : Deed) (t : TaskValue) (old new : Work TaskValue) (e : Ended) (code : ℕ)
     → refused arrays t.path t.begun (written d t.kept.place).puts (length (written d t.kept.place).spawns) ≡ Some code
     → Settles arrays d t t old new e (ended.Fails code)
-settles_so arrays d t old new e code is = subst (λ (r : Option ℕ). IsSettled r t t (written d t.kept.place) old new e (ended.Fails code)) (sym is) (refl, refl)
+settles_so arrays d t old new e code is =
+    subst (λ (r : Option ℕ). IsSettled r t t (written d t.kept.place) old new e (ended.Fails code)) (sym is) (refl, refl)
 
 -- it isn't refused, and joins
 pub settles_joined : (arrays : List (List ℕ × List ℤ)) (d : Deed) (t u : TaskValue) (old new : Work TaskValue) (e : Ended)

@@ -39,7 +39,8 @@ pairs_apart place (t ∷ ts) a = (all_apart place (suc place) t ts a.0, pairs_ap
 pub placed_ordered : (ts : Tasks) → AreOrdered member_frame ts → AreOrdered member_frame (placed_from 0 ts)
 placed_ordered ts a = record { pairs = pairs_apart 0 ts a.pairs; rising = ap is_rising (placed_paths 0 ts) ∙ a.rising }
 
-status_same : (limit step place : ℕ) (fault : Option (ℕ × List ℕ)) (ts : Tasks) → status_of limit step fault (placed_from place ts) ≡ status_of limit step fault ts
+status_same : (limit step place : ℕ) (fault : Option (ℕ × List ℕ)) (ts : Tasks)
+    → status_of limit step fault (placed_from place ts) ≡ status_of limit step fault ts
 status_same limit step place (Some f) ts = refl
 status_same limit step place None [] = refl
 status_same limit step place None (t ∷ ts) = refl
@@ -55,7 +56,8 @@ placed_runs v r = record {
 pub few_starts : (starts most : ℕ) → refused_starts starts most ≡ false → (most ≤ 2147483647) × (starts ≤ 65535) × (starts ≤ most)
 few_starts starts most h = by (nat_lt 2147483647 most) (nat_lt 65535 starts) (nat_lt most starts) refl refl refl h
   where
-    by : (a b c : Bool) → nat_lt 2147483647 most ≡ a → nat_lt 65535 starts ≡ b → nat_lt most starts ≡ c → (a || (b || c)) ≡ false → (most ≤ 2147483647) × (starts ≤ 65535) × (starts ≤ most)
+    by : (a b c : Bool) → nat_lt 2147483647 most ≡ a → nat_lt 65535 starts ≡ b → nat_lt most starts ≡ c → (a || (b || c)) ≡ false
+        → (most ≤ 2147483647) × (starts ≤ 65535) × (starts ≤ most)
     by true b c ea eb ec k = cc
     by false true c ea eb ec k = cc
     by false false true ea eb ec k = cc

@@ -13,11 +13,13 @@ use Rattle.bsp_steps.specs.Given.{put_given}
 abbrev pub set_at : ℕ → ℕ → ℤ → Put
 set_at array index value = record { array = array; index = index; kind = Set; value = value }
 
-pub row_more : (array first : ℕ) (vs : List ℤ) (v : ℤ) → row_puts array first (vs ++ v ∷ []) ≡ row_puts array first vs ++ set_at array (first + length vs) v ∷ []
+pub row_more : (array first : ℕ) (vs : List ℤ) (v : ℤ)
+    → row_puts array first (vs ++ v ∷ []) ≡ row_puts array first vs ++ set_at array (first + length vs) v ∷ []
 row_more array first [] v = let e : first ≡ first + 0 = omega arith in λ i. set_at array (e i) v ∷ []
 row_more array first (x ∷ vs) v =
     let e : suc first + length vs ≡ first + suc (length vs) = omega arith in
-    ap (λ (ps : List Put). set_at array first x ∷ ps) (row_more array (suc first) vs v ∙ (λ i. row_puts array (suc first) vs ++ set_at array (e i) v ∷ []))
+    ap (λ (ps : List Put). set_at array first x ∷ ps)
+    (row_more array (suc first) vs v ∙ (λ i. row_puts array (suc first) vs ++ set_at array (e i) v ∷ []))
 
 -- a put that is to set
 pub sets_at : (p : PutGiven) (array index : ℕ) → p.adds ≡ 0 → p.array ≡ array → p.index ≡ index → put_given p ≡ set_at array index p.value

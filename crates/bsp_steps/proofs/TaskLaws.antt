@@ -10,7 +10,8 @@ use Rattle.bsp_steps.specs.Laws.{TasksLeaveWhatWasGiven, EachTaskHasItsPlace}
 pub leave_what_was_given : TasksLeaveWhatWasGiven
 leave_what_was_given deeds t arrays step g h = h.is ∙ ap (framed arrays t) h.allowed
 
-place_from : (base place : ℕ) (tasks : List (MemberValue Origin)) → slice_get (placed_from base tasks) place ≡ option_map (placed_at (base + place)) (slice_get tasks place)
+place_from : (base place : ℕ) (tasks : List (MemberValue Origin))
+    → slice_get (placed_from base tasks) place ≡ option_map (placed_at (base + place)) (slice_get tasks place)
 place_from base place [] = refl
 place_from base zero (t ∷ ts) = let at : base ≡ base + 0 = omega arith in λ i. Some (placed_at (at i) t)
 place_from base (suc n) (t ∷ ts) =

@@ -16,7 +16,8 @@ abbrev pub Stepped : List Deed → RunValue → RunValue → Type 0
 Stepped deeds v w = HasStepped member_frame (AsGiven deeds) (λ t. t) v w
 
 -- a run that had printed something before takes the same superstep
-pub stepped_after : (deeds : List Deed) (ps : List PrintValue) (v w : RunValue) → Stepped deeds v w → Stepped deeds (after_prints ps v) (after_prints ps w)
+pub stepped_after : (deeds : List Deed) (ps : List PrintValue) (v w : RunValue) → Stepped deeds v w
+    → Stepped deeds (after_prints ps v) (after_prints ps w)
 stepped_after deeds ps v w h = record {
   entries = h.entries;
   entered = record { tasks = h.entered.tasks; allowed = h.entered.allowed };
@@ -29,7 +30,8 @@ stepped_after deeds ps v w h = record {
 }
 
 -- what was printed last is moved behind what was printed before: the run is the same
-pub joined_same : (v s t : RunValue) (ps qs : List PrintValue) → after_prints ps s ≡ v → t ≡ record s { prints = [] } → qs ≡ ps ++ s.prints → after_prints qs t ≡ v
+pub joined_same : (v s t : RunValue) (ps qs : List PrintValue) → after_prints ps s ≡ v → t ≡ record s { prints = [] } → qs ≡ ps ++ s.prints
+    → after_prints qs t ≡ v
 joined_same v s t ps qs is et eq =
     (λ i. after_prints (eq i) (et i))
     ∙ ap (λ (all : List PrintValue). record s { prints = all }) (append-nil (ps ++ s.prints))
@@ -37,12 +39,16 @@ joined_same v s t ps qs is et eq =
 
 module _ {E : Type 0} where
   -- it was taken, or what was printed last stays behind what was printed before
-  pub took : (v s w : RunValue) (qs : List PrintValue) (deeds : List Deed) (status : ℤ) (r : Result (Option JobStatus) E) → after_prints qs s ≡ v
+  pub took : (v s w : RunValue) (qs : List PrintValue) (deeds : List Deed) (status : ℤ) (r : Result (Option JobStatus) E)
+      → after_prints qs s ≡ v
       → OnOk r (Stepped deeds (placed s) w)
       → OnErr r (w ≡ s)
       → IfOk r (λ x. option_map status_seen x ≡ ended w)
       → MatchResult r (λ x. status ≡ closing (option_map status_seen x)) (λ e. status ≡ pos 6)
       → Takes v (after_prints qs w) deeds status
   took v s w qs deeds status (Ok x) is stepped memory so reported =
-      inl (reported ∙ ap closing so, subst (λ (q : RunValue). Stepped deeds (placed q) (after_prints qs w)) is (stepped_after deeds qs (placed s) w stepped))
+      inl (
+        reported ∙ ap closing so,
+        subst (λ (q : RunValue). Stepped deeds (placed q) (after_prints qs w)) is (stepped_after deeds qs (placed s) w stepped),
+      )
   took v s w qs deeds status (Err e) is stepped memory so reported = inr (reported, ap (after_prints qs) memory ∙ is)

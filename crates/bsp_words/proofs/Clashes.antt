@@ -11,7 +11,8 @@ use Rattle.bsp_words.specs.CommandLine.{clash_kinds, clashes_by, program, refuse
 pub taken : (words : List (List ℕ)) → fault_of program words ≡ [] → clashes_by (subcommand_of program words) ≡ false → refused_by words ≡ []
 taken words fault clash = ap₂ or_else fault (ap clash_kinds clash)
 
-pub clashed : (words : List (List ℕ)) → fault_of program words ≡ [] → clashes_by (subcommand_of program words) ≡ true → refused_by words ≡ kinds.ArgumentConflict ∷ []
+pub clashed : (words : List (List ℕ)) → fault_of program words ≡ [] → clashes_by (subcommand_of program words) ≡ true
+    → refused_by words ≡ kinds.ArgumentConflict ∷ []
 clashed words fault clash = ap₂ or_else fault (ap clash_kinds clash)
 
 pub clash_refuses : (words : List (List ℕ)) (e : Error) → fault_of program words ≡ [] → clashes_by (subcommand_of program words) ≡ true

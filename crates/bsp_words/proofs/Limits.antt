@@ -22,7 +22,8 @@ out-of-range most usual n h = go (nat_le 1 n) (nat_le n most) refl refl
     go false b e f = refl
 
 pub number-read : {E : Type 0} (most usual : ℕ) → most ≤ 1000000 → (G : List ℕ → Result ℕ E → Type 0) (o : Option (List ℕ)) (r : Option ℕ)
-    → ((t : List ℕ) (x : Result ℕ E) → G t x → ParsesUnsigned 32 10 t x) → (o ≡ None → r ≡ None) → ((t : List ℕ) → o ≡ Some t → ReadsOne G t r)
+    → ((t : List ℕ) (x : Result ℕ E) → G t x → ParsesUnsigned 32 10 t x) → (o ≡ None → r ≡ None)
+    → ((t : List ℕ) → o ≡ Some t → ReadsOne G t r)
     → chosen most usual r ≡ number_from most usual o
 number-read {E = E} most usual below G None r only none some = ap (chosen most usual) (none refl)
 number-read {E = E} most usual below G (Some t) r only none some = read r (some t refl)

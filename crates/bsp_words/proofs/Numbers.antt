@@ -106,7 +106,8 @@ unfolding clap_on_literals
 limit-entered name d ds = refl
 
 limit-said : (d : ℕ) (ds : List ℕ) → (d == 45) ≡ false
-    → asked_by (Some (codes "run", finished run.rules (one_held (codes "limit") (d ∷ ds)))) ≡ Run 1 (number_from 1000000 1000000 (Some (d ∷ ds)))
+    → asked_by (Some (codes "run", finished run.rules (one_held (codes "limit") (d ∷ ds))))
+    ≡ Run 1 (number_from 1000000 1000000 (Some (d ∷ ds)))
 unfolding clap_on_literals
 limit-said d ds e = rw e refl
 
@@ -127,7 +128,8 @@ limit-clashes : (name : List ℕ) (d : ℕ) (ds : List ℕ) → (d == 45) ≡ fa
 unfolding clap_on_literals
 limit-clashes name d ds e = refl
 
-limit-apart : (name : List ℕ) (d : ℕ) (ds : List ℕ) → (d == 45) ≡ false → clashes_by (subcommand_of program (name ∷ codes "run" ∷ codes "--limit" ∷ (d ∷ ds) ∷ [])) ≡ false
+limit-apart : (name : List ℕ) (d : ℕ) (ds : List ℕ) → (d == 45) ≡ false
+    → clashes_by (subcommand_of program (name ∷ codes "run" ∷ codes "--limit" ∷ (d ∷ ds) ∷ [])) ≡ false
 limit-apart name d ds e =
     ap clashes_by (limit-entered name d ds)
     ∙ ap (λ (h : Held). clashes_by (Some (codes "run", finished run.rules h))) (limit-walked d ds e)
@@ -182,7 +184,8 @@ unfolding clap_on_literals
 workers-entered name d ds = refl
 
 workers-said : (d : ℕ) (ds : List ℕ) → (d == 45) ≡ false
-    → asked_by (Some (codes "run", finished run.rules (one_held (codes "workers") (d ∷ ds)))) ≡ Run (number_from 64 1 (Some (d ∷ ds))) 1000000
+    → asked_by (Some (codes "run", finished run.rules (one_held (codes "workers") (d ∷ ds))))
+    ≡ Run (number_from 64 1 (Some (d ∷ ds))) 1000000
 unfolding clap_on_literals
 workers-said d ds e = rw e refl
 
@@ -194,7 +197,8 @@ workers-asked name d ds e =
     ∙ workers-said d ds e
 
 workers-fault : (name : List ℕ) (d : ℕ) (ds : List ℕ) → (d == 45) ≡ false
-    → fault_of program (name ∷ codes "run" ∷ codes "--workers" ∷ (d ∷ ds) ∷ []) ≡ or_else (ends_by [] (one_held (codes "workers") (d ∷ ds))) []
+    → fault_of program (name ∷ codes "run" ∷ codes "--workers" ∷ (d ∷ ds) ∷ [])
+    ≡ or_else (ends_by [] (one_held (codes "workers") (d ∷ ds))) []
 unfolding clap_on_literals
 workers-fault name d ds e = ap₂ (λ (met : Kinds) (h : Held). or_else (ends_by met h) []) (workers-met d ds e) (workers-walked d ds e)
 
@@ -203,7 +207,8 @@ workers-clashes : (name : List ℕ) (d : ℕ) (ds : List ℕ) → (d == 45) ≡ 
 unfolding clap_on_literals
 workers-clashes name d ds e = refl
 
-workers-apart : (name : List ℕ) (d : ℕ) (ds : List ℕ) → (d == 45) ≡ false → clashes_by (subcommand_of program (name ∷ codes "run" ∷ codes "--workers" ∷ (d ∷ ds) ∷ [])) ≡ false
+workers-apart : (name : List ℕ) (d : ℕ) (ds : List ℕ) → (d == 45) ≡ false
+    → clashes_by (subcommand_of program (name ∷ codes "run" ∷ codes "--workers" ∷ (d ∷ ds) ∷ [])) ≡ false
 workers-apart name d ds e =
     ap clashes_by (workers-entered name d ds)
     ∙ ap (λ (h : Held). clashes_by (Some (codes "run", finished run.rules h))) (workers-walked d ds e)
@@ -282,6 +287,7 @@ pub numbers-ask : EachNumberAsks
 numbers-ask name n low = (
   λ high. subst (λ (m : ℕ). Asks (name ∷ codes "run" ∷ codes "--limit" ∷ decimal n ∷ []) (Run 1 m)) (value n low 1000000 high (omega arith))
       (limits-ask name (decimal n) (in-bounds n low 1000000 high (omega arith))),
-  λ high. subst (λ (m : ℕ). Asks (name ∷ codes "run" ∷ codes "--workers" ∷ decimal n ∷ []) (Run m 1000000)) (value n low 64 high (omega arith))
+  λ high. subst (λ (m : ℕ). Asks (name ∷ codes "run" ∷ codes "--workers" ∷ decimal n ∷ []) (Run m 1000000))
+      (value n low 64 high (omega arith))
       (workers-ask name (decimal n) (in-bounds n low 64 high (omega arith))),
 )

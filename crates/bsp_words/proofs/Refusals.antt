@@ -17,7 +17,8 @@ then-true false b e = absurd cc
 
 among : (ks : Kinds) (k : ErrorKind) → list_all is_refusal ks ≡ true → IsAmong k ks → is_refusal k ≡ true
 among [] k e h = absurd h
-among (x ∷ xs) k e (inl same) = subst (λ (y : ErrorKind). is_refusal y ≡ true) (sym same) (first-true (is_refusal x) (list_all is_refusal xs) e)
+among (x ∷ xs) k e (inl same) =
+    subst (λ (y : ErrorKind). is_refusal y ≡ true) (sym same) (first-true (is_refusal x) (list_all is_refusal xs) e)
 among (x ∷ xs) k e (inr h) = among xs k (then-true (is_refusal x) (list_all is_refusal xs) e) h
 
 no-help : (k : ErrorKind) → is_refusal k ≡ true → k ≢ kinds.DisplayHelp
@@ -27,6 +28,7 @@ no-version : (k : ErrorKind) → is_refusal k ≡ true → k ≢ kinds.DisplayVe
 no-version k e same = let bad : false ≡ true = subst (λ (y : ErrorKind). is_refusal y ≡ true) same e in cc
 
 -- words that are refused are a call neither for help nor for the version
-pub refused-kind : (ks : Kinds) (k : ErrorKind) → are_refused ks ≡ true → IsAmong k ks → (k ≢ kinds.DisplayHelp) × (k ≢ kinds.DisplayVersion)
+pub refused-kind : (ks : Kinds) (k : ErrorKind) → are_refused ks ≡ true → IsAmong k ks
+    → (k ≢ kinds.DisplayHelp) × (k ≢ kinds.DisplayVersion)
 refused-kind [] k e h = absurd h
 refused-kind (x ∷ xs) k e h = let refusal : is_refusal k ≡ true = among (x ∷ xs) k e h in (no-help k refusal, no-version k refusal)

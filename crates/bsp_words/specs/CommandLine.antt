@@ -88,14 +88,16 @@ run_app = with_rule (with_rule (with_rule (job_app (codes "run")) progress_rule)
 -- `draw`, with `--width`, `--over-time` and `--title`
 abbrev pub draw_app : App
 draw_app =
-    with_rule (with_rule (with_rule (job_app (codes "draw")) (text_rule (codes "width"))) (text_rule (codes "over-time"))) (text_rule (codes "title"))
+    with_rule (with_rule (with_rule (job_app (codes "draw")) (text_rule (codes "width"))) (text_rule (codes "over-time")))
+    (text_rule (codes "title"))
 
 -- the number of a code, a word without a dash
 abbrev pub code_rule : Rule
 code_rule = numbers_rule (codes "code") (parser.Signed (pos 1) (pos 14))
 
 abbrev pub explain_app : App
-explain_app = with_rule (with_rule (with_rule (new_app (codes "explain")) code_rule) (number_rule (codes "fault") 8)) (number_rule (codes "trace") 12)
+explain_app =
+    with_rule (with_rule (with_rule (new_app (codes "explain")) code_rule) (number_rule (codes "fault") 8)) (number_rule (codes "trace") 12)
 
 abbrev pub bare : App
 bare = new_app (codes "bsp")
@@ -131,7 +133,8 @@ limit_in rows = number_from 1000000 1000000 (one_of (codes "limit") rows)
 -- what is to be explained
 abbrev pub topic_in : List Row → Topic
 topic_in rows =
-    topic_by (number_from 14 0 (one_of (codes "code") rows)) (number_from 8 0 (one_of (codes "fault") rows)) (number_from 12 0 (one_of (codes "trace") rows))
+    topic_by (number_from 14 0 (one_of (codes "code") rows)) (number_from 8 0 (one_of (codes "fault") rows))
+    (number_from 12 0 (one_of (codes "trace") rows))
 
 -- whether a flag is given, by the text that says so
 abbrev pub is_set : Option (List ℕ) → Bool
@@ -190,7 +193,8 @@ asked_by (Some p) =
     if bytes_eq p.0 (codes "check") then check_by (flag_in (codes "all") p.1)
     else if bytes_eq p.0 (codes "upgrade") then Upgrade
     else if bytes_eq p.0 (codes "explain") then Explain (topic_in p.1)
-    else if bytes_eq p.0 (codes "run") then run_by (flag_in (codes "json") p.1) (flag_in (codes "stream") p.1) (workers_in p.1) (limit_in p.1)
+    else if bytes_eq p.0 (codes "run")
+    then run_by (flag_in (codes "json") p.1) (flag_in (codes "stream") p.1) (workers_in p.1) (limit_in p.1)
     else if bytes_eq p.0 (codes "draw") then Draw (workers_in p.1) (limit_in p.1) else Trace
 
 -- the text of the tree at which workers meet; traces, and texts that are checked or upgraded, have none
@@ -244,7 +248,8 @@ are_two code fault reported = (nat_lt 0 code && nat_lt 0 fault) || ((nat_lt 0 co
 
 abbrev pub asks_two : List Row → Bool
 asks_two rows =
-    are_two (number_from 14 0 (one_of (codes "code") rows)) (number_from 8 0 (one_of (codes "fault") rows)) (number_from 12 0 (one_of (codes "trace") rows))
+    are_two (number_from 14 0 (one_of (codes "code") rows)) (number_from 8 0 (one_of (codes "fault") rows))
+    (number_from 12 0 (one_of (codes "trace") rows))
 
 -- widths that are none, or two for one array
 abbrev pub asks_no_widths : List Row → Bool

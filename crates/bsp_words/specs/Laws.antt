@@ -41,11 +41,14 @@ pub record WordsAsk (name : List ℕ) : Type 0 where
   pub tree : AsksTree (name ∷ codes "run" ∷ codes "--tree" ∷ codes "2x3" ∷ []) (codes "2x3")
   pub progress : Asks (name ∷ codes "run" ∷ codes "--progress" ∷ codes "--limit" ∷ codes "7" ∷ []) (Run 1 7)
   pub json : Asks (name ∷ codes "run" ∷ codes "--json" ∷ []) (RunJson 1 1000000)
-  pub json_first : Asks (name ∷ codes "run" ∷ codes "--json" ∷ codes "--workers" ∷ codes "4" ∷ codes "--limit" ∷ codes "7" ∷ []) (RunJson 4 7)
-  pub json_last : Asks (name ∷ codes "run" ∷ codes "-f" ∷ codes "a" ∷ codes "--progress" ∷ codes "--limit=7" ∷ codes "--json" ∷ []) (RunJson 1 7)
+  pub json_first : Asks (name ∷ codes "run" ∷ codes "--json" ∷ codes "--workers" ∷ codes "4" ∷ codes "--limit" ∷ codes "7" ∷ [])
+      (RunJson 4 7)
+  pub json_last : Asks (name ∷ codes "run" ∷ codes "-f" ∷ codes "a" ∷ codes "--progress" ∷ codes "--limit=7" ∷ codes "--json" ∷ [])
+      (RunJson 1 7)
   pub json_tree : AsksTree (name ∷ codes "run" ∷ codes "--json" ∷ codes "--tree" ∷ codes "2x3" ∷ []) (codes "2x3")
   pub stream : Asks (name ∷ codes "run" ∷ codes "--stream" ∷ []) (RunStream 1 1000000)
-  pub stream_first : Asks (name ∷ codes "run" ∷ codes "--stream" ∷ codes "--workers" ∷ codes "4" ∷ codes "--limit" ∷ codes "7" ∷ []) (RunStream 4 7)
+  pub stream_first : Asks (name ∷ codes "run" ∷ codes "--stream" ∷ codes "--workers" ∷ codes "4" ∷ codes "--limit" ∷ codes "7" ∷ [])
+      (RunStream 4 7)
   pub stream_last : Asks (name ∷ codes "run" ∷ codes "--progress" ∷ codes "--limit=7" ∷ codes "--stream" ∷ []) (RunStream 1 7)
   pub stream_tree : AsksTree (name ∷ codes "run" ∷ codes "--stream" ∷ codes "--tree" ∷ codes "2x3" ∷ []) (codes "2x3")
   pub explain : Asks (name ∷ codes "explain" ∷ []) (Explain All)
@@ -64,7 +67,8 @@ pub record WordsNameFiles (name : List ℕ) : Type 0 where
   pub run_joined : Reads (name ∷ codes "run" ∷ codes "--file=swap.job" ∷ []) (Some (codes "swap.job"))
   pub run_attached : Reads (name ∷ codes "run" ∷ codes "-fswap.job" ∷ []) (Some (codes "swap.job"))
   pub run_hyphen : Reads (name ∷ codes "run" ∷ codes "-f" ∷ codes "-" ∷ []) None
-  pub run_among : Reads (name ∷ codes "run" ∷ codes "--limit" ∷ codes "7" ∷ codes "-f" ∷ codes "a" ∷ codes "--progress" ∷ []) (Some (codes "a"))
+  pub run_among : Reads (name ∷ codes "run" ∷ codes "--limit" ∷ codes "7" ∷ codes "-f" ∷ codes "a" ∷ codes "--progress" ∷ [])
+      (Some (codes "a"))
   pub draw : Reads (name ∷ codes "draw" ∷ codes "-f" ∷ codes "swap.job" ∷ []) (Some (codes "swap.job"))
   pub check : Reads (name ∷ codes "check" ∷ codes "-f" ∷ codes "swap.job" ∷ []) (Some (codes "swap.job"))
   pub check_all : Reads (name ∷ codes "check" ∷ codes "-f" ∷ codes "swap.job" ∷ codes "--all" ∷ []) (Some (codes "swap.job"))
@@ -85,7 +89,8 @@ pub record WordsLook (name : List ℕ) : Type 0 where
   pub over_time : Looks (name ∷ codes "draw" ∷ codes "--over-time=a,b" ∷ []) (record no_look { over_time = codes "a,b" })
   pub title : Looks (name ∷ codes "draw" ∷ codes "--title" ∷ codes "T" ∷ []) (record no_look { title = Some (codes "T") })
   pub file : Looks (name ∷ codes "draw" ∷ codes "-f" ∷ codes "a.job" ∷ []) (record no_look { title = Some (codes "a.job") })
-  pub both : Looks (name ∷ codes "draw" ∷ codes "-f" ∷ codes "a.job" ∷ codes "--title" ∷ codes "T" ∷ []) (record no_look { title = Some (codes "T") })
+  pub both : Looks (name ∷ codes "draw" ∷ codes "-f" ∷ codes "a.job" ∷ codes "--title" ∷ codes "T" ∷ [])
+      (record no_look { title = Some (codes "T") })
 
 -- words that aren't taken
 pub record WordsAreRefused (name : List ℕ) : Type 0 where

@@ -43,11 +43,13 @@ abbrev Find : List KeptEnd → List LedgerEntry → List Waiter → Type 0
 Find ends whole [] = Unit {0}
 Find ends whole (w ∷ ws) = (w.place ≤ length whole) × (end_of w.generation ends ≡ first_end (drop w.place whole)) × Find ends whole ws
 
-waiters_of-append : (g : ℕ) (ws : List Waiter) (w : Waiter) → waiters_of g (ws ++ w ∷ []) ≡ waiters_of g ws + (if w.generation == g then 1 else 0)
+waiters_of-append : (g : ℕ) (ws : List Waiter) (w : Waiter)
+    → waiters_of g (ws ++ w ∷ []) ≡ waiters_of g ws + (if w.generation == g then 1 else 0)
 waiters_of-append g [] w = omega arith
 waiters_of-append g (x ∷ xs) w = omega (arith, waiters_of-append g xs w)
 
-unread_of-append : (g : ℕ) (es : List KeptEnd) (e : KeptEnd) → unread_of g (es ++ e ∷ []) ≡ unread_of g es + (if e.generation == g then e.unread else 0)
+unread_of-append : (g : ℕ) (es : List KeptEnd) (e : KeptEnd)
+    → unread_of g (es ++ e ∷ []) ≡ unread_of g es + (if e.generation == g then e.unread else 0)
 unread_of-append g [] e = omega arith
 unread_of-append g (x ∷ xs) e = omega (arith, unread_of-append g xs e)
 
@@ -64,7 +66,8 @@ good-append [] e good is none = (is, tt)
 good-append (x ∷ xs) e good is none =
     let rest : unread_of e.generation xs ≡ 0 = omega arith in
     let apart : (e.generation == x.generation) ≡ false = let s = good.0.some in grind (arith, nat_tests) in
-    let only : unread_of x.generation (xs ++ e ∷ []) ≡ 0 = rw (unread_of-append x.generation xs e, apart) (let o = good.0.only in omega arith) in
+    let only : unread_of x.generation (xs ++ e ∷ []) ≡ 0 =
+    rw (unread_of-append x.generation xs e, apart) (let o = good.0.only in omega arith) in
     (record { some = good.0.some; end = good.0.end; only = only }, good-append xs e good.1 is rest)
 
 no_end : (g : ℕ) (es : List KeptEnd) → AreGood es → unread_of g es ≡ 0 → end_of g es ≡ GoesOn
@@ -79,7 +82,8 @@ some_unread : (g : ℕ) (es : List KeptEnd) → AreGood es → is_end_of_generat
 some_unread g [] good is = absurd cc
 some_unread g (e ∷ es) good is =
     let s = good.0.some in
-    elim (e.generation == g) as (λ b. is_end_of_generation (if b then e.outcome else end_of g es) ≡ true → 0 < (if b then e.unread else 0) + unread_of g es) [
+    elim (e.generation == g) as
+    (λ b. is_end_of_generation (if b then e.outcome else end_of g es) ≡ true → 0 < (if b then e.unread else 0) + unread_of g es) [
       | true ↦ λ h. omega arith
       | false ↦ λ h. let rest = some_unread g es good.1 h in omega (arith, rest)
     ] is
@@ -94,10 +98,14 @@ end_or-goes GoesOn = refl
 end_or-goes Tripped = refl
 end_or-goes Broken = refl
 
-end_of-append : (g : ℕ) (es : List KeptEnd) (e : KeptEnd) → AreGood es → end_of g (es ++ e ∷ []) ≡ end_or (end_of g es) (if e.generation == g then e.outcome else GoesOn)
-end_of-append g [] e good = elim (e.generation == g) as (λ b. (if b then e.outcome else GoesOn) ≡ (if b then e.outcome else GoesOn)) [ true ↦ refl | false ↦ refl ]
+end_of-append : (g : ℕ) (es : List KeptEnd) (e : KeptEnd) → AreGood es
+    → end_of g (es ++ e ∷ []) ≡ end_or (end_of g es) (if e.generation == g then e.outcome else GoesOn)
+end_of-append g [] e good =
+    elim (e.generation == g) as (λ b. (if b then e.outcome else GoesOn) ≡ (if b then e.outcome else GoesOn)) [ true ↦ refl | false ↦ refl ]
 end_of-append g (x ∷ xs) e good =
-    elim (x.generation == g) as (λ b. (if b then x.outcome else end_of g (xs ++ e ∷ [])) ≡ end_or (if b then x.outcome else end_of g xs) (if e.generation == g then e.outcome else GoesOn)) [
+    elim (x.generation == g) as
+    (λ b. (if b then x.outcome else end_of g (xs ++ e ∷ []))
+    ≡ end_or (if b then x.outcome else end_of g xs) (if e.generation == g then e.outcome else GoesOn)) [
       | true ↦ sym (end_or-left x.outcome _ good.0.end)
       | false ↦ end_of-append g xs e good.1
     ]
@@ -123,22 +131,27 @@ find_more ends ends' whole n [] found new = tt
 find_more ends ends' whole n (w ∷ ws) found new =
     let here : 0 < waiters_of w.generation (w ∷ ws) = grind (arith, nat_tests) in (
       simp length-append (let p = found.0 in omega arith),
-      new w.generation here ∙ (ap (λ (o : Outcome). end_or o n.outcome) found.1 ∙ (sym (first_end-append (drop w.place whole) n) ∙ ap first_end (sym (drop-more w.place whole n found.0)))),
+      new w.generation here
+          ∙ (ap (λ (o : Outcome). end_or o n.outcome) found.1
+          ∙ (sym (first_end-append (drop w.place whole) n) ∙ ap first_end (sym (drop-more w.place whole n found.0)))),
       find_more ends ends' whole n ws found.2 (λ g some. new g (omega arith)),
     )
 
 -- the same history, and other ends
-find_same : (ends ends' : List KeptEnd) (whole : List LedgerEntry) (ws : List Waiter) → Find ends whole ws → ((g : ℕ) → 0 < waiters_of g ws → end_of g ends' ≡ end_of g ends) → Find ends' whole ws
+find_same : (ends ends' : List KeptEnd) (whole : List LedgerEntry) (ws : List Waiter) → Find ends whole ws
+    → ((g : ℕ) → 0 < waiters_of g ws → end_of g ends' ≡ end_of g ends) → Find ends' whole ws
 find_same ends ends' whole [] found new = tt
 find_same ends ends' whole (w ∷ ws) found new =
     let here : 0 < waiters_of w.generation (w ∷ ws) = grind (arith, nat_tests) in
     (found.0, new w.generation here ∙ found.1, find_same ends ends' whole ws found.2 (λ g some. new g (omega arith)))
 
-find-append : (ends : List KeptEnd) (whole : List LedgerEntry) (ws : List Waiter) (w : Waiter) → Find ends whole ws → w.place ≤ length whole → end_of w.generation ends ≡ first_end (drop w.place whole) → Find ends whole (ws ++ w ∷ [])
+find-append : (ends : List KeptEnd) (whole : List LedgerEntry) (ws : List Waiter) (w : Waiter) → Find ends whole ws → w.place ≤ length whole
+    → end_of w.generation ends ≡ first_end (drop w.place whole) → Find ends whole (ws ++ w ∷ [])
 find-append ends whole [] w found in' is = (in', is, tt)
 find-append ends whole (x ∷ xs) w found in' is = (found.0, found.1, find-append ends whole xs w found.2 in' is)
 
-find-without : (ends : List KeptEnd) (whole : List LedgerEntry) (n : ℕ) (ws : List Waiter) → Find ends whole ws → Find ends whole (without n ws)
+find-without : (ends : List KeptEnd) (whole : List LedgerEntry) (n : ℕ) (ws : List Waiter) → Find ends whole ws
+    → Find ends whole (without n ws)
 find-without ends whole n [] found = tt
 find-without ends whole zero (w ∷ ws) found = found.2
 find-without ends whole (suc n) (w ∷ ws) found = (found.0, found.1, find-without ends whole n ws found.2)
@@ -147,7 +160,8 @@ abbrev index_waiter : Option Waiter → Waiter → Waiter
 index_waiter None d = d
 index_waiter (Some w) d = w
 
-waiters_of-without : (g n : ℕ) (ws : List Waiter) (w : Waiter) → waiter_at n ws ≡ Some w → waiters_of g (without n ws) + (if w.generation == g then 1 else 0) ≡ waiters_of g ws
+waiters_of-without : (g n : ℕ) (ws : List Waiter) (w : Waiter) → waiter_at n ws ≡ Some w
+    → waiters_of g (without n ws) + (if w.generation == g then 1 else 0) ≡ waiters_of g ws
 waiters_of-without g n [] w is = absurd cc
 waiters_of-without g zero (x ∷ ws) w is =
     let same : x ≡ w = ap (λ o. index_waiter o w) is in rw (sym same) (omega arith)
@@ -159,19 +173,30 @@ length-without zero (x ∷ ws) w is = omega arith
 length-without (suc n) (x ∷ ws) w is = omega (arith, length-without n ws w is)
 
 -- reading
-read_one : (g y : ℕ) (es : List KeptEnd) → AreGood es → 0 < unread_of y es → unread_of g (read_by y es) + (if y == g then 1 else 0) ≡ unread_of g es
+read_one : (g y : ℕ) (es : List KeptEnd) → AreGood es → 0 < unread_of y es
+    → unread_of g (read_by y es) + (if y == g then 1 else 0) ≡ unread_of g es
 read_one g y [] good some = absurd (omega arith)
 read_one g y (e ∷ es) good some =
-    elim (e.generation == y) as (λ b. (e.generation == y) ≡ b → unread_of g (if b then (if nat_lt 1 e.unread then kept_end e.generation e.outcome (e.unread - 1) ∷ es else es) else e ∷ read_by y es) + (if y == g then 1 else 0) ≡ unread_of g (e ∷ es)) [
+    elim (e.generation == y) as
+    (λ b. (e.generation == y) ≡ b
+    → unread_of g
+    (if b then (if nat_lt 1 e.unread then kept_end e.generation e.outcome (e.unread - 1) ∷ es else es) else e ∷ read_by y es)
+    + (if y == g then 1 else 0)
+    ≡ unread_of g (e ∷ es)) [
       | true ↦ λ h. mine h
       | false ↦ λ h. let k = rw h at some in let rest : 0 < unread_of y es = omega (arith, k) in omega (arith, read_one g y es good.1 rest)
     ] refl
   where
-    mine : (e.generation == y) ≡ true → unread_of g (if nat_lt 1 e.unread then kept_end e.generation e.outcome (e.unread - 1) ∷ es else es) + (if y == g then 1 else 0) ≡ (if e.generation == g then e.unread else 0) + unread_of g es
+    mine : (e.generation == y) ≡ true
+        → unread_of g (if nat_lt 1 e.unread then kept_end e.generation e.outcome (e.unread - 1) ∷ es else es) + (if y == g then 1 else 0)
+        ≡ (if e.generation == g then e.unread else 0) + unread_of g es
     mine h =
         let same : e.generation ≡ y = grind (arith, nat_tests) in
         let s = good.0.some in
-        elim (nat_lt 1 e.unread) as (λ b. nat_lt 1 e.unread ≡ b → unread_of g (if b then kept_end e.generation e.outcome (e.unread - 1) ∷ es else es) + (if y == g then 1 else 0) ≡ (if e.generation == g then e.unread else 0) + unread_of g es) [
+        elim (nat_lt 1 e.unread) as
+        (λ b. nat_lt 1 e.unread ≡ b
+        → unread_of g (if b then kept_end e.generation e.outcome (e.unread - 1) ∷ es else es) + (if y == g then 1 else 0)
+        ≡ (if e.generation == g then e.unread else 0) + unread_of g es) [
           | true ↦ λ k. rw (sym same) (grind (arith, nat_tests))
           | false ↦ λ k. rw (sym same) (grind (arith, nat_tests))
         ] refl
@@ -180,7 +205,11 @@ read_total : (y : ℕ) (es : List KeptEnd) → AreGood es → 0 < unread_of y es
 read_total y [] good some = absurd (omega arith)
 read_total y (e ∷ es) good some =
     let s = good.0.some in
-    elim (e.generation == y) as (λ b. (e.generation == y) ≡ b → total (if b then (if nat_lt 1 e.unread then kept_end e.generation e.outcome (e.unread - 1) ∷ es else es) else e ∷ read_by y es) + 1 ≡ e.unread + total es) [
+    elim (e.generation == y) as
+    (λ b. (e.generation == y) ≡ b
+    → total (if b then (if nat_lt 1 e.unread then kept_end e.generation e.outcome (e.unread - 1) ∷ es else es) else e ∷ read_by y es)
+    + 1
+    ≡ e.unread + total es) [
       | true ↦ λ h. grind (arith, nat_tests)
       | false ↦ λ h. let k = rw h at some in let rest : 0 < unread_of y es = omega (arith, k) in omega (arith, read_total y es good.1 rest)
     ] refl
@@ -190,7 +219,9 @@ read_fewer g y [] none = refl
 read_fewer g y (e ∷ es) none =
     let rest : unread_of g es ≡ 0 = omega arith in
     let head : (if e.generation == g then e.unread else 0) ≡ 0 = omega arith in
-    elim (e.generation == y) as (λ b. unread_of g (if b then (if nat_lt 1 e.unread then kept_end e.generation e.outcome (e.unread - 1) ∷ es else es) else e ∷ read_by y es) ≡ 0) [
+    elim (e.generation == y) as
+    (λ b. unread_of g (if b then (if nat_lt 1 e.unread then kept_end e.generation e.outcome (e.unread - 1) ∷ es else es) else e ∷ read_by y es)
+    ≡ 0) [
       | true ↦ elim (nat_lt 1 e.unread) as (λ b. unread_of g (if b then kept_end e.generation e.outcome (e.unread - 1) ∷ es else es) ≡ 0) [
         | true ↦ grind (arith, nat_tests)
         | false ↦ rest
@@ -201,20 +232,28 @@ read_fewer g y (e ∷ es) none =
 read_good : (y : ℕ) (es : List KeptEnd) → AreGood es → AreGood (read_by y es)
 read_good y [] good = tt
 read_good y (e ∷ es) good =
-    elim (e.generation == y) as (λ b. AreGood (if b then (if nat_lt 1 e.unread then kept_end e.generation e.outcome (e.unread - 1) ∷ es else es) else e ∷ read_by y es)) [
-      | true ↦ elim (nat_lt 1 e.unread) as (λ b. nat_lt 1 e.unread ≡ b → AreGood (if b then kept_end e.generation e.outcome (e.unread - 1) ∷ es else es)) [
-        | true ↦ λ k. let more : 1 < e.unread = grind (arith, nat_tests) in (record { some = omega arith; end = good.0.end; only = good.0.only }, good.1)
-        | false ↦ λ k. good.1
-      ] refl
+    elim (e.generation == y) as
+    (λ b. AreGood (if b then (if nat_lt 1 e.unread then kept_end e.generation e.outcome (e.unread - 1) ∷ es else es) else e ∷ read_by y es)) [
+      | true ↦ elim (nat_lt 1 e.unread) as
+          (λ b. nat_lt 1 e.unread ≡ b → AreGood (if b then kept_end e.generation e.outcome (e.unread - 1) ∷ es else es)) [
+            | true ↦ λ k. let more : 1 < e.unread = grind (arith, nat_tests) in
+                (record { some = omega arith; end = good.0.end; only = good.0.only }, good.1)
+            | false ↦ λ k. good.1
+          ] refl
       | false ↦ (record { some = good.0.some; end = good.0.end; only = read_fewer e.generation y es good.0.only }, read_good y es good.1)
     ]
 
 read_other : (g y : ℕ) (es : List KeptEnd) → (y == g) ≡ false → end_of g (read_by y es) ≡ end_of g es
 read_other g y [] apart = refl
 read_other g y (e ∷ es) apart =
-    elim (e.generation == y) as (λ b. (e.generation == y) ≡ b → end_of g (if b then (if nat_lt 1 e.unread then kept_end e.generation e.outcome (e.unread - 1) ∷ es else es) else e ∷ read_by y es) ≡ (if e.generation == g then e.outcome else end_of g es)) [
+    elim (e.generation == y) as
+    (λ b. (e.generation == y) ≡ b
+    → end_of g (if b then (if nat_lt 1 e.unread then kept_end e.generation e.outcome (e.unread - 1) ∷ es else es) else e ∷ read_by y es)
+    ≡ (if e.generation == g then e.outcome else end_of g es)) [
       | true ↦ λ h. let no : (e.generation == g) ≡ false = grind (arith, nat_tests) in
-          elim (nat_lt 1 e.unread) as (λ b. end_of g (if b then kept_end e.generation e.outcome (e.unread - 1) ∷ es else es) ≡ (if e.generation == g then e.outcome else end_of g es)) [
+          elim (nat_lt 1 e.unread) as
+          (λ b. end_of g (if b then kept_end e.generation e.outcome (e.unread - 1) ∷ es else es)
+          ≡ (if e.generation == g then e.outcome else end_of g es)) [
             | true ↦ refl
             | false ↦ rw no refl
           ]
@@ -224,19 +263,29 @@ read_other g y (e ∷ es) apart =
 read_same : (y : ℕ) (es : List KeptEnd) → AreGood es → 0 < unread_of y (read_by y es) → end_of y (read_by y es) ≡ end_of y es
 read_same y [] good some = refl
 read_same y (e ∷ es) good some =
-    elim (e.generation == y) as (λ b. (e.generation == y) ≡ b → 0 < unread_of y (if b then (if nat_lt 1 e.unread then kept_end e.generation e.outcome (e.unread - 1) ∷ es else es) else e ∷ read_by y es)
-    → end_of y (if b then (if nat_lt 1 e.unread then kept_end e.generation e.outcome (e.unread - 1) ∷ es else es) else e ∷ read_by y es) ≡ (if b then e.outcome else end_of y es)) [
+    elim (e.generation == y) as
+    (λ b. (e.generation == y) ≡ b
+    → 0
+    < unread_of y
+    (if b then (if nat_lt 1 e.unread then kept_end e.generation e.outcome (e.unread - 1) ∷ es else es) else e ∷ read_by y es)
+    → end_of y (if b then (if nat_lt 1 e.unread then kept_end e.generation e.outcome (e.unread - 1) ∷ es else es) else e ∷ read_by y es)
+    ≡ (if b then e.outcome else end_of y es)) [
       | true ↦ λ h. let same : e.generation ≡ y = grind (arith, nat_tests) in
           let none : unread_of y es ≡ 0 = subst (λ (n : ℕ). unread_of n es ≡ 0) same good.0.only in
-          elim (nat_lt 1 e.unread) as (λ b. 0 < unread_of y (if b then kept_end e.generation e.outcome (e.unread - 1) ∷ es else es) → end_of y (if b then kept_end e.generation e.outcome (e.unread - 1) ∷ es else es) ≡ e.outcome) [
+          elim (nat_lt 1 e.unread) as
+          (λ b. 0 < unread_of y (if b then kept_end e.generation e.outcome (e.unread - 1) ∷ es else es)
+          → end_of y (if b then kept_end e.generation e.outcome (e.unread - 1) ∷ es else es) ≡ e.outcome) [
             | true ↦ λ k. rw h refl
             | false ↦ λ k. absurd (omega (arith, none, k))
           ]
-      | false ↦ λ h k. let k' = rw h at k in let rest : 0 < unread_of y (read_by y es) = omega (arith, k') in rw h (read_same y es good.1 rest)
+      | false ↦ λ h k. let k' = rw h at k in
+          let rest : 0 < unread_of y (read_by y es) = omega (arith, k') in
+          rw h (read_same y es good.1 rest)
     ] refl some
 
 -- what is kept of a run
-record Kept (parties : ℕ) (fails : Option ℕ) (m : Machine) (ends : List KeptEnd) (whole : List LedgerEntry) (unread : List Waiter) : Type 0 where
+record Kept (parties : ℕ) (fails : Option ℕ) (m : Machine) (ends : List KeptEnd) (whole : List LedgerEntry)
+    (unread : List Waiter) : Type 0 where
   pub right : AreRight fails whole (fresh parties)
   pub barrier : after_all fails (calls_of whole) (fresh parties) ≡ m
   pub good : AreGood ends
@@ -247,7 +296,8 @@ record Kept (parties : ℕ) (fails : Option ℕ) (m : Machine) (ends : List Kept
 
 -- what a call does to the barrier, by its answer
 abbrev Did : Call → Book → Machine → Answer → Type 0
-Did call b m' (Waiting i) = (m'.generation ≡ b.barrier.generation) × (length m'.waiting ≡ length b.barrier.waiting + 1) × (is_made call b ≡ is_free b)
+Did call b m' (Waiting i) =
+    (m'.generation ≡ b.barrier.generation) × (length m'.waiting ≡ length b.barrier.waiting + 1) × (is_made call b ≡ is_free b)
 Did call b m' (Trips all) = m'.waiting ≡ []
 Did call b m' (Fails callers) = m'.waiting ≡ []
 Did call b m' (Breaks callers) = m'.waiting ≡ []
@@ -255,8 +305,10 @@ Did call b m' IsBroken = m' ≡ b.barrier
 Did call b m' Already = m' ≡ b.barrier
 Did call b m' Absent = m' ≡ b.barrier
 
-await_did : (fails : Option ℕ) (c p g : ℕ) (ws : List ℕ) (ends : List KeptEnd) (b b2 b3 b4 : Bool) → is_in c ws ≡ b2 → (length ws + 1 == p) ≡ b3 → fails_at fails g ≡ b4
-    → Did (Await c) (book fails (machine p g ws b) ends) (after fails (Await c) (machine p g ws b)) (answer fails (Await c) (machine p g ws b))
+await_did : (fails : Option ℕ) (c p g : ℕ) (ws : List ℕ) (ends : List KeptEnd) (b b2 b3 b4 : Bool) → is_in c ws ≡ b2
+    → (length ws + 1 == p) ≡ b3 → fails_at fails g ≡ b4
+    → Did (Await c) (book fails (machine p g ws b) ends) (after fails (Await c) (machine p g ws b))
+    (answer fails (Await c) (machine p g ws b))
 await_did fails c p g ws ends true b2 b3 b4 e2 e3 e4 = refl
 await_did fails c p g ws ends false true b3 b4 e2 e3 e4 = rw e2 refl
 await_did fails c p g ws ends false false true true e2 e3 e4 = rw (e2, e3, e4) refl
@@ -266,24 +318,32 @@ await_did fails c p g ws ends false false false b4 e2 e3 e4 = rw (e2, e3) (refl,
 did : (call : Call) (b : Book) → Did call b (after b.fails call b.barrier) (answer b.fails call b.barrier)
 did (Await c) b = await_did b.fails c b.barrier.parties b.barrier.generation b.barrier.waiting b.ends b.barrier.broken _ _ _ refl refl refl
 did (Abandon c) b =
-    elim (is_in c b.barrier.waiting) as (λ x. Did (Abandon c) b (if x then broken_off b.barrier else b.barrier) (if x then Breaks (others c b.barrier.waiting) else Absent)) [ true ↦ refl | false ↦ refl ]
+    elim (is_in c b.barrier.waiting) as
+    (λ x. Did (Abandon c) b (if x then broken_off b.barrier else b.barrier) (if x then Breaks (others c b.barrier.waiting) else Absent))
+    [ true ↦ refl | false ↦ refl ]
 did BreakOff b = refl
 did Reset b = refl
 
-replayed-append : (fails : Option ℕ) (ns : List LedgerEntry) (n : LedgerEntry) (m : Machine) → after_all fails (calls_of (ns ++ n ∷ [])) m ≡ after fails n.call (after_all fails (calls_of ns) m)
+replayed-append : (fails : Option ℕ) (ns : List LedgerEntry) (n : LedgerEntry) (m : Machine)
+    → after_all fails (calls_of (ns ++ n ∷ [])) m ≡ after fails n.call (after_all fails (calls_of ns) m)
 replayed-append fails [] n m = refl
 replayed-append fails (x ∷ xs) n m = replayed-append fails xs n (after fails x.call m)
 
-right-append : (fails : Option ℕ) (ns : List LedgerEntry) (n : LedgerEntry) (m : Machine) → AreRight fails ns m → n.outcome ≡ outcome_of (answer fails n.call (after_all fails (calls_of ns) m)) → AreRight fails (ns ++ n ∷ []) m
+right-append : (fails : Option ℕ) (ns : List LedgerEntry) (n : LedgerEntry) (m : Machine) → AreRight fails ns m
+    → n.outcome ≡ outcome_of (answer fails n.call (after_all fails (calls_of ns) m)) → AreRight fails (ns ++ n ∷ []) m
 right-append fails [] n m right here = (here, tt)
 right-append fails (x ∷ xs) n m right here = (right.0, right-append fails xs n (after fails x.call m) right.1 here)
 
 -- if a generation has no end, an arrival may be the first of it
-no_end_kept : (b : Book) → AreGood b.ends → is_free b ≡ true → (0 < length b.barrier.waiting → unread_of b.barrier.generation b.ends ≡ 0) → end_of b.barrier.generation b.ends ≡ GoesOn
+no_end_kept : (b : Book) → AreGood b.ends → is_free b ≡ true → (0 < length b.barrier.waiting → unread_of b.barrier.generation b.ends ≡ 0)
+    → end_of b.barrier.generation b.ends ≡ GoesOn
 no_end_kept b good free alone =
-    elim (length b.barrier.waiting == 0) as (λ x. (length b.barrier.waiting == 0) ≡ x → (not x || not (is_end_of_generation (end_of b.barrier.generation b.ends))) ≡ true → end_of b.barrier.generation b.ends ≡ GoesOn) [
+    elim (length b.barrier.waiting == 0) as
+    (λ x. (length b.barrier.waiting == 0) ≡ x → (not x || not (is_end_of_generation (end_of b.barrier.generation b.ends))) ≡ true
+    → end_of b.barrier.generation b.ends ≡ GoesOn) [
       | true ↦ λ h k. goes (end_of b.barrier.generation b.ends) k
-      | false ↦ λ h k. let some : 0 < length b.barrier.waiting = grind (arith, nat_tests) in no_end b.barrier.generation b.ends good (alone some)
+      | false ↦ λ h k. let some : 0 < length b.barrier.waiting = grind (arith, nat_tests) in
+          no_end b.barrier.generation b.ends good (alone some)
     ] refl free
   where
     goes : (o : Outcome) → not (is_end_of_generation o) ≡ true → o ≡ GoesOn
@@ -300,9 +360,11 @@ not_ended g (e ∷ es) good is =
     ] is
 
 -- a caller that waits
-waited : (parties : ℕ) (call : Call) (b : Book) (whole : List LedgerEntry) (unread : List Waiter) (i : ℕ) → answer b.fails call b.barrier ≡ Waiting i → Did call b (after b.fails call b.barrier) (Waiting i) → is_made call b ≡ true
+waited : (parties : ℕ) (call : Call) (b : Book) (whole : List LedgerEntry) (unread : List Waiter) (i : ℕ)
+    → answer b.fails call b.barrier ≡ Waiting i → Did call b (after b.fails call b.barrier) (Waiting i) → is_made call b ≡ true
     → Kept parties b.fails b.barrier b.ends whole unread
-    → Kept parties b.fails (after b.fails call b.barrier) b.ends (whole ++ ledger_entry call (Waiting i) ∷ []) (unread ++ waiter b.barrier.generation (length whole + 1) ∷ [])
+    → Kept parties b.fails (after b.fails call b.barrier) b.ends (whole ++ ledger_entry call (Waiting i) ∷ [])
+    (unread ++ waiter b.barrier.generation (length whole + 1) ∷ [])
 waited parties call b whole unread i is what made was =
     let m = b.barrier in
     let n = ledger_entry call (Waiting i) in
@@ -312,12 +374,23 @@ waited parties call b whole unread i is what made was =
     let len : length (whole ++ n ∷ []) ≡ length whole + 1 = length-append whole (n ∷ []) in
     let behind : drop (length whole + 1) (whole ++ n ∷ []) ≡ [] = drop-all (length whole + 1) (whole ++ n ∷ []) (omega (arith, len)) in
     record {
-      right = right-append b.fails whole n (fresh parties) was.right (sym (ap (λ (x : Machine). outcome_of (answer b.fails call x)) was.barrier ∙ ap outcome_of is));
+      right =
+          right-append b.fails whole n (fresh parties) was.right
+          (sym (ap (λ (x : Machine). outcome_of (answer b.fails call x)) was.barrier ∙ ap outcome_of is));
       barrier = replayed-append b.fails whole n (fresh parties) ∙ ap (after b.fails call) was.barrier;
       good = was.good;
-      counts = λ g. rw (waiters_of-append g unread w, what.0, what.1) (let c = was.counts g in elim (m.generation == g) as (λ x. waiters_of g unread ≡ unread_of g b.ends + (if x then length m.waiting else 0) → waiters_of g unread + (if x then 1 else 0) ≡ unread_of g b.ends + (if x then length m.waiting + 1 else 0)) [ true ↦ λ k. omega (arith, k) | false ↦ λ k. omega (arith, k) ] c);
+      counts =
+          λ g. rw (waiters_of-append g unread w, what.0, what.1)
+          (let c = was.counts g in
+          elim (m.generation == g) as
+          (λ x. waiters_of g unread ≡ unread_of g b.ends + (if x then length m.waiting else 0)
+          → waiters_of g unread + (if x then 1 else 0) ≡ unread_of g b.ends + (if x then length m.waiting + 1 else 0))
+          [ true ↦ λ k. omega (arith, k) | false ↦ λ k. omega (arith, k) ] c);
       alone = λ some. rw what.0 (not_ended m.generation b.ends was.good none);
-      found = find-append b.ends (whole ++ n ∷ []) unread w (find_more b.ends b.ends whole n unread was.found (λ g some. sym (end_or-goes (end_of g b.ends)))) (omega (arith, len)) (none ∙ ap first_end (sym behind));
+      found =
+          find-append b.ends (whole ++ n ∷ []) unread w
+          (find_more b.ends b.ends whole n unread was.found (λ g some. sym (end_or-goes (end_of g b.ends)))) (omega (arith, len))
+          (none ∙ ap first_end (sym behind));
       total = rw (length-append unread (w ∷ []), what.1) (let t = was.total in omega (arith, t));
     }
   where
@@ -328,15 +401,25 @@ waited parties call b whole unread i is what made was =
     drop-all (suc i) (x ∷ xs) in' = drop-all i xs (omega arith)
 
 -- a call that ends a generation
-ended : (parties : ℕ) (call : Call) (b : Book) (whole : List LedgerEntry) (unread : List Waiter) (a : Answer) → answer b.fails call b.barrier ≡ a → (after b.fails call b.barrier).waiting ≡ [] → is_end_of_generation (outcome_of a) ≡ true
+ended : (parties : ℕ) (call : Call) (b : Book) (whole : List LedgerEntry) (unread : List Waiter) (a : Answer)
+    → answer b.fails call b.barrier ≡ a → (after b.fails call b.barrier).waiting ≡ [] → is_end_of_generation (outcome_of a) ≡ true
     → Kept parties b.fails b.barrier b.ends whole unread
-    → Kept parties b.fails (after b.fails call b.barrier) (kept_after b.barrier.generation (outcome_of a) (length b.barrier.waiting) b.ends) (whole ++ ledger_entry call a ∷ []) unread
+    → Kept parties b.fails (after b.fails call b.barrier) (kept_after b.barrier.generation (outcome_of a) (length b.barrier.waiting) b.ends)
+    (whole ++ ledger_entry call a ∷ []) unread
 ended parties call b whole unread a is nobody ends was =
     let m = b.barrier in
     let n = ledger_entry call a in
-    let here : after_all b.fails (calls_of (whole ++ n ∷ [])) (fresh parties) ≡ after b.fails call m = replayed-append b.fails whole n (fresh parties) ∙ ap (after b.fails call) was.barrier in
-    let right' : AreRight b.fails (whole ++ n ∷ []) (fresh parties) = right-append b.fails whole n (fresh parties) was.right (sym (ap (λ (x : Machine). outcome_of (answer b.fails call x)) was.barrier ∙ ap outcome_of is)) in
-    elim (length m.waiting == 0) as (λ x. (length m.waiting == 0) ≡ x → Kept parties b.fails (after b.fails call m) (if is_end_of_generation (outcome_of a) && not x then b.ends ++ kept_end m.generation (outcome_of a) (length m.waiting) ∷ [] else b.ends) (whole ++ n ∷ []) unread) [
+    let here : after_all b.fails (calls_of (whole ++ n ∷ [])) (fresh parties) ≡ after b.fails call m =
+    replayed-append b.fails whole n (fresh parties) ∙ ap (after b.fails call) was.barrier in
+    let right' : AreRight b.fails (whole ++ n ∷ []) (fresh parties) =
+    right-append b.fails whole n (fresh parties) was.right
+    (sym (ap (λ (x : Machine). outcome_of (answer b.fails call x)) was.barrier ∙ ap outcome_of is)) in
+    elim (length m.waiting == 0) as
+    (λ x. (length m.waiting == 0) ≡ x
+    → Kept parties b.fails (after b.fails call m)
+    (if is_end_of_generation (outcome_of a) && not x then b.ends ++ kept_end m.generation (outcome_of a) (length m.waiting) ∷ []
+    else b.ends)
+    (whole ++ n ∷ []) unread) [
       | true ↦ λ h. let empty : length m.waiting ≡ 0 = grind (arith, nat_tests) in rw ends (record {
         right = right';
         barrier = here;
@@ -345,23 +428,35 @@ ended parties call b whole unread a is nobody ends was =
         alone = λ some. absurd (let none : length (after b.fails call m).waiting ≡ 0 = ap length nobody in omega (arith, none, some));
         found = find_more b.ends b.ends whole n unread was.found (λ g some.
             let c = was.counts g in
-            let c' : waiters_of g unread ≡ unread_of g b.ends = (rw empty at c) ∙ sym (zero_more (unread_of g b.ends) (m.generation == g)) in
+            let c' : waiters_of g unread ≡ unread_of g b.ends =
+            (rw empty at c) ∙ sym (zero_more (unread_of g b.ends) (m.generation == g)) in
             sym (end_or-left (end_of g b.ends) (outcome_of a) (has_end g b.ends was.good (omega (arith, c', some)))));
         total = rw nobody (let t = was.total in omega (arith, t, empty));
       })
       | false ↦ λ h. let some : 0 < length m.waiting = grind (arith, nat_tests) in rw ends (record {
         right = right';
         barrier = here;
-        good = good-append b.ends (kept_end m.generation (outcome_of a) (length m.waiting)) was.good (record { some = some; end = ends; only = refl }) (was.alone some);
-        counts = λ g. rw (nobody, unread_of-append g b.ends (kept_end m.generation (outcome_of a) (length m.waiting))) (let c = was.counts g in c ∙ zero_more (unread_of g b.ends + (if m.generation == g then length m.waiting else 0)) ((after b.fails call m).generation == g));
+        good =
+            good-append b.ends (kept_end m.generation (outcome_of a) (length m.waiting)) was.good
+            (record { some = some; end = ends; only = refl }) (was.alone some);
+        counts =
+            λ g. rw (nobody, unread_of-append g b.ends (kept_end m.generation (outcome_of a) (length m.waiting)))
+            (let c = was.counts g in
+            c
+            ∙ zero_more (unread_of g b.ends + (if m.generation == g then length m.waiting else 0))
+            ((after b.fails call m).generation == g));
         alone = λ more. absurd (let none : length (after b.fails call m).waiting ≡ 0 = ap length nobody in omega (arith, none, more));
-        found = find_more b.ends (b.ends ++ kept_end m.generation (outcome_of a) (length m.waiting) ∷ []) whole n unread was.found (λ g more.
+        found =
+            find_more b.ends (b.ends ++ kept_end m.generation (outcome_of a) (length m.waiting) ∷ []) whole n unread was.found (λ g more.
             end_of-append g b.ends (kept_end m.generation (outcome_of a) (length m.waiting)) was.good ∙ its g more);
-        total = rw (nobody, total-append b.ends (kept_end m.generation (outcome_of a) (length m.waiting))) (let t = was.total in omega (arith, t));
+        total =
+            rw (nobody, total-append b.ends (kept_end m.generation (outcome_of a) (length m.waiting)))
+            (let t = was.total in omega (arith, t));
       })
     ] refl
   where
-    same_zero : (g : ℕ) (es : List KeptEnd) (x y : ℕ) → unread_of g es + (if x == g then 0 else 0) ≡ unread_of g es + (if y == g then 0 else 0)
+    same_zero : (g : ℕ) (es : List KeptEnd) (x y : ℕ)
+        → unread_of g es + (if x == g then 0 else 0) ≡ unread_of g es + (if y == g then 0 else 0)
     same_zero g es x y = grind (arith, nat_tests)
 
     zero_more : (k : ℕ) (x : Bool) → k ≡ k + (if x then 0 else 0)
@@ -371,23 +466,30 @@ ended parties call b whole unread a is nobody ends was =
     has_end : (g : ℕ) (es : List KeptEnd) → AreGood es → 0 < unread_of g es → is_end_of_generation (end_of g es) ≡ true
     has_end g [] good some = absurd (omega arith)
     has_end g (e ∷ es) good some =
-        elim (e.generation == g) as (λ x. 0 < (if x then e.unread else 0) + unread_of g es → is_end_of_generation (if x then e.outcome else end_of g es) ≡ true) [
+        elim (e.generation == g) as
+        (λ x. 0 < (if x then e.unread else 0) + unread_of g es → is_end_of_generation (if x then e.outcome else end_of g es) ≡ true) [
           | true ↦ λ k. good.0.end
           | false ↦ λ k. has_end g es good.1 (omega (arith, k))
         ] some
 
-    its : (g : ℕ) → 0 < waiters_of g unread → end_or (end_of g b.ends) (if b.barrier.generation == g then outcome_of a else GoesOn) ≡ end_or (end_of g b.ends) (outcome_of a)
+    its : (g : ℕ) → 0 < waiters_of g unread
+        → end_or (end_of g b.ends) (if b.barrier.generation == g then outcome_of a else GoesOn) ≡ end_or (end_of g b.ends) (outcome_of a)
     its g more =
         let c = was.counts g in
-        elim (b.barrier.generation == g) as (λ x. waiters_of g unread ≡ unread_of g b.ends + (if x then length b.barrier.waiting else 0) → end_or (end_of g b.ends) (if x then outcome_of a else GoesOn) ≡ end_or (end_of g b.ends) (outcome_of a)) [
+        elim (b.barrier.generation == g) as
+        (λ x. waiters_of g unread ≡ unread_of g b.ends + (if x then length b.barrier.waiting else 0)
+        → end_or (end_of g b.ends) (if x then outcome_of a else GoesOn) ≡ end_or (end_of g b.ends) (outcome_of a)) [
           | true ↦ λ k. refl
-          | false ↦ λ k. let is' = has_end g b.ends was.good (omega (arith, k, more)) in end_or-left (end_of g b.ends) GoesOn is' ∙ sym (end_or-left (end_of g b.ends) (outcome_of a) is')
+          | false ↦ λ k. let is' = has_end g b.ends was.good (omega (arith, k, more)) in
+              end_or-left (end_of g b.ends) GoesOn is' ∙ sym (end_or-left (end_of g b.ends) (outcome_of a) is')
         ] c
 
 -- a call, by its answer
-called : (parties : ℕ) (call : Call) (b : Book) (whole : List LedgerEntry) (unread : List Waiter) (a : Answer) → answer b.fails call b.barrier ≡ a → Did call b (after b.fails call b.barrier) a → is_made call b ≡ true
+called : (parties : ℕ) (call : Call) (b : Book) (whole : List LedgerEntry) (unread : List Waiter) (a : Answer)
+    → answer b.fails call b.barrier ≡ a → Did call b (after b.fails call b.barrier) a → is_made call b ≡ true
     → Kept parties b.fails b.barrier b.ends whole unread
-    → Kept parties b.fails (after b.fails call b.barrier) (kept_after b.barrier.generation (outcome_of a) (length b.barrier.waiting) b.ends) (noted call a whole) (answered_to_wait a b.barrier.generation whole unread)
+    → Kept parties b.fails (after b.fails call b.barrier) (kept_after b.barrier.generation (outcome_of a) (length b.barrier.waiting) b.ends)
+    (noted call a whole) (answered_to_wait a b.barrier.generation whole unread)
 called parties call b whole unread (Waiting i) is what made was = waited parties call b whole unread i is what made was
 called parties call b whole unread (Trips all) is what made was = ended parties call b whole unread (Trips all) is what refl was
 called parties call b whole unread (Fails callers) is what made was = ended parties call b whole unread (Fails callers) is what refl was
@@ -397,8 +499,10 @@ called parties call b whole unread Already is what made was = rw what was
 called parties call b whole unread Absent is what made was = rw what was
 
 -- a caller reads its end
-read : (parties n : ℕ) (w : Waiter) (b : Book) (whole : List LedgerEntry) (unread : List Waiter) → waiter_at n unread ≡ Some w → is_end_of_generation (end_of w.generation b.ends) ≡ true
-    → Kept parties b.fails b.barrier b.ends whole unread → Kept parties b.fails b.barrier (read_by w.generation b.ends) whole (without n unread)
+read : (parties n : ℕ) (w : Waiter) (b : Book) (whole : List LedgerEntry) (unread : List Waiter) → waiter_at n unread ≡ Some w
+    → is_end_of_generation (end_of w.generation b.ends) ≡ true
+    → Kept parties b.fails b.barrier b.ends whole unread
+    → Kept parties b.fails b.barrier (read_by w.generation b.ends) whole (without n unread)
 read parties n w b whole unread at' is was =
     let y = w.generation in
     let some : 0 < unread_of y b.ends = some_unread y b.ends was.good is in
@@ -408,11 +512,18 @@ read parties n w b whole unread at' is was =
       good = read_good y b.ends was.good;
       counts = counts';
       alone = λ waits. read_fewer b.barrier.generation y b.ends (was.alone waits);
-      found = find_same b.ends (read_by y b.ends) whole (without n unread) (find-without b.ends whole n unread was.found) (λ g more. same g more);
-      total = let t = was.total in let r = read_total y b.ends was.good some in let l = length-without n unread w at' in omega (arith, t, r, l);
+      found =
+          find_same b.ends (read_by y b.ends) whole (without n unread) (find-without b.ends whole n unread was.found)
+          (λ g more. same g more);
+      total = let t = was.total in
+          let r = read_total y b.ends was.good some in
+          let l = length-without n unread w at' in
+          omega (arith, t, r, l);
     }
   where
-    counts' : (g : ℕ) → waiters_of g (without n unread) ≡ unread_of g (read_by w.generation b.ends) + (if b.barrier.generation == g then length b.barrier.waiting else 0)
+    counts' : (g : ℕ)
+        → waiters_of g (without n unread)
+        ≡ unread_of g (read_by w.generation b.ends) + (if b.barrier.generation == g then length b.barrier.waiting else 0)
     counts' g =
         let some : 0 < unread_of w.generation b.ends = some_unread w.generation b.ends was.good is in
         let c = was.counts g in
@@ -425,10 +536,12 @@ read parties n w b whole unread at' is was =
           | true ↦ λ h.
               let one : w.generation ≡ g = grind (arith, nat_tests) in
               let some : 0 < unread_of w.generation b.ends = some_unread w.generation b.ends was.good is in
-              let nobody : (if b.barrier.generation == g then length b.barrier.waiting else 0) ≡ 0 = alone' g (subst (λ (k : ℕ). 0 < unread_of k b.ends) one some) in
+              let nobody : (if b.barrier.generation == g then length b.barrier.waiting else 0) ≡ 0 =
+              alone' g (subst (λ (k : ℕ). 0 < unread_of k b.ends) one some) in
               let c = counts' g in
               let left : 0 < unread_of g (read_by w.generation b.ends) = omega (arith, c, nobody, more) in
-              subst (λ (k : ℕ). 0 < unread_of g (read_by k b.ends) → end_of g (read_by k b.ends) ≡ end_of g b.ends) (sym one) (λ k. read_same g b.ends was.good k) left
+              subst (λ (k : ℕ). 0 < unread_of g (read_by k b.ends) → end_of g (read_by k b.ends) ≡ end_of g b.ends) (sym one)
+              (λ k. read_same g b.ends was.good k) left
           | false ↦ λ h. read_other g w.generation b.ends h
         ] refl
       where
@@ -437,8 +550,11 @@ read parties n w b whole unread at' is was =
             elim (b.barrier.generation == g) as (λ x. (b.barrier.generation == g) ≡ x → (if x then length b.barrier.waiting else 0) ≡ 0) [
               | true ↦ λ h.
                   let one : b.barrier.generation ≡ g = grind (arith, nat_tests) in
-                  elim (nat_lt 0 (length b.barrier.waiting)) as (λ z. nat_lt 0 (length b.barrier.waiting) ≡ z → length b.barrier.waiting ≡ 0) [
-                    | true ↦ λ k. let waits : 0 < length b.barrier.waiting = grind (arith, nat_tests) in let none : unread_of g b.ends ≡ 0 = subst (λ (k : ℕ). unread_of k b.ends ≡ 0) one (was.alone waits) in absurd (omega (arith, none, some))
+                  elim (nat_lt 0 (length b.barrier.waiting)) as
+                  (λ z. nat_lt 0 (length b.barrier.waiting) ≡ z → length b.barrier.waiting ≡ 0) [
+                    | true ↦ λ k. let waits : 0 < length b.barrier.waiting = grind (arith, nat_tests) in
+                        let none : unread_of g b.ends ≡ 0 = subst (λ (k : ℕ). unread_of k b.ends ≡ 0) one (was.alone waits) in
+                        absurd (omega (arith, none, some))
                     | false ↦ λ k. grind (arith, nat_tests)
                   ] refl
               | false ↦ λ h. refl
@@ -450,24 +566,28 @@ KeptIn parties fails r = (r.book.fails ≡ fails) × Kept parties r.book.fails r
 step : (parties : ℕ) (fails : Option ℕ) (e : Event) (r : Run) → KeptIn parties fails r → KeptIn parties fails (after_event e r)
 step parties fails (Called call) r was =
     elim (is_made call r.book) as (λ x. is_made call r.book ≡ x → KeptIn parties fails (if x then record {
-      book = book r.book.fails (after r.book.fails call r.book.barrier) (kept_after r.book.barrier.generation (outcome_of (answer r.book.fails call r.book.barrier)) (length r.book.barrier.waiting) r.book.ends);
+      book =
+          book r.book.fails (after r.book.fails call r.book.barrier)
+          (kept_after r.book.barrier.generation (outcome_of (answer r.book.fails call r.book.barrier)) (length r.book.barrier.waiting) r.book.ends);
       whole = noted call (answer r.book.fails call r.book.barrier) r.whole;
       unread = answered_to_wait (answer r.book.fails call r.book.barrier) r.book.barrier.generation r.whole r.unread;
     } else r)) [
-      | true ↦ λ made. (was.0, called parties call r.book r.whole r.unread (answer r.book.fails call r.book.barrier) refl (did call r.book) made was.1)
+      | true ↦ λ made.
+          (was.0, called parties call r.book r.whole r.unread (answer r.book.fails call r.book.barrier) refl (did call r.book) made was.1)
       | false ↦ λ made. was
     ] refl
 step parties fails (Wakes n) r was =
     elim (waiter_at n r.unread) as (λ o. waiter_at n r.unread ≡ o → KeptIn parties fails (after_reading n o r)) [
       | None ↦ λ is. was
-      | Some w ↦ λ is. elim (is_end_of_generation (end_of w.generation r.book.ends)) as (λ x. is_end_of_generation (end_of w.generation r.book.ends) ≡ x → KeptIn parties fails (if x then record {
-        book = book r.book.fails r.book.barrier (read_by w.generation r.book.ends);
-        whole = r.whole;
-        unread = without n r.unread;
-      } else r)) [
-        | true ↦ λ ends. (was.0, read parties n w r.book r.whole r.unread is ends was.1)
-        | false ↦ λ ends. was
-      ] refl
+      | Some w ↦ λ is. elim (is_end_of_generation (end_of w.generation r.book.ends)) as
+          (λ x. is_end_of_generation (end_of w.generation r.book.ends) ≡ x → KeptIn parties fails (if x then record {
+            book = book r.book.fails r.book.barrier (read_by w.generation r.book.ends);
+            whole = r.whole;
+            unread = without n r.unread;
+          } else r)) [
+            | true ↦ λ ends. (was.0, read parties n w r.book r.whole r.unread is ends was.1)
+            | false ↦ λ ends. was
+          ] refl
     ] refl
 
 steps : (parties : ℕ) (fails : Option ℕ) (es : List Event) (r : Run) → KeptIn parties fails r → KeptIn parties fails (after_events es r)
@@ -481,8 +601,18 @@ find_end r (w ∷ ws) found = (found.1, find_end r ws found.2)
 pub forgetting_changes_no_answer : ForgettingChangesNoAnswer
 forgetting_changes_no_answer parties fails events =
     let r = after_events events (begun parties fails) in
-    let first : KeptIn parties fails (begun parties fails) =
-    (refl, record { right = tt; barrier = refl; good = tt; counts = λ g. grind (arith, nat_tests); alone = λ some. refl; found = tt; total = refl }) in
+    let first : KeptIn parties fails (begun parties fails) = (
+      refl,
+      record {
+        right = tt;
+        barrier = refl;
+        good = tt;
+        counts = λ g. grind (arith, nat_tests);
+        alone = λ some. refl;
+        found = tt;
+        total = refl;
+      },
+    ) in
     let kept = (steps parties fails events (begun parties fails) first).1 in
     record {
       right = kept.right;
@@ -499,11 +629,13 @@ arrivals-append : (ws : List ℕ) (c : ℕ) → arrivals (ws ++ c ∷ []) ≡ ar
 arrivals-append [] c = refl
 arrivals-append (w ∷ ws) c = ap (λ (l : List Call). Await w ∷ l) (arrivals-append ws c)
 
-left-append : (fails : Option ℕ) (cs : List Call) (c : Call) (m : Machine) → after_all fails (cs ++ c ∷ []) m ≡ after fails c (after_all fails cs m)
+left-append : (fails : Option ℕ) (cs : List Call) (c : Call) (m : Machine)
+    → after_all fails (cs ++ c ∷ []) m ≡ after fails c (after_all fails cs m)
 left-append fails [] c m = refl
 left-append fails (x ∷ xs) c m = left-append fails xs c (after fails x m)
 
-await_arrivals : (fails : Option ℕ) (c p g : ℕ) (ws : List ℕ) (b b2 b3 b4 : Bool) → is_in c ws ≡ b2 → (length ws + 1 == p) ≡ b3 → fails_at fails g ≡ b4
+await_arrivals : (fails : Option ℕ) (c p g : ℕ) (ws : List ℕ) (b b2 b3 b4 : Bool) → is_in c ws ≡ b2 → (length ws + 1 == p) ≡ b3
+    → fails_at fails g ≡ b4
     → IsItsArrivals fails (machine p g ws b) → IsItsArrivals fails (after fails (Await c) (machine p g ws b))
 await_arrivals fails c p g ws true b2 b3 b4 e2 e3 e4 was = was
 await_arrivals fails c p g ws false true b3 b4 e2 e3 e4 was = rw e2 was
@@ -512,12 +644,14 @@ await_arrivals fails c p g ws false false true false e2 e3 e4 was = rw (e2, e3, 
 await_arrivals fails c p g ws false false false b4 e2 e3 e4 was =
     let joins : after fails (Await c) (machine p g ws false) ≡ machine p g (ws ++ c ∷ []) false = rw (e2, e3) refl in
     let new : after_all fails (arrivals (ws ++ c ∷ [])) (machine p g [] false) ≡ machine p g (ws ++ c ∷ []) false =
-    ap (λ (l : List Call). after_all fails l (machine p g [] false)) (arrivals-append ws c) ∙ (left-append fails (arrivals ws) (Await c) (machine p g [] false) ∙ (ap (after fails (Await c)) was ∙ joins)) in
+    ap (λ (l : List Call). after_all fails l (machine p g [] false)) (arrivals-append ws c)
+    ∙ (left-append fails (arrivals ws) (Await c) (machine p g [] false) ∙ (ap (after fails (Await c)) was ∙ joins)) in
     rw (e2, e3) new
 
 call_arrivals : (fails : Option ℕ) (call : Call) (m : Machine) → IsItsArrivals fails m → IsItsArrivals fails (after fails call m)
 call_arrivals fails (Await c) m was = await_arrivals fails c m.parties m.generation m.waiting m.broken _ _ _ refl refl refl was
-call_arrivals fails (Abandon c) m was = elim (is_in c m.waiting) as (λ b. IsItsArrivals fails (if b then broken_off m else m)) [ true ↦ refl | false ↦ was ]
+call_arrivals fails (Abandon c) m was =
+    elim (is_in c m.waiting) as (λ b. IsItsArrivals fails (if b then broken_off m else m)) [ true ↦ refl | false ↦ was ]
 call_arrivals fails BreakOff m was = refl
 call_arrivals fails Reset m was = refl
 
@@ -525,9 +659,12 @@ record Arrived (parties : ℕ) (fails : Option ℕ) (m : Machine) : Type 0 where
   pub parties' : m.parties ≡ parties
   pub arrivals' : IsItsArrivals fails m
 
-all_arrivals : (fails : Option ℕ) (calls : List Call) (parties : ℕ) (m : Machine) → Arrived parties fails m → Arrived parties fails (after_all fails calls m)
+all_arrivals : (fails : Option ℕ) (calls : List Call) (parties : ℕ) (m : Machine) → Arrived parties fails m
+    → Arrived parties fails (after_all fails calls m)
 all_arrivals fails [] parties m was = was
-all_arrivals fails (c ∷ cs) parties m was = all_arrivals fails cs parties (after fails c m) (record { parties' = after_parties fails c m ∙ was.parties'; arrivals' = call_arrivals fails c m was.arrivals' })
+all_arrivals fails (c ∷ cs) parties m was =
+    all_arrivals fails cs parties (after fails c m)
+    (record { parties' = after_parties fails c m ∙ was.parties'; arrivals' = call_arrivals fails c m was.arrivals' })
 
 pub barriers_are_their_arrivals : BarriersAreTheirArrivals
 barriers_are_their_arrivals parties fails calls =

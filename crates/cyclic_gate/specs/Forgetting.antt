@@ -85,7 +85,8 @@ abbrev pub FindTheirEnd : Run → List Waiter → Type 0
 FindTheirEnd r [] = Unit {0}
 FindTheirEnd r (w ∷ ws) = (end_of w.generation r.book.ends ≡ first_end (drop w.place r.whole)) × FindTheirEnd r ws
 
--- The history is right and leaves the barrier; each caller that waits finds what the history says; and there are no more ends kept and callers waiting than callers that haven't read their end.
+-- The history is right and leaves the barrier; each caller that waits finds what the history says; and there are no more ends kept and
+-- callers waiting than callers that haven't read their end.
 pub record ForgetsNothingNeeded (parties : ℕ) (r : Run) : Type 0 where
   pub right : AreRight r.book.fails r.whole (fresh parties)
   pub barrier : after_all r.book.fails (calls_of r.whole) (fresh parties) ≡ r.book.barrier
@@ -94,7 +95,8 @@ pub record ForgetsNothingNeeded (parties : ℕ) (r : Run) : Type 0 where
 
 -- Whatever happens, the ledger forgets no end that a caller has still to read, and keeps no other.
 abbrev pub ForgettingChangesNoAnswer : Type 0
-ForgettingChangesNoAnswer = (parties : ℕ) (fails : Option ℕ) (events : List Event) → ForgetsNothingNeeded parties (after_events events (begun parties fails))
+ForgettingChangesNoAnswer =
+    (parties : ℕ) (fails : Option ℕ) (events : List Event) → ForgetsNothingNeeded parties (after_events events (begun parties fails))
 
 -- The calls since the generation began that made the barrier what it is: the arrivals of those who wait, or a break.
 abbrev pub arrivals : List ℕ → List Call
@@ -109,5 +111,6 @@ calls_since m = if m.broken then BreakOff ∷ [] else arrivals m.waiting
 abbrev pub BarriersAreTheirArrivals : Type 0
 BarriersAreTheirArrivals =
     (parties : ℕ) (fails : Option ℕ) (calls : List Call)
-    → after_all fails (calls_since (after_all fails calls (fresh parties))) (machine parties (after_all fails calls (fresh parties)).generation [] false)
+    → after_all fails (calls_since (after_all fails calls (fresh parties)))
+    (machine parties (after_all fails calls (fresh parties)).generation [] false)
     ≡ after_all fails calls (fresh parties)

@@ -35,7 +35,8 @@ AllRight parties (a ∷ rest) = IsRightTrip parties a × AllRight parties rest
 
 -- In every run each tripped generation gives each index below the parties exactly once, and no caller two.
 abbrev pub TripsGiveEachOnce : Type 0
-TripsGiveEachOnce = (parties : ℕ) (fails : Option ℕ) (calls : List Call) → 0 < parties → AllRight parties (answers fails calls (fresh parties))
+TripsGiveEachOnce =
+    (parties : ℕ) (fails : Option ℕ) (calls : List Call) → 0 < parties → AllRight parties (answers fails calls (fresh parties))
 
 -- who has to wait in the generation, with the index given, after one more call
 abbrev pub answered_after : List (ℕ × ℕ) → Call → Answer → List (ℕ × ℕ)
@@ -56,13 +57,16 @@ EndsOfAnswered answered _ _ = Unit {0}
 
 abbrev pub RunEndsOfAnswered : Option ℕ → List Call → List (ℕ × ℕ) → Machine → Type 0
 RunEndsOfAnswered fails [] answered m = Unit {0}
-RunEndsOfAnswered fails (c ∷ cs) answered m = EndsOfAnswered answered c (answer fails c m) × RunEndsOfAnswered fails cs (answered_after answered c (answer fails c m)) (after fails c m)
+RunEndsOfAnswered fails (c ∷ cs) answered m =
+    EndsOfAnswered answered c (answer fails c m)
+    × RunEndsOfAnswered fails cs (answered_after answered c (answer fails c m)) (after fails c m)
 
 -- In every run the one list that ends a generation names exactly those who have to wait in it.
 abbrev pub EndsNameTheAnswered : Type 0
 EndsNameTheAnswered = (parties : ℕ) (fails : Option ℕ) (calls : List Call) → 0 < parties → RunEndsOfAnswered fails calls [] (fresh parties)
 
--- Each generation is followed by the next number, and the greatest of 64 bits by 0: about the half of them and at the end, worked out by hand.
+-- Each generation is followed by the next number, and the greatest of 64 bits by 0: about the half of them and at the end, worked out by
+-- hand.
 pub record GenerationsFollow : Type 0 where
   pub below : (g : ℕ) → g < 18446744073709551615 → next_generation g ≡ g + 1
   pub half : next_generation 9223372036854775807 ≡ 9223372036854775808

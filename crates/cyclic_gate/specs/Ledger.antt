@@ -73,6 +73,7 @@ pub record IsPlace (generation : ℕ) (ends : List KeptEnd) (place : ℕ) : Type
   pub others : read_by generation ends ≡ take place ends ++ read_by generation (drop place ends)
   pub here : (d : KeptEnd) → place < length ends → (get_or ends place d).generation ≡ generation
 
--- An arrival that would be the first of its generation is refused while an end of a generation of the same number is kept. Numbers come again after 2^64 generations.
+-- An arrival that would be the first of its generation is refused while an end of a generation of the same number is kept. Numbers come
+-- again after 2^64 generations.
 abbrev pub is_free : Book → Bool
 is_free b = not (length b.barrier.waiting == 0) || not (is_end_of_generation (end_of b.barrier.generation b.ends))

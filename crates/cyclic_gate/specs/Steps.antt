@@ -7,7 +7,9 @@ use Rattle.cyclic_gate.specs.Machine.{Machine, machine}
 use Rattle.cyclic_gate.specs.declared.call.Call.{Call}
 use Rattle.cyclic_gate.specs.declared.call.Call.TheVariants.{Await, Abandon, BreakOff, Reset}
 
--- The caller waits, with its arrival index; it was the last, and all callers go on with their indices; it was the last and the action failed, and the others get Broken; the barrier is broken; these callers get Broken; a caller that waits arrives; a caller that doesn't wait leaves.
+-- The caller waits, with its arrival index; it was the last, and all callers go on with their indices; it was the last and the action
+-- failed, and the others get Broken; the barrier is broken; these callers get Broken; a caller that waits arrives; a caller that doesn't
+-- wait leaves.
 pub data Answer : Type 0 where
   Waiting : ℕ → Answer
   Trips : List (ℕ × ℕ) → Answer

@@ -27,7 +27,8 @@ pub record End : Type 0 where
 -- the call among these that ends the generation of this barrier
 abbrev pub end_among : Option ℕ → List LedgerEntry → Machine → Option End
 end_among fails [] m = None
-end_among fails (n ∷ ns) m = if is_end (answer fails n.call m) then Some (record { call = n.call; found = m }) else end_among fails ns (after fails n.call m)
+end_among fails (n ∷ ns) m =
+    if is_end (answer fails n.call m) then Some (record { call = n.call; found = m }) else end_among fails ns (after fails n.call m)
 
 -- the trip gives the caller this index
 abbrev pub GivesIndex : ℕ → ℕ → Answer → Type 0

@@ -11,7 +11,10 @@ at cells place = get_or cells place (pos 0)
 
 -- what the cell at this place becomes: a quarter of its neighbours and of twice itself
 abbrev pub mixed : List ℤ → ℕ → ℤ
-mixed cells place = int_div (int_wrapping_add w64 (int_wrapping_add w64 (int_wrapping_add w64 (at cells (place - 1)) (at cells (place + 1))) (at cells place)) (at cells place)) (pos 4)
+mixed cells place =
+    int_div
+    (int_wrapping_add w64 (int_wrapping_add w64 (int_wrapping_add w64 (at cells (place - 1)) (at cells (place + 1))) (at cells place)) (at cells place))
+    (pos 4)
 
 -- what this many cells become; the first of them is at this place
 abbrev pub mixed_from : List ℤ → ℕ → ℕ → List ℤ

@@ -12,9 +12,11 @@ module _ (arrays : List (List ℕ × List ℤ)) where
       let same : place + suc count ≡ suc place + count = omega arith in more (h ∙ ap (λ (n : ℕ). Some n) same)
 
   -- none of those before it overflows
-  pub none-before : (front ps : List Put) (place count : ℕ) → over_in arrays front place ps ≡ Some (place + count) → over_in arrays front place (take count ps) ≡ None
+  pub none-before : (front ps : List Put) (place count : ℕ) → over_in arrays front place ps ≡ Some (place + count)
+      → over_in arrays front place (take count ps) ≡ None
   none-before front ps place zero e = refl
   none-before front [] place (suc count) e = absurd cc
   none-before front (p ∷ ps) place (suc count) e =
-      by (overflows arrays front p) place count (over_in arrays (front ++ p ∷ []) (suc place) ps) (over_in arrays (front ++ p ∷ []) (suc place) (take count ps)) e
+      by (overflows arrays front p) place count (over_in arrays (front ++ p ∷ []) (suc place) ps)
+      (over_in arrays (front ++ p ∷ []) (suc place) (take count ps)) e
       (λ h. none-before (front ++ p ∷ []) ps (suc place) count h)

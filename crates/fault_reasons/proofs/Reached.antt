@@ -60,7 +60,8 @@ module _ {T : Type 0} where
   pub limit_at : (limit m : ℕ) (st : State T) → status limit st ≡ Some (Limit m) → IsLimit limit m st
   limit_at limit m st h = by st.fault st.live refl h
     where
-      far : (b : Bool) → nat_le limit st.step ≡ b → (if b then Some (Limit st.step) else None) ≡ Some (Limit m) → (limit ≤ st.step) × (m ≡ st.step)
+      far : (b : Bool) → nat_le limit st.step ≡ b → (if b then Some (Limit st.step) else None) ≡ Some (Limit m)
+          → (limit ≤ st.step) × (m ≡ st.step)
       far true e h = (grind arith, ap number_of (sym h))
       far false e h = cc
 
@@ -80,7 +81,8 @@ module _ {T : Type 0} where
       never true h = cc
       never false h = cc
 
-      by : (f : Option (ℕ × List ℕ)) (live : List T) → st.fault ≡ f → status_of limit st.step f live ≡ Some (Fault code step path) → IsFault step st
+      by : (f : Option (ℕ × List ℕ)) (live : List T) → st.fault ≡ f → status_of limit st.step f live ≡ Some (Fault code step path)
+          → IsFault step st
       by (Some f) live e h = record { some = λ n. let bad : Some f ≡ None = sym e ∙ n in cc; number = ap number_of (sym h) }
       by None [] e h = cc
       by None (t ∷ ts) e h = absurd (never (nat_le limit st.step) h)
@@ -128,7 +130,9 @@ module _ {T : Type 0} (w : Says T) (arrays : List (List ℕ × List ℤ)) (tasks
       by : (o : Option Status) → (unless_ended o (at limit n) (superstep w (at limit n))).step ≤ suc n
       by (Some s) = omega (arith, before)
       by None =
-          let up = one (at limit n) (segments w (at limit n).arrays (at limit n).step (at limit n).live) (fault_in w.path w.most (at limit n).arrays (segments w (at limit n).arrays (at limit n).step (at limit n).live)) in
+          let up =
+          one (at limit n) (segments w (at limit n).arrays (at limit n).step (at limit n).live)
+          (fault_in w.path w.most (at limit n).arrays (segments w (at limit n).arrays (at limit n).step (at limit n).live)) in
           omega (arith, before, up)
 
   pub step_within : (limit n : ℕ) → (at limit n).step ≤ n
@@ -136,11 +140,13 @@ module _ {T : Type 0} (w : Says T) (arrays : List (List ℕ × List ℤ)) (tasks
   step_within limit (suc n) = step_more limit n (step_within limit n)
 
   -- the superstep before a fault was begun
-  fault_more : (limit code step : ℕ) (path : List ℕ) (n : ℕ) → (status limit (at limit n) ≡ Some (Fault code step path) → status limit (at limit step) ≡ None)
+  fault_more : (limit code step : ℕ) (path : List ℕ) (n : ℕ)
+      → (status limit (at limit n) ≡ Some (Fault code step path) → status limit (at limit step) ≡ None)
       → status limit (at limit (suc n)) ≡ Some (Fault code step path) → status limit (at limit step) ≡ None
   fault_more limit code step path n earlier h = by (status limit (at limit n)) refl
     where
-      faults : (st : State T) (ss : List (List ℕ × Segment T)) (f : Option (ℕ × List ℕ)) → ((closed w.path st ss f).fault ≡ None → ⊥) → (closed w.path st ss f).step ≡ st.step
+      faults : (st : State T) (ss : List (List ℕ × Segment T)) (f : Option (ℕ × List ℕ)) → ((closed w.path st ss f).fault ≡ None → ⊥)
+          → (closed w.path st ss f).step ≡ st.step
       faults st ss (Some f) h = refl
       faults st ss None h = absurd (h refl)
 
@@ -151,15 +157,19 @@ module _ {T : Type 0} (w : Says T) (arrays : List (List ℕ × List ℤ)) (tasks
       by None e =
           let k = goes w arrays tasks (status limit (at limit n)) (at limit n) (superstep w (at limit n)) e in
           let f = fault_at limit code step path (superstep w (at limit n)) (ap (status limit) (sym k) ∙ h) in
-          let same = faults (at limit n) (segments w (at limit n).arrays (at limit n).step (at limit n).live) (fault_in w.path w.most (at limit n).arrays (segments w (at limit n).arrays (at limit n).step (at limit n).live)) f.some in
+          let same =
+          faults (at limit n) (segments w (at limit n).arrays (at limit n).step (at limit n).live)
+          (fault_in w.path w.most (at limit n).arrays (segments w (at limit n).arrays (at limit n).step (at limit n).live)) f.some in
           let number : step ≡ n = f.number ∙ same ∙ (going_on w arrays tasks limit n e).step in
           ap (λ (m : ℕ). status limit (at limit m)) number ∙ e
 
-  fault_began : (limit code step : ℕ) (path : List ℕ) (n : ℕ) → status limit (at limit n) ≡ Some (Fault code step path) → status limit (at limit step) ≡ None
+  fault_began : (limit code step : ℕ) (path : List ℕ) (n : ℕ) → status limit (at limit n) ≡ Some (Fault code step path)
+      → status limit (at limit step) ≡ None
   fault_began limit code step path zero h = absurd ((fault_at limit code step path (at limit 0) h).some refl)
   fault_began limit code step path (suc n) h = fault_more limit code step path n (λ e. fault_began limit code step path n e) h
 
-  pub fault_reached : (limit code step : ℕ) (path : List ℕ) → status limit (at limit limit) ≡ Some (Fault code step path) → status step (at step step) ≡ Some (Limit step)
+  pub fault_reached : (limit code step : ℕ) (path : List ℕ) → status limit (at limit limit) ≡ Some (Fault code step path)
+      → status step (at step step) ≡ Some (Limit step)
   fault_reached limit code step path h = gets_there limit step (fault_began limit code step path limit h)
 
   -- the limit that is named is that of the run
@@ -171,9 +181,11 @@ module _ {T : Type 0} (w : Says T) (arrays : List (List ℕ × List ℤ)) (tasks
       ap (λ (m : ℕ). status m (at m m)) same ∙ h
 
 -- a run that was taken to its limit
-module _ (j : JobValue) (n : ℕ) (r s : JobRunValue) (begun : IsAfter 0 [] [] r) (same : (r.job ≡ j) × (r.run.limit ≡ n)) (later : IsLater n r s) where
+module _ (j : JobValue) (n : ℕ) (r s : JobRunValue) (begun : IsAfter 0 [] [] r) (same : (r.job ≡ j) × (r.run.limit ≡ n))
+    (later : IsLater n r s) where
   there : HasReached n s
-  there = let e : 0 + n ≡ n = omega arith in subst (λ (k : ℕ). HasReached k s) e (later.reached 0 (record { prints = []; records = []; after = begun }))
+  there = let e : 0 + n ≡ n = omega arith in
+      subst (λ (k : ℕ). HasReached k s) e (later.reached 0 (record { prints = []; records = []; after = begun }))
 
   job_is : s.job ≡ j
   job_is = later.job ∙ same.0
@@ -235,6 +247,7 @@ ends_reached j limit r h = by (status limit (job.so_far (program_of j) limit lim
     by : (o : Option Status) → status limit (job.so_far (program_of j) limit limit) ≡ o → IsReached j r.status
     by None e = absurd (ends_in_time (job_says (plans j.bodies)) j.arrays (job.starts (program_of j)) limit e)
     by (Some s) e =
-        let is : report_with (job.so_far (program_of j) limit limit) (Some s) ≡ Some r = ap (report_with (job.so_far (program_of j) limit limit)) (sym e) ∙ h in
+        let is : report_with (job.so_far (program_of j) limit limit) (Some s) ≡ Some r =
+        ap (report_with (job.so_far (program_of j) limit limit)) (sym e) ∙ h in
         let same : s ≡ r.status = ap (left_status s) is in
         subst (IsReached j) same (reached_by j limit s e)

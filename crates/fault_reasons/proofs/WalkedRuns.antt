@@ -53,7 +53,8 @@ module _ (s : Setting) (x : Doing) where
       next : Task
       next = started s.plans (s.path ++ (s.begun + length x.spawns) ∷ []) body v
 
-      many : (b : Bool) → (if b then (reported.Fails Many, done_of x) else (reported.Goes, record (done_of x) { spawned = length x.spawns + 1 }))
+      many : (b : Bool)
+          → (if b then (reported.Fails Many, done_of x) else (reported.Goes, record (done_of x) { spawned = length x.spawns + 1 }))
           ≡ seen x (if b then Fails Many else Goes (record x { spawns = x.spawns ++ next ∷ [] }))
       many true = refl
       many false = ap (λ (n : ℕ). (reported.Goes, record (done_of x) { spawned = n })) (length-more x.spawns next)
@@ -130,7 +131,8 @@ module _ (s : Setting) (code : List Line) (m : IsMatched code) where
   effect-of n here next x ih (Fails f) = refl
 
   test-of : (n here there other : ℕ) (x : Doing) → Follows n → (r : Result ℤ Fault)
-      → IsOf (after_move here (tested r there other, done_of x) (walked s code n)) (after_test r (rest_at (tree_of code) there) (rest_at (tree_of code) other) (λ b. run s n b x))
+      → IsOf (after_move here (tested r there other, done_of x) (walked s code n))
+      (after_test r (rest_at (tree_of code) there) (rest_at (tree_of code) other) (λ b. run s n b x))
   test-of n here there other x ih (Err f) = refl
   test-of n here there other x ih (Ok v) = by (int_eq v (pos 0))
     where
@@ -143,20 +145,24 @@ module _ (s : Setting) (code : List Line) (m : IsMatched code) where
       → IsOf (after_move here (moved_at s (Some l) here (done_of x)) (walked s code n)) (run s (suc n) (rest_at (tree_of code) here) x)
   line-of n here x ih (line.Do a) e c =
       let one : suc n ≡ n + 1 = omega arith in
-      subst (IsOf (after_move here (after_act (here + 1) (acted s (done_of x) a)) (walked s code n))) (sym (run-do s code m here (suc n) n a x e one))
+      subst (IsOf (after_move here (after_act (here + 1) (acted s (done_of x) a)) (walked s code n)))
+      (sym (run-do s code m here (suc n) n a x e one))
       (subst (λ (r : CodeEffect × Done). IsOf (after_move here (after_act (here + 1) r) (walked s code n)) (after_effect s (act s x a) (rest_at (tree_of code) (here + 1)) (run s n)))
       (sym (acted-is s x a)) (effect-of n here (here + 1) x ih (act s x a)))
   line-of n here x ih (line.If t k) e c =
       let one : suc n ≡ n + 1 = omega arith in
-      subst (IsOf (after_move here (tested (value_of s x.locals t) (here + 1) (here + 1 + k), done_of x) (walked s code n))) (sym (run-if s code m here (suc n) n k t x e one))
+      subst (IsOf (after_move here (tested (value_of s x.locals t) (here + 1) (here + 1 + k), done_of x) (walked s code n)))
+      (sym (run-if s code m here (suc n) n k t x e one))
       (test-of n here (here + 1) (here + 1 + k) x ih (value_of s x.locals t))
   line-of n here x ih (line.While t k) e c =
       let one : suc n ≡ n + 1 = omega arith in
-      subst (IsOf (after_move here (tested (value_of s x.locals t) (here + 1) (here + 1 + k), done_of x) (walked s code n))) (sym (run-while s code m here (suc n) n k t x e one))
+      subst (IsOf (after_move here (tested (value_of s x.locals t) (here + 1) (here + 1 + k), done_of x) (walked s code n)))
+      (sym (run-while s code m here (suc n) n k t x e one))
       (test-of n here (here + 1) (here + 1 + k) x ih (value_of s x.locals t))
   line-of n here x ih (line.EndWhile t k) e c =
       let one : suc n ≡ n + 1 = omega arith in
-      subst (IsOf (after_move here (tested (value_of s x.locals t) (here - k) (here + 1), done_of x) (walked s code n))) (sym (run-again s code m here (suc n) n k t x e one))
+      subst (IsOf (after_move here (tested (value_of s x.locals t) (here - k) (here + 1), done_of x) (walked s code n)))
+      (sym (run-again s code m here (suc n) n k t x e one))
       (test-of n here (here - k) (here + 1) x ih (value_of s x.locals t))
   line-of n here x ih (line.Else k) e c = absurd c
   line-of n here x ih line.EndIf e c = absurd c
@@ -165,19 +171,25 @@ module _ (s : Setting) (code : List Line) (m : IsMatched code) where
   at-cost : (n place : ℕ) (x : Doing) → run s n (rest_at (tree_of code) (costing code place)) x ≡ run s n (rest_at (tree_of code) place) x
   at-cost n place x = ap (λ (b : Block). run s n b x) (rest-passed code m (length code) place)
 
-  over : (n place : ℕ) (x : Doing) → slice_get code (costing code place) ≡ None → IsOf (end.Stopped, done_of x) (run s n (rest_at (tree_of code) place) x)
-  over n place x e = subst (IsOf (end.Stopped, done_of x)) (sym (run-ends s code m (costing code place) n x (sym e)) ∙ at-cost n place x) (refl, (refl, refl))
+  over : (n place : ℕ) (x : Doing) → slice_get code (costing code place) ≡ None
+      → IsOf (end.Stopped, done_of x) (run s n (rest_at (tree_of code) place) x)
+  over n place x e =
+      subst (IsOf (end.Stopped, done_of x)) (sym (run-ends s code m (costing code place) n x (sym e)) ∙ at-cost n place x)
+      (refl, (refl, refl))
 
   none-left : (place : ℕ) (x : Doing) (o : Option Line) → slice_get code (costing code place) ≡ o
       → IsOf (spent o (costing code place) (done_of x)) (run s 0 (rest_at (tree_of code) place) x)
   none-left place x None e = over 0 place x e
-  none-left place x (Some l) e = sym (at-cost 0 place x) ∙ run-spent s code m (costing code place) 0 l x e (costs-there code m place l e) refl
+  none-left place x (Some l) e =
+      sym (at-cost 0 place x) ∙ run-spent s code m (costing code place) 0 l x e (costs-there code m place l e) refl
 
   some-left : (n place : ℕ) (x : Doing) → Follows n → (o : Option Line) → slice_get code (costing code place) ≡ o
-      → IsOf (after_move (costing code place) (moved_at s o (costing code place) (done_of x)) (walked s code n)) (run s (suc n) (rest_at (tree_of code) place) x)
+      → IsOf (after_move (costing code place) (moved_at s o (costing code place) (done_of x)) (walked s code n))
+      (run s (suc n) (rest_at (tree_of code) place) x)
   some-left n place x ih None e = over (suc n) place x e
   some-left n place x ih (Some l) e =
-      subst (IsOf (after_move (costing code place) (moved_at s (Some l) (costing code place) (done_of x)) (walked s code n))) (at-cost (suc n) place x)
+      subst (IsOf (after_move (costing code place) (moved_at s (Some l) (costing code place) (done_of x)) (walked s code n)))
+      (at-cost (suc n) place x)
       (line-of n (costing code place) x ih l e (costs-there code m place l e))
 
   follows : (n : ℕ) → Follows n

@@ -13,7 +13,8 @@ module _ (s : Setting) (code : List Line) where
   abbrev line_led : ℕ → Done → Move × Done
   line_led here d = moved_at s (slice_get code here) here d
 
-  more : (n k place : ℕ) (d : Done) → n ≡ k + 1 → walked s code n place d ≡ after_move (costing code place) (line_led (costing code place) d) (walked s code k)
+  more : (n k place : ℕ) (d : Done) → n ≡ k + 1
+      → walked s code n place d ≡ after_move (costing code place) (line_led (costing code place) d) (walked s code k)
   unfolding walked
   more zero k place d e = absurd (omega arith)
   more (suc n) k place d e =
@@ -30,7 +31,8 @@ module _ (s : Setting) (code : List Line) where
       ∙ ap (λ (x : Move × Done). after_move here x (walked s code (left - 1))) (sym is)
 
   -- with nothing left it ends there
-  pub out : (left place : ℕ) (d : Done) → left ≡ 0 → walked s code left place d ≡ spent (slice_get code (costing code place)) (costing code place) d
+  pub out : (left place : ℕ) (d : Done) → left ≡ 0
+      → walked s code left place d ≡ spent (slice_get code (costing code place)) (costing code place) d
   unfolding walked
   out zero place d e = refl
   out (suc n) place d e = absurd (omega arith)

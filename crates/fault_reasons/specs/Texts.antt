@@ -99,7 +99,8 @@ module _ (a : Again) where
 
   -- the line of a body that comes so many lines after its first
   abbrev pub body_line : ℕ → ℕ → List ℕ
-  body_line body count = codes "body " ++ name_at (map (λ b. b.name) a.job.bodies) body ++ codes ", " ++ line_said (line_in a.text body count)
+  body_line body count =
+      codes "body " ++ name_at (map (λ b. b.name) a.job.bodies) body ++ codes ", " ++ line_said (line_in a.text body count)
 
   abbrev pub reads_on : TaskValue → List ℤ → Option Line → List ℕ
   reads_on t locals None = []
@@ -178,4 +179,5 @@ module _ (a : Again) where
   -- how many tasks live at the limit, and where the first of them wait
   abbrev pub limit_text : List ℕ
   limit_text =
-      codes "limit of " ++ decimal a.step ++ supersteps_said a.step ++ codes " reached, live tasks: " ++ decimal (length a.tasks) ++ codes "\n" ++ waiting 5 a.tasks
+      codes "limit of " ++ decimal a.step ++ supersteps_said a.step ++ codes " reached, live tasks: " ++ decimal (length a.tasks)
+      ++ codes "\n" ++ waiting 5 a.tasks

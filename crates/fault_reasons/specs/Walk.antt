@@ -46,7 +46,8 @@ module _ (s : Setting) where
   abbrev pub put_into : Done → PutKind → ℕ → Expr → Option ℕ → Effect × Done
   put_into d kind array e None = (Fails NoCell, d)
   put_into d kind array e (Some place) =
-      by_value (value_of s d.locals e) d (λ v. (Goes, record d { puts = d.puts ++ (record { array = array; index = place; kind = kind; value = v }) ∷ [] }))
+      by_value (value_of s d.locals e) d
+      (λ v. (Goes, record d { puts = d.puts ++ (record { array = array; index = place; kind = kind; value = v }) ∷ [] }))
 
   abbrev pub with_put : Done → PutKind → Cell → Expr → Effect × Done
   with_put d kind c e = put_into d kind c.array e (place_at s.arrays c.array (index_value s d.locals c.index))
@@ -117,7 +118,8 @@ module _ (s : Setting) (code : List Line) where
   -- how a segment ends that goes on at this place of its body, with so much left of its budget, and what it has done then
   unfoldable pub walked : ℕ → ℕ → Done → End × Done
   walked zero place d = spent (slice_get code (costing code place)) (costing code place) d
-  walked (suc n) place d = after_move (costing code place) (moved_at s (slice_get code (costing code place)) (costing code place) d) (walked n)
+  walked (suc n) place d =
+      after_move (costing code place) (moved_at s (slice_get code (costing code place)) (costing code place) d) (walked n)
 
 -- how many lines after the first of its body the statement is whose line is at a place: at the end of a loop, that is the loop's
 -- first line

@@ -26,7 +26,8 @@ same_counts f g a = record {
 }
 
 -- members with the same counts make alike phasers
-pub alike_with_members : (f g : Flat) (ms ns : List Member) → IsAlike f g → SameCounts f.phase ms ns → IsAlike (with_members ms f) (with_members ns g)
+pub alike_with_members : (f g : Flat) (ms ns : List Member) → IsAlike f g → SameCounts f.phase ms ns
+    → IsAlike (with_members ms f) (with_members ns g)
 alike_with_members f g ms ns a s = record {
   phase = a.phase;
   ended = a.ended;
@@ -83,7 +84,9 @@ joins_alike owner count f g a = record {
   phase = a.phase;
   ended = a.ended;
   due = refl;
-  members = λ u. newcomers_members owner count u f.members ∙ ap (λ (k : ℕ). k + cond {A = ℕ} (eqb owner u) count 0) (a.members u) ∙ sym (newcomers_members owner count u g.members);
+  members =
+      λ u. newcomers_members owner count u f.members ∙ ap (λ (k : ℕ). k + cond {A = ℕ} (eqb owner u) count 0) (a.members u)
+      ∙ sym (newcomers_members owner count u g.members);
   arrived = λ u. newcomers_arrived f.phase owner count u f.members ∙ a.arrived u ∙ sym (newcomers_arrived g.phase owner count u g.members);
 }
 
@@ -92,7 +95,8 @@ everyone_in f g a h =
     let s = same_counts f g a in
     ap (λ (p : ℕ). everyone_arrived p g.members) (sym a.phase) ∙ sym (same_everyone f.phase f.members g.members s.members s.arrived) ∙ h
 
-pub advances_alike : (ends : Bool) (f g : Flat) → everyone_arrived f.phase f.members ≡ true → IsAlike f g → IsAlike (taken (Advance ends) f) (taken (Advance ends) g)
+pub advances_alike : (ends : Bool) (f g : Flat) → everyone_arrived f.phase f.members ≡ true → IsAlike f g
+    → IsAlike (taken (Advance ends) f) (taken (Advance ends) g)
 advances_alike ends f g h a = record {
   phase = ap next_phase_of a.phase;
   ended = refl;
@@ -114,13 +118,20 @@ alike_stays (Join owner count) f f' g g' sound a l l' =
     (rw (l, l') (joins_alike owner count f g a), rw l (λ h. not_due false refl h))
 alike_stays (Arrive owner) f f' g g' sound a l l' =
     let awaited : is_awaited owner f.phase l'.1 ≡ true = ap (λ (p : ℕ). is_awaited owner p l'.1) a.phase ∙ l'.3.awaited in
-    let counts = marked_counts owner f.phase l.0 l.1 l.2 l'.0 l'.1 l'.2 (at_places owner f g l.0 l.1 l.2 l'.0 l'.1 l'.2 a l.3 l'.3) l.3.awaited awaited in
-    let same : (l'.0 ++ record l'.1 { mark = Some f.phase } ∷ l'.2) ≡ (l'.0 ++ record l'.1 { mark = Some g.phase } ∷ l'.2) = ap (λ (p : ℕ). l'.0 ++ record l'.1 { mark = Some p } ∷ l'.2) a.phase in
-    let alike : IsAlike (with_members (l.0 ++ record l.1 { mark = Some f.phase } ∷ l.2) f) (with_members (l'.0 ++ record l'.1 { mark = Some g.phase } ∷ l'.2) g) = rw (← same) (alike_with_members f g _ _ a counts) in
+    let counts =
+    marked_counts owner f.phase l.0 l.1 l.2 l'.0 l'.1 l'.2 (at_places owner f g l.0 l.1 l.2 l'.0 l'.1 l'.2 a l.3 l'.3) l.3.awaited
+    awaited in
+    let same : (l'.0 ++ record l'.1 { mark = Some f.phase } ∷ l'.2) ≡ (l'.0 ++ record l'.1 { mark = Some g.phase } ∷ l'.2) =
+    ap (λ (p : ℕ). l'.0 ++ record l'.1 { mark = Some p } ∷ l'.2) a.phase in
+    let alike : IsAlike (with_members (l.0 ++ record l.1 { mark = Some f.phase } ∷ l.2) f)
+    (with_members (l'.0 ++ record l'.1 { mark = Some g.phase } ∷ l'.2) g) =
+    rw (← same) (alike_with_members f g _ _ a counts) in
     (rw (l.4, l'.4) alike, rw l.4 (λ h. h))
 alike_stays (Leave owner) f f' g g' sound a l l' =
     let awaited : is_awaited owner f.phase l'.1 ≡ true = ap (λ (p : ℕ). is_awaited owner p l'.1) a.phase ∙ l'.3.awaited in
-    let counts = dropped_counts owner f.phase l.0 l.1 l.2 l'.0 l'.1 l'.2 (at_places owner f g l.0 l.1 l.2 l'.0 l'.1 l'.2 a l.3 l'.3) l.3.awaited awaited in
+    let counts =
+    dropped_counts owner f.phase l.0 l.1 l.2 l'.0 l'.1 l'.2 (at_places owner f g l.0 l.1 l.2 l'.0 l'.1 l'.2 a l.3 l'.3) l.3.awaited
+    awaited in
     (rw (l.4, l'.4) (alike_with_members f g _ _ a counts), rw l.4 (λ h. h))
 alike_stays (Advance ends) f f' g g' sound a l l' =
     (rw (l.1, l'.1) (advances_alike ends f g (sound l.0) a), rw l.1 (λ h. not_due false refl h))

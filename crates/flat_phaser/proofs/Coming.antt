@@ -31,7 +31,8 @@ all_if_none phase (m ∷ ms) h =
     (either (has_arrived phase m))
 
 -- the last one arrives
-last_marked : (phase owner : ℕ) (members : List Member) → IsWaitedFor owner phase members → absent phase members ≡ 1 → everyone_arrived phase (mark_one owner phase members) ≡ true
+last_marked : (phase owner : ℕ) (members : List Member) → IsWaitedFor owner phase members → absent phase members ≡ 1
+    → everyone_arrived phase (mark_one owner phase members) ≡ true
 last_marked phase owner members waited one =
     let p = first_place owner phase members waited in
     let test : Member → Bool = λ x. not (has_arrived phase x) in
@@ -43,7 +44,8 @@ last_marked phase owner members waited one =
     ap (everyone_arrived phase) p.marked ∙ all_if_none phase (p.front ++ record p.here { mark = Some phase } ∷ p.back) (omega arith)
 
 -- the last one leaves
-last_dropped : (phase owner : ℕ) (members : List Member) → IsWaitedFor owner phase members → absent phase members ≡ 1 → everyone_arrived phase (drop_one owner phase members) ≡ true
+last_dropped : (phase owner : ℕ) (members : List Member) → IsWaitedFor owner phase members → absent phase members ≡ 1
+    → everyone_arrived phase (drop_one owner phase members) ≡ true
 last_dropped phase owner members waited one =
     let p = first_place owner phase members waited in
     let test : Member → Bool = λ x. not (has_arrived phase x) in
@@ -64,15 +66,18 @@ due_law f owner going waited = (
   rw (not_ended (Leave owner) f going) (tells (drop_one owner f.phase f.members) f),
 )
 
-brings : (ends : Bool) (members : List Member) (f : Flat) → f.ended ≡ false → everyone_arrived f.phase members ≡ true → BringsAdvance ends f (with_members members f)
+brings : (ends : Bool) (members : List Member) (f : Flat) → f.ended ≡ false → everyone_arrived f.phase members ≡ true
+    → BringsAdvance ends f (with_members members f)
 brings ends members f going all =
     let step = not_ended (Advance ends) (with_members members f) going in
     record { may = all; next = ap (λ (g : Flat). g.phase) step; end = ap (λ (g : Flat). g.ended) step }
 
 pub last_law : TheLastBringsTheAdvance
 last_law f owner ends going one waited = (
-  rw (not_ended (Arrive owner) f going) (brings ends (mark_one owner f.phase f.members) f going (last_marked f.phase owner f.members waited one)),
-  rw (not_ended (Leave owner) f going) (brings ends (drop_one owner f.phase f.members) f going (last_dropped f.phase owner f.members waited one)),
+  rw (not_ended (Arrive owner) f going)
+      (brings ends (mark_one owner f.phase f.members) f going (last_marked f.phase owner f.members waited one)),
+  rw (not_ended (Leave owner) f going)
+      (brings ends (drop_one owner f.phase f.members) f going (last_dropped f.phase owner f.members waited one)),
 )
 
 pub one_is_last : OneMemberIsLast

@@ -20,7 +20,8 @@ pub count_replicate : {X : Type 0} (p : X → Bool) (n : ℕ) (x : X) → count_
 count_replicate p n x = sum_by-replicate (λ y. bit (p y)) n x
 
 -- with one more element in the middle
-pub count_here : {X : Type 0} (p : X → Bool) (front : List X) (x : X) (back : List X) → count_by p (front ++ x ∷ back) ≡ count_by p (front ++ back) + bit (p x)
+pub count_here : {X : Type 0} (p : X → Bool) (front : List X) (x : X) (back : List X)
+    → count_by p (front ++ x ∷ back) ≡ count_by p (front ++ back) + bit (p x)
 count_here p front x back =
     let whole = count_append p front (x ∷ back) in
     let rest = count_append p front back in
@@ -61,14 +62,16 @@ arrived_le phase owner (m ∷ ms) =
     omega arith
 
 -- newcomers are members of their owner, and none has arrived
-pub newcomers_members : (owner count u : ℕ) (members : List Member) → members_of u (members ++ newcomers owner count) ≡ members_of u members + cond {A = ℕ} (eqb owner u) count 0
+pub newcomers_members : (owner count u : ℕ) (members : List Member)
+    → members_of u (members ++ newcomers owner count) ≡ members_of u members + cond {A = ℕ} (eqb owner u) count 0
 newcomers_members owner count u members =
     let whole = count_append (is_owned u) members (newcomers owner count) in
     let new = count_replicate (is_owned u) count (record { owner = owner; mark = None }) in
     let each = times_bit count (eqb owner u) in
     omega arith
 
-pub newcomers_arrived : (phase owner count u : ℕ) (members : List Member) → arrived_of phase u (members ++ newcomers owner count) ≡ arrived_of phase u members
+pub newcomers_arrived : (phase owner count u : ℕ) (members : List Member)
+    → arrived_of phase u (members ++ newcomers owner count) ≡ arrived_of phase u members
 newcomers_arrived phase owner count u members =
     let whole = count_append (λ x. is_owned u x && has_arrived phase x) members (newcomers owner count) in
     let new = count_replicate (λ x. is_owned u x && has_arrived phase x) count (record { owner = owner; mark = None }) in

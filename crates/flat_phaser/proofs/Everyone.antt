@@ -21,10 +21,12 @@ same_bool true b f g = sym (f refl)
 same_bool false true f g = g refl
 same_bool false false f g = refl
 
-arrived_cons : (phase owner : ℕ) (m : Member) (ms : List Member) → arrived_of phase owner (m ∷ ms) ≡ bit (is_owned owner m && has_arrived phase m) + arrived_of phase owner ms
+arrived_cons : (phase owner : ℕ) (m : Member) (ms : List Member)
+    → arrived_of phase owner (m ∷ ms) ≡ bit (is_owned owner m && has_arrived phase m) + arrived_of phase owner ms
 arrived_cons phase owner m ms = count_cons (λ x. is_owned owner x && has_arrived phase x) m ms
 
-pub everyone_from : (phase : ℕ) (members : List Member) → ((owner : ℕ) → members_of owner members ≤ arrived_of phase owner members) → everyone_arrived phase members ≡ true
+pub everyone_from : (phase : ℕ) (members : List Member) → ((owner : ℕ) → members_of owner members ≤ arrived_of phase owner members)
+    → everyone_arrived phase members ≡ true
 everyone_from phase [] h = refl
 everyone_from phase (m ∷ ms) h = ⊎_elim
     (λ (yes' : has_arrived phase m ≡ true).
@@ -46,7 +48,8 @@ everyone_from phase (m ∷ ms) h = ⊎_elim
     omega arith))
     (either (has_arrived phase m))
 
-pub everyone_each : (phase : ℕ) (members : List Member) → everyone_arrived phase members ≡ true → (owner : ℕ) → arrived_of phase owner members ≡ members_of owner members
+pub everyone_each : (phase : ℕ) (members : List Member) → everyone_arrived phase members ≡ true → (owner : ℕ)
+    → arrived_of phase owner members ≡ members_of owner members
 everyone_each phase [] h owner = refl
 everyone_each phase (m ∷ ms) h owner =
     let both = both_true (has_arrived phase m) (everyone_arrived phase ms) h in
@@ -57,7 +60,8 @@ everyone_each phase (m ∷ ms) h owner =
     omega arith
 
 -- two lists with the same counts
-pub same_everyone : (phase : ℕ) (ms ns : List Member) → ((owner : ℕ) → members_of owner ms ≡ members_of owner ns) → ((owner : ℕ) → arrived_of phase owner ms ≡ arrived_of phase owner ns) → everyone_arrived phase ms ≡ everyone_arrived phase ns
+pub same_everyone : (phase : ℕ) (ms ns : List Member) → ((owner : ℕ) → members_of owner ms ≡ members_of owner ns)
+    → ((owner : ℕ) → arrived_of phase owner ms ≡ arrived_of phase owner ns) → everyone_arrived phase ms ≡ everyone_arrived phase ns
 same_everyone phase ms ns members arrived = same_bool (everyone_arrived phase ms) (everyone_arrived phase ns)
     (λ e. everyone_from phase ns (λ owner. let a = everyone_each phase ms e owner in let b = members owner in let c = arrived owner in omega arith))
     (λ e. everyone_from phase ms (λ owner. let a = everyone_each phase ns e owner in let b = members owner in let c = arrived owner in omega arith))
@@ -67,7 +71,8 @@ mark_other p q None n e = absurd (let wrong : false ≡ true = e in cc)
 mark_other p q (Some r) n e = let same : r ≡ p = eqb-true r p e in ne_eqb r q (λ z. n (sym same ∙ z))
 
 -- who has arrived in one phase has arrived in no other
-pub none_arrived : (p q : ℕ) (members : List Member) → p ≢ q → everyone_arrived p members ≡ true → (owner : ℕ) → arrived_of q owner members ≡ 0
+pub none_arrived : (p q : ℕ) (members : List Member) → p ≢ q → everyone_arrived p members ≡ true → (owner : ℕ)
+    → arrived_of q owner members ≡ 0
 none_arrived p q [] n h owner = refl
 none_arrived p q (m ∷ ms) n h owner =
     let both = both_true (has_arrived p m) (everyone_arrived p ms) h in

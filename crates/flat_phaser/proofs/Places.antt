@@ -44,18 +44,22 @@ at_head owner phase m ms h = record {
   dropped = ap (λ (b : Bool). cond b ms (m ∷ drop_one owner phase ms)) h;
 }
 
-in_tail : (owner phase : ℕ) (m : Member) (ms : List Member) → is_awaited owner phase m ≡ false → FirstPlace owner phase ms → FirstPlace owner phase (m ∷ ms)
+in_tail : (owner phase : ℕ) (m : Member) (ms : List Member) → is_awaited owner phase m ≡ false → FirstPlace owner phase ms
+    → FirstPlace owner phase (m ∷ ms)
 in_tail owner phase m ms h p = record {
   front = m ∷ p.front;
   here = p.here;
   back = p.back;
   whole = ap (λ (l : List Member). m ∷ l) p.whole;
   awaited = p.awaited;
-  marked = ap (λ (b : Bool). cond b (record m { mark = Some phase } ∷ ms) (m ∷ mark_one owner phase ms)) h ∙ ap (λ (l : List Member). m ∷ l) p.marked;
+  marked =
+      ap (λ (b : Bool). cond b (record m { mark = Some phase } ∷ ms) (m ∷ mark_one owner phase ms)) h
+      ∙ ap (λ (l : List Member). m ∷ l) p.marked;
   dropped = ap (λ (b : Bool). cond b ms (m ∷ drop_one owner phase ms)) h ∙ ap (λ (l : List Member). m ∷ l) p.dropped;
 }
 
-pub first_place : (owner phase : ℕ) (members : List Member) → arrived_of phase owner members < members_of owner members → FirstPlace owner phase members
+pub first_place : (owner phase : ℕ) (members : List Member) → arrived_of phase owner members < members_of owner members
+    → FirstPlace owner phase members
 first_place owner phase [] h = absurd (omega arith)
 first_place owner phase (m ∷ ms) h = ⊎_elim
     (λ (yes' : is_awaited owner phase m ≡ true). at_head owner phase m ms yes')
@@ -71,7 +75,8 @@ same_owner : (owner u : ℕ) (m : Member) → m.owner ≡ owner → bit (is_owne
 same_owner owner u m e = ap (λ (k : ℕ). bit (eqb k u)) e
 
 -- one who is awaited arrives
-pub marked_members : (owner phase u : ℕ) (front : List Member) (m : Member) (back : List Member) → members_of u (front ++ record m { mark = Some phase } ∷ back) ≡ members_of u (front ++ m ∷ back)
+pub marked_members : (owner phase u : ℕ) (front : List Member) (m : Member) (back : List Member)
+    → members_of u (front ++ record m { mark = Some phase } ∷ back) ≡ members_of u (front ++ m ∷ back)
 marked_members owner phase u front m back =
     let old = count_here (is_owned u) front m back in
     let new = count_here (is_owned u) front (record m { mark = Some phase }) back in

@@ -47,7 +47,8 @@ pub not_ended : (step : FlatStep) (f : Flat) → f.ended ≡ false → flat_step
 not_ended step f e = ap (λ (b : Bool). cond b f (taken step f)) e
 
 kept : (step : FlatStep) (f : Flat) → MayTake step f → is_advance step ≡ false
-    → ((taken step f).phase ≡ f.phase) × ((owner : ℕ) → arrived_of f.phase owner (taken step f).members ≡ arrived_of f.phase owner f.members + arrivals_of step owner)
+    → ((taken step f).phase ≡ f.phase)
+    × ((owner : ℕ) → arrived_of f.phase owner (taken step f).members ≡ arrived_of f.phase owner f.members + arrivals_of step owner)
 kept (Join who count) f h e = (refl, λ owner. let same = newcomers_arrived f.phase who count owner f.members in omega arith)
 kept (Arrive who) f h e =
     let p = first_place who f.phase f.members h in (
@@ -61,7 +62,8 @@ kept (Leave who) f h e =
       refl,
       λ owner.
           let same : arrived_of f.phase owner (taken (Leave who) f).members ≡ arrived_of f.phase owner f.members =
-          ap (arrived_of f.phase owner) p.dropped ∙ dropped_arrived who f.phase owner p.front p.here p.back p.awaited ∙ ap (arrived_of f.phase owner) (sym p.whole) in
+          ap (arrived_of f.phase owner) p.dropped ∙ dropped_arrived who f.phase owner p.front p.here p.back p.awaited
+          ∙ ap (arrived_of f.phase owner) (sym p.whole) in
           omega arith,
     )
 kept (Advance ends) f h e = no_contradiction (sym e)

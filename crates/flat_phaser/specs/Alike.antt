@@ -23,7 +23,10 @@ pub record IsPlace (owner : ℕ) (f : Flat) (front : List Member) (m : Member) (
 -- what a step may leave of a phaser that hasn't ended, whichever member it takes
 abbrev pub MayLeave : FlatStep → Flat → Flat → Type 0
 MayLeave (Join owner count) f g = g ≡ taken (Join owner count) f
-MayLeave (Arrive owner) f g = (front : List Member) × (m : Member) × (back : List Member) × IsPlace owner f front m back × (g ≡ with_members (front ++ record m { mark = Some f.phase } ∷ back) f)
-MayLeave (Leave owner) f g = (front : List Member) × (m : Member) × (back : List Member) × IsPlace owner f front m back × (g ≡ with_members (front ++ back) f)
+MayLeave (Arrive owner) f g =
+    (front : List Member) × (m : Member) × (back : List Member) × IsPlace owner f front m back
+    × (g ≡ with_members (front ++ record m { mark = Some f.phase } ∷ back) f)
+MayLeave (Leave owner) f g =
+    (front : List Member) × (m : Member) × (back : List Member) × IsPlace owner f front m back × (g ≡ with_members (front ++ back) f)
 MayLeave (Advance ends) f g = (f.due ≡ true) × (g ≡ taken (Advance ends) f)
 MayLeave Force f g = g ≡ taken Force f

@@ -45,7 +45,8 @@ StepsAreTaken = (step : FlatStep) (f : Flat) → MayTake step f → MayLeave ste
 
 -- Alike stays alike, whichever member each step takes.
 abbrev pub AlikeStaysAlike : Type 0
-AlikeStaysAlike = (step : FlatStep) (f f' g g' : Flat) → IsSound f → IsAlike f g → MayLeave step f f' → MayLeave step g g' → IsAlike f' g' × IsSound f'
+AlikeStaysAlike =
+    (step : FlatStep) (f f' g g' : Flat) → IsSound f → IsAlike f g → MayLeave step f f' → MayLeave step g g' → IsAlike f' g' × IsSound f'
 
 -- An advance is due exactly if all members of every owner have arrived.
 pub record TellsDue (f : Flat) : Type 0 where

@@ -51,7 +51,8 @@ module _ {X : Type 0} where
       all (suc i) v e = absurd (some-ne-none v (sym e))
 
   -- the first seat knows more: its log is longer, or the same
-  grown : (ws : List ℕ) (hs : List (mathlib.Core.Option.Option (Option X))) (s : State (Option X) (Known X)) → (h : IsAgreed s) (w : Known X) → WasBefore h.first.log w.log → WasBefore w.heard w.log
+  grown : (ws : List ℕ) (hs : List (mathlib.Core.Option.Option (Option X))) (s : State (Option X) (Known X))
+      → (h : IsAgreed s) (w : Known X) → WasBefore h.first.log w.log → WasBefore w.heard w.log
       → (w.taken ≡ false → (x : Option X) × (get_elem? hs 0 ≡ some (some x)))
       → IsAgreed (record { words = ws; homes = hs; views = slice_set s.views 0 w })
   grown ws hs s h w more heard home = record {
@@ -61,7 +62,8 @@ module _ {X : Type 0} where
     home = home;
   }
     where
-      by : (i : ℕ) (v : Known X) → ((i ≡ 0) × (w ≡ v)) ⊎ ((i ≢ 0) × (get_elem? s.views i ≡ some v)) → WasBefore v.log w.log × WasBefore v.heard w.log
+      by : (i : ℕ) (v : Known X) → ((i ≡ 0) × (w ≡ v)) ⊎ ((i ≢ 0) × (get_elem? s.views i ≡ some v))
+          → WasBefore v.log w.log × WasBefore v.heard w.log
       by i v c =
           ⊎_elim (λ t. subst (λ (u : Known X). WasBefore u.log w.log × WasBefore u.heard w.log) t.1 (itself w.log, heard))
           (λ t. let k = h.known i v t.1 in (longer v.log h.first.log w.log k.0 more, longer v.heard h.first.log w.log k.1 more)) c
@@ -71,10 +73,12 @@ module _ {X : Type 0} where
   first_is s h id v e at = some-injective h.first v (sym h.at ∙ ap (get_elem? s.views) (sym e) ∙ at)
 
   at_first : (ws : List ℕ) (hs : List (mathlib.Core.Option.Option (Option X))) (vs : List (Known X)) (id : ℕ) (w : Known X) → id ≡ 0
-      → IsAgreed (record { words = ws; homes = hs; views = slice_set vs 0 w }) → IsAgreed (record { words = ws; homes = hs; views = slice_set vs id w })
+      → IsAgreed (record { words = ws; homes = hs; views = slice_set vs 0 w })
+      → IsAgreed (record { words = ws; homes = hs; views = slice_set vs id w })
   at_first ws hs vs id w e h = subst (λ (k : ℕ). IsAgreed (record { words = ws; homes = hs; views = slice_set vs k w })) (sym e) h
 
-  pub takes_place : (slots id : ℕ) (me : Me (Option X) (Known X)) → id ≡ 0 → me ≡ (record { log = []; heard = []; taken = false }, []) → Allows IsAgreed slots id me 0 (λ n. n) (λ n next. Takes me next)
+  pub takes_place : (slots id : ℕ) (me : Me (Option X) (Known X)) → id ≡ 0 → me ≡ (record { log = []; heard = []; taken = false }, [])
+      → Allows IsAgreed slots id me 0 (λ n. n) (λ n next. Takes me next)
   takes_place slots id me e new s h l at small =
       let first = first_is s h id me.0 e at in
       let x = h.home (ap (λ (v : Known X). v.taken) first ∙ ap (λ (m : Me (Option X) (Known X)). m.0.taken) new) in
@@ -83,8 +87,11 @@ module _ {X : Type 0} where
         takes 0 x.0,
         x.1,
         at_first (slice_set s.words 0 (slice_index s.words 0)) (slice_set s.homes 0 none) s.views id w e
-            (subst (λ (v : Known X). IsAgreed (record { words = slice_set s.words 0 (slice_index s.words 0); homes = slice_set s.homes 0 none; views = slice_set s.views 0 (record v { taken = true }) })) first
-            (grown (slice_set s.words 0 (slice_index s.words 0)) (slice_set s.homes 0 none) s h (record h.first { taken = true }) (itself h.first.log) (h.known 0 h.first h.at).1 (λ t. absurd (not_true t)))),
+            (subst
+            (λ (v : Known X). IsAgreed (record { words = slice_set s.words 0 (slice_index s.words 0); homes = slice_set s.homes 0 none; views = slice_set s.views 0 (record v { taken = true }) }))
+            first
+            (grown (slice_set s.words 0 (slice_index s.words 0)) (slice_set s.homes 0 none) s h (record h.first { taken = true })
+            (itself h.first.log) (h.known 0 h.first h.at).1 (λ t. absurd (not_true t)))),
         record { known = refl; place = (x.0, refl) },
       )
 
@@ -114,7 +121,8 @@ module _ {X : Type 0} where
         at_first ws s.homes s.views id w e
             (subst (λ (v : Known X). IsAgreed (record { words = ws; homes = s.homes; views = slice_set s.views 0 (noted v me.1) })) first
             (grown ws s.homes s h (noted h.first me.1) (longer_noted h.first me.1)
-            (subst (λ (ys : List X). WasBefore ys (noted h.first me.1).log) (sym (same_heard h.first me.1)) (longer h.first.heard h.first.log (noted h.first me.1).log (h.known 0 h.first h.at).1 (longer_noted h.first me.1)))
+            (subst (λ (ys : List X). WasBefore ys (noted h.first me.1).log) (sym (same_heard h.first me.1))
+            (longer h.first.heard h.first.log (noted h.first me.1).log (h.known 0 h.first h.at).1 (longer_noted h.first me.1)))
             (λ t. h.home (sym (same_taken h.first me.1) ∙ t)))),
         refl,
       )
@@ -142,12 +150,14 @@ module _ {X : Type 0} where
         first = same.first;
         at = at_longer (slice_set s.views id v) (copy_of v ∷ []) 0 same.first same.at;
         known = λ i u k. ⊎_elim (λ t. same.known i u t)
-            (λ t. subst (λ (w : Known X). WasBefore w.log same.first.log × WasBefore w.heard same.first.log) t ((same.known id v (set_here s.views id v (there s.views id v at))).0, none_before same.first.log))
+            (λ t. subst (λ (w : Known X). WasBefore w.log same.first.log × WasBefore w.heard same.first.log) t
+            ((same.known id v (set_here s.views id v (there s.views id v at))).0, none_before same.first.log))
             (at_snoc (slice_set s.views id v) (copy_of v) u i k);
         home = same.home;
       }
 
-  pub hears : (id other : ℕ) (v w : Known X) → id ≡ 0 → Joins {S = Option X} IsAgreed id v other w (hearing v w) (record { log = []; heard = []; taken = true })
+  pub hears : (id other : ℕ) (v w : Known X) → id ≡ 0
+      → Joins {S = Option X} IsAgreed id v other w (hearing v w) (record { log = []; heard = []; taken = true })
   hears id other v w e s h at apart there_too =
       let first = first_is s h id v e at in
       let from = h.known other w (sym (set_else s.views id other (hearing v w) apart) ∙ there_too) in
@@ -160,7 +170,8 @@ module _ {X : Type 0} where
         first = more.first;
         at = set_else views other 0 spent (λ k. apart (sym k ∙ sym e)) ∙ more.at;
         known = λ i u k.
-            ⊎_elim (λ t. subst (λ (x : Known X). WasBefore x.log more.first.log × WasBefore x.heard more.first.log) t.1 (none_before more.first.log, none_before more.first.log))
+            ⊎_elim
+            (λ t. subst (λ (x : Known X). WasBefore x.log more.first.log × WasBefore x.heard more.first.log) t.1 (none_before more.first.log, none_before more.first.log))
             (λ t. more.known i u t.1) (at_set views other i spent u k);
         home = more.home;
       }

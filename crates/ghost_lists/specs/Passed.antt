@@ -39,12 +39,15 @@ module _ {T : Type 0} where
   pub record IsKept (s : State T (Known T)) : Type 0 where
     pub first : Known T
     pub at : get_elem? s.views 0 ≡ some first
-    pub listed : (i : ℕ) (v : Known T) → get_elem? s.views i ≡ some v → (t : TicketEntry T) → v.held ≡ Some t → (t.key < first.next) × IsOut t first.out
-    pub apart : (i j : ℕ) (v w : Known T) → get_elem? s.views i ≡ some v → get_elem? s.views j ≡ some w → (t u : TicketEntry T) → v.held ≡ Some t → w.held ≡ Some u → t.key ≡ u.key → i ≡ j
+    pub listed : (i : ℕ) (v : Known T) → get_elem? s.views i ≡ some v → (t : TicketEntry T) → v.held ≡ Some t
+        → (t.key < first.next) × IsOut t first.out
+    pub apart : (i j : ℕ) (v w : Known T) → get_elem? s.views i ≡ some v → get_elem? s.views j ≡ some w → (t u : TicketEntry T)
+        → v.held ≡ Some t → w.held ≡ Some u → t.key ≡ u.key → i ≡ j
 
   -- a new entry is written
   abbrev pub issued : ℕ → ℕ → T → Known T → Known T
-  issued step number known v = record { out = ticket_entry v.next step number known ∷ v.out; held = Some (ticket_entry v.next step number known); next = v.next + 1 }
+  issued step number known v =
+      record { out = ticket_entry v.next step number known ∷ v.out; held = Some (ticket_entry v.next step number known); next = v.next + 1 }
 
   abbrev pub Issues : ℕ → ℕ → mathlib.Core.Option.Option T → Me T (Known T) → Me T (Known T) → Type 0
   Issues step number none me next = next ≡ me

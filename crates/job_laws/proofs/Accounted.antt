@@ -32,7 +32,8 @@ in_order d t h at =
     let reported : Some (t.path, meaning.segment_of p.plans t st.arrays st.step) ≡ Some (d.path, delivered_segment d) =
     sym (ap (deed_of p st) at) ∙ h in
     let same : (t.path, meaning.segment_of p.plans t st.arrays st.step) ≡ (d.path, delivered_segment d) = cc in
-    subst (λ (x : List ℕ × Segment). spawned_paths x.1 ≡ children x.0 t.begun (length x.1.spawns)) same (numbers-its-spawns p.plans t st.arrays st.step).1
+    subst (λ (x : List ℕ × Segment). spawned_paths x.1 ≡ children x.0 t.begun (length x.1.spawns)) same
+    (numbers-its-spawns p.plans t st.arrays st.step).1
 
 pub deliveries : DeliveriesNameTheirSpawns
 unfolding meaning.segment_of meaning.run

@@ -12,8 +12,10 @@ use Rattle.step_core.specs.Superstep.{State, segments, too_many, closed, next_li
 use Rattle.programs.specs.Superstep.{first_fault, overflow, fault_eight, or_next, or_later, log_of}
 use Rattle.job_laws.specs.Reports.{HasNoFault, NoneFaults, IsFirstFault, IsTooMany, IsOverflow, FaultsTellTheFirst}
 
-none_here : (p : Program) (st : State) (t : Task) (ts : List Task) → (first_fault (segments p st.arrays st.step ts) ≡ None → NoneFaults p st ts)
-    → first_fault (segments p st.arrays st.step (t ∷ ts)) ≡ None → (a : After) → (segment_of p.plans t st.arrays st.step).after ≡ a → NoneFaults p st (t ∷ ts)
+none_here : (p : Program) (st : State) (t : Task) (ts : List Task)
+    → (first_fault (segments p st.arrays st.step ts) ≡ None → NoneFaults p st ts)
+    → first_fault (segments p st.arrays st.step (t ∷ ts)) ≡ None → (a : After) → (segment_of p.plans t st.arrays st.step).after ≡ a
+    → NoneFaults p st (t ∷ ts)
 none_here p st t ts more h (Synced u) e =
     (subst HasNoFault (sym e) tt, more (sym (ap (or_later (first_fault (segments p st.arrays st.step ts)) t.path) e) ∙ h))
 none_here p st t ts more h Stopped e =
@@ -26,7 +28,8 @@ pub none_faults : (p : Program) (st : State) (ts : List Task) → first_fault (s
 none_faults p st [] h = tt
 none_faults p st (t ∷ ts) h = none_here p st t ts (none_faults p st ts) h (segment_of p.plans t st.arrays st.step).after refl
 
-behind : (p : Program) (st : State) (t : Task) (ts : List Task) (reported : ℕ × List ℕ) → HasNoFault (segment_of p.plans t st.arrays st.step).after
+behind : (p : Program) (st : State) (t : Task) (ts : List Task) (reported : ℕ × List ℕ)
+    → HasNoFault (segment_of p.plans t st.arrays st.step).after
     → IsFirstFault p st ts reported → IsFirstFault p st (t ∷ ts) reported
 behind p st t ts reported fine r = record {
   front = t ∷ r.front;
@@ -45,9 +48,11 @@ first_here : (p : Program) (st : State) (t : Task) (ts : List Task) (reported : 
     → first_fault (segments p st.arrays st.step (t ∷ ts)) ≡ Some reported
     → (a : After) → (segment_of p.plans t st.arrays st.step).after ≡ a → IsFirstFault p st (t ∷ ts) reported
 first_here p st t ts reported more h (Synced u) e =
-    behind p st t ts reported (subst HasNoFault (sym e) tt) (more (sym (ap (or_later (first_fault (segments p st.arrays st.step ts)) t.path) e) ∙ h))
+    behind p st t ts reported (subst HasNoFault (sym e) tt)
+    (more (sym (ap (or_later (first_fault (segments p st.arrays st.step ts)) t.path) e) ∙ h))
 first_here p st t ts reported more h Stopped e =
-    behind p st t ts reported (subst HasNoFault (sym e) tt) (more (sym (ap (or_later (first_fault (segments p st.arrays st.step ts)) t.path) e) ∙ h))
+    behind p st t ts reported (subst HasNoFault (sym e) tt)
+    (more (sym (ap (or_later (first_fault (segments p st.arrays st.step ts)) t.path) e) ∙ h))
 first_here p st t ts reported more h (Faulted f) e =
     let same : Some (f, t.path) ≡ Some reported = sym (ap (or_later (first_fault (segments p st.arrays st.step ts)) t.path) e) ∙ h in
     let pair : (f, t.path) ≡ reported = cc in
@@ -65,10 +70,12 @@ first_here p st t ts reported more h (Faulted f) e =
     }
 
 -- the fault that is found is that of the first faulting task
-pub first_faults : (p : Program) (st : State) (ts : List Task) (reported : ℕ × List ℕ) → first_fault (segments p st.arrays st.step ts) ≡ Some reported
+pub first_faults : (p : Program) (st : State) (ts : List Task) (reported : ℕ × List ℕ)
+    → first_fault (segments p st.arrays st.step ts) ≡ Some reported
     → IsFirstFault p st ts reported
 first_faults p st [] reported h = let bad : ◌≡◌ {A = Option (ℕ × List ℕ)} None (Some reported) = h in absurd cc
-first_faults p st (t ∷ ts) reported h = first_here p st t ts reported (first_faults p st ts reported) h (segment_of p.plans t st.arrays st.step).after refl
+first_faults p st (t ∷ ts) reported h =
+    first_here p st t ts reported (first_faults p st ts reported) h (segment_of p.plans t st.arrays st.step).after refl
 
 pub faults_tell : FaultsTellTheFirst
 faults_tell p st reported h = by (first_fault (segments p st.arrays st.step st.live)) refl h
@@ -79,7 +86,8 @@ faults_tell p st reported h = by (first_fault (segments p st.arrays st.step st.l
     next : List Task
     next = next_live ss
 
-    overflows : (o : Option (List ℕ × ℕ)) → first_over st.arrays (map log_of ss) ≡ o → nat_lt 4096 (length next) ≡ false → first_fault ss ≡ None
+    overflows : (o : Option (List ℕ × ℕ)) → first_over st.arrays (map log_of ss) ≡ o → nat_lt 4096 (length next) ≡ false
+        → first_fault ss ≡ None
         → (closed st ss (option_map fault_eight o)).fault ≡ Some reported → IsOverflow p st reported
     overflows None e b none k = let bad : ◌≡◌ {A = Option (ℕ × List ℕ)} None (Some reported) = k in absurd cc
     overflows (Some x) e b none k =

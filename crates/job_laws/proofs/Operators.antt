@@ -36,18 +36,26 @@ below (negsuc a) y h = under (suc a % unsigned_abs y)
 divided : (x y : ℤ) → int_eq y (pos 0) ≡ false → IsDivided x y (int_div x y) (int_rem x y)
 divided x y e = record { whole = quot-rem x y; less = rem_below x y (divisor y e); above = above x y; below = below x y }
 
-quotient : (x y q : ℤ) (b : Bool) → int_eq y (pos 0) ≡ b → (if b then Err DivideByZero else in_range (int_div x y)) ≡ Ok q → (r : ℤ) × IsDivided x y q r
+quotient : (x y q : ℤ) (b : Bool) → int_eq y (pos 0) ≡ b → (if b then Err DivideByZero else in_range (int_div x y)) ≡ Ok q
+    → (r : ℤ) × IsDivided x y q r
 quotient x y q true e h = absurd (let wrong : ◌≡◌ {A = Result ℤ Fault} (Err DivideByZero) (Ok q) = h in cc)
-quotient x y q false e h = (int_rem x y, subst (λ (p : ℤ). IsDivided x y p (int_rem x y)) (ranged (fits_i64 (int_div x y)) (int_div x y) q h) (divided x y e))
+quotient x y q false e h =
+    (int_rem x y, subst (λ (p : ℤ). IsDivided x y p (int_rem x y)) (ranged (fits_i64 (int_div x y)) (int_div x y) q h) (divided x y e))
 
 remainder : (x y r : ℤ) (b : Bool) → int_eq y (pos 0) ≡ b
-    → (if b then Err DivideByZero else if fits_i64 (int_div x y) then Ok (int_rem x y) else Err Overflow) ≡ Ok r → (q : ℤ) × IsDivided x y q r
+    → (if b then Err DivideByZero else if fits_i64 (int_div x y) then Ok (int_rem x y) else Err Overflow) ≡ Ok r
+    → (q : ℤ) × IsDivided x y q r
 remainder x y r true e h = absurd (let wrong : ◌≡◌ {A = Result ℤ Fault} (Err DivideByZero) (Ok r) = h in cc)
-remainder x y r false e h = (int_div x y, subst (λ (p : ℤ). IsDivided x y (int_div x y) p) (ranged (fits_i64 (int_div x y)) (int_rem x y) r h) (divided x y e))
+remainder x y r false e h =
+    (int_div x y, subst (λ (p : ℤ). IsDivided x y (int_div x y) p) (ranged (fits_i64 (int_div x y)) (int_rem x y) r h) (divided x y e))
 
 one : (b : Bool) → (one_if b ≡ Ok (pos 1)) ↔ (b ≡ true)
 one true = (λ e. refl, λ e. refl)
-one false = (λ e. absurd (let bad : ◌≡◌ {A = Result ℤ Fault} (Ok (pos 0)) (Ok (pos 1)) = e in let wrong : pos 0 ≡ pos 1 = cc in omega (arith, ints, wrong)), λ e. absurd cc)
+one false = (
+  λ e. absurd
+      (let bad : ◌≡◌ {A = Result ℤ Fault} (Ok (pos 0)) (Ok (pos 1)) = e in let wrong : pos 0 ≡ pos 1 = cc in omega (arith, ints, wrong)),
+  λ e. absurd cc,
+)
 
 holds : (b : Bool) (P : Type 0) → (b ≡ true → P) → (P → b ≡ true) → (one_if b ≡ Ok (pos 1)) ↔ P
 holds b P to from = (λ e. to ((one b).0 e), λ p. (one b).1 (from p))
@@ -57,7 +65,8 @@ flipped false e = refl
 flipped true e = absurd cc
 
 unequal : (x y : ℤ) → not (int_eq x y) ≡ true → x ≢ y
-unequal x y e same = (let off : int_eq x y ≡ false = flipped (int_eq x y) e in let on : int_eq x y ≡ true = grind (arith, ints) in absurd cc)
+unequal x y e same =
+    (let off : int_eq x y ≡ false = flipped (int_eq x y) e in let on : int_eq x y ≡ true = grind (arith, ints) in absurd cc)
 
 other : (x y : ℤ) → x ≢ y → not (int_eq x y) ≡ true
 other x y h = by (int_eq x y) refl

@@ -18,7 +18,8 @@ off_right true = refl
 off_right false = refl
 
 -- paths don't rise if one of them doesn't come before the next
-falls : (front back : List (List ℕ × List Put)) (e f : List ℕ × List Put) → path_lt e.0 f.0 ≡ false → is_rising (paths (front ++ e ∷ f ∷ back)) ≡ false
+falls : (front back : List (List ℕ × List Put)) (e f : List ℕ × List Put) → path_lt e.0 f.0 ≡ false
+    → is_rising (paths (front ++ e ∷ f ∷ back)) ≡ false
 falls [] back e f h = rw h refl
 falls (d ∷ []) back e f h = ap (λ (b : Bool). path_lt d.0 e.0 && b) (falls [] back e f h) ∙ off_right (path_lt d.0 e.0)
 falls (d ∷ c ∷ front) back e f h = ap (λ (b : Bool). path_lt d.0 c.0 && b) (falls (c ∷ front) back e f h) ∙ off_right (path_lt d.0 c.0)
@@ -54,11 +55,13 @@ next arrays from place p ps good r = record {
 same_place : (a b : ℕ) → Some a ≡ Some b → a ≡ b
 same_place a b e = cc
 
-in_log : (arrays : List (List ℕ × List ℤ)) (from place : ℕ) (puts : List Put) → outside_in arrays from puts ≡ Some place → IsOutside arrays from place puts
+in_log : (arrays : List (List ℕ × List ℤ)) (from place : ℕ) (puts : List Put) → outside_in arrays from puts ≡ Some place
+    → IsOutside arrays from place puts
 in_log arrays from place [] h = absurd (let wrong : ◌≡◌ {A = Option ℕ} None (Some place) = h in cc)
 in_log arrays from place (p ∷ ps) h = by (in_log arrays (suc from) place ps) (is_cell arrays p) refl h
   where
-    by : (outside_in arrays (suc from) ps ≡ Some place → IsOutside arrays (suc from) place ps) → (b : Bool) → is_cell arrays p ≡ b → (if b then outside_in arrays (suc from) ps else Some from) ≡ Some place → IsOutside arrays from place (p ∷ ps)
+    by : (outside_in arrays (suc from) ps ≡ Some place → IsOutside arrays (suc from) place ps) → (b : Bool) → is_cell arrays p ≡ b
+        → (if b then outside_in arrays (suc from) ps else Some from) ≡ Some place → IsOutside arrays from place (p ∷ ps)
     by more true e k = next arrays from place p ps e (more k)
     by more false e k = record {
       before = [];
@@ -70,11 +73,13 @@ in_log arrays from place (p ∷ ps) h = by (in_log arrays (suc from) place ps) (
       outside = e;
     }
 
-all_in : (arrays : List (List ℕ × List ℤ)) (from : ℕ) (puts : List Put) → outside_in arrays from puts ≡ None → list_all (is_cell arrays) puts ≡ true
+all_in : (arrays : List (List ℕ × List ℤ)) (from : ℕ) (puts : List Put) → outside_in arrays from puts ≡ None
+    → list_all (is_cell arrays) puts ≡ true
 all_in arrays from [] h = refl
 all_in arrays from (p ∷ ps) h = by (all_in arrays (suc from) ps) (is_cell arrays p) refl h
   where
-    by : (outside_in arrays (suc from) ps ≡ None → list_all (is_cell arrays) ps ≡ true) → (b : Bool) → is_cell arrays p ≡ b → (if b then outside_in arrays (suc from) ps else Some from) ≡ None → (is_cell arrays p && list_all (is_cell arrays) ps) ≡ true
+    by : (outside_in arrays (suc from) ps ≡ None → list_all (is_cell arrays) ps ≡ true) → (b : Bool) → is_cell arrays p ≡ b
+        → (if b then outside_in arrays (suc from) ps else Some from) ≡ None → (is_cell arrays p && list_all (is_cell arrays) ps) ≡ true
     by more true e k = rw (e, more k) refl
     by more false e k = absurd (let wrong : ◌≡◌ {A = Option ℕ} (Some from) None = k in cc)
 
@@ -82,11 +87,13 @@ both : (a b c : Bool) → (b && c) ≡ true → a ≡ true → (a && b) ≡ true
 both a true c h e = rw e refl
 both a false c h e = absurd cc
 
-joined_all : (f : Put → Bool) (xs ys zs : List Put) → list_all f xs ≡ true → list_all f (ys ++ zs) ≡ true → list_all f ((xs ++ ys) ++ zs) ≡ true
+joined_all : (f : Put → Bool) (xs ys zs : List Put) → list_all f xs ≡ true → list_all f (ys ++ zs) ≡ true
+    → list_all f ((xs ++ ys) ++ zs) ≡ true
 joined_all f [] ys zs a b = b
 joined_all f (x ∷ xs) ys zs a b = by (λ k. joined_all f xs ys zs k b) (f x) refl
   where
-    by : (list_all f xs ≡ true → list_all f ((xs ++ ys) ++ zs) ≡ true) → (t : Bool) → f x ≡ t → (f x && list_all f ((xs ++ ys) ++ zs)) ≡ true
+    by : (list_all f xs ≡ true → list_all f ((xs ++ ys) ++ zs) ≡ true) → (t : Bool) → f x ≡ t
+        → (f x && list_all f ((xs ++ ys) ++ zs)) ≡ true
     by more true e = rw (e, more (sym (ap (λ (t : Bool). t && list_all f xs) e) ∙ a)) refl
     by more false e = absurd (let wrong : false ≡ true = sym (ap (λ (t : Bool). t && list_all f xs) e) ∙ a in cc)
 
@@ -123,7 +130,8 @@ found : (arrays : List (List ℕ × List ℤ)) (es : List (List ℕ × List Put)
 found arrays [] path place h = absurd (let wrong : ◌≡◌ {A = Option (List ℕ × ℕ)} None (Some (path, place)) = h in cc)
 found arrays (e ∷ es) path place h = by (found arrays es path place) (outside_in arrays 0 e.1) refl h
   where
-    by : (first_outside arrays es ≡ Some (path, place) → IsFirstOutside arrays es path place) → (o : Option ℕ) → outside_in arrays 0 e.1 ≡ o → at_path e.0 o (first_outside arrays es) ≡ Some (path, place) → IsFirstOutside arrays (e ∷ es) path place
+    by : (first_outside arrays es ≡ Some (path, place) → IsFirstOutside arrays es path place) → (o : Option ℕ) → outside_in arrays 0 e.1 ≡ o
+        → at_path e.0 o (first_outside arrays es) ≡ Some (path, place) → IsFirstOutside arrays (e ∷ es) path place
     by more (Some k) o w =
         let pair : (e.0, k) ≡ (path, place) = cc in
         let at : k ≡ place = ap (λ (x : List ℕ × ℕ). x.1) pair in
@@ -142,7 +150,8 @@ outside arrays es path place h = by (is_rising (paths es)) (first_outside arrays
         let first : x.0 ≡ path = cc in
         let second : x.1 ≡ place = cc in
         found arrays es path place (o ∙ (λ i. Some (first i, second i)))
-    by true None o (Some y) w = absurd (let wrong : ◌≡◌ {A = Option Refusal} (Some (Overflow y.0 y.1)) (Some (OutOfRange path place)) = w in cc)
+    by true None o (Some y) w =
+        absurd (let wrong : ◌≡◌ {A = Option Refusal} (Some (Overflow y.0 y.1)) (Some (OutOfRange path place)) = w in cc)
     by true None o None w = absurd (let wrong : ◌≡◌ {A = Option Refusal} None (Some (OutOfRange path place)) = w in cc)
     by false q o over w = absurd (let wrong : ◌≡◌ {A = Option Refusal} (Some NotInOrder) (Some (OutOfRange path place)) = w in cc)
 
@@ -154,12 +163,14 @@ by_step WrongStep r d h k = refl
 by_step Stranger r d h k = absurd (k h.0)
 by_step Double r d h k = absurd (k h.0)
 
-by_job : (fault : AcceptFault) (r : RoundValue) (d : DeliveryValue) → Refuses fault r d → d.step ≡ r.step → d.job ≢ r.job → accept_number fault ≡ 1
+by_job : (fault : AcceptFault) (r : RoundValue) (d : DeliveryValue) → Refuses fault r d → d.step ≡ r.step → d.job ≢ r.job
+    → accept_number fault ≡ 1
 by_job WrongStep r d h e k = absurd (h e)
 by_job Stranger r d h e k = refl
 by_job Double r d h e k = (let own : IsOrdered r d = h.1 in absurd (k own.0))
 
-by_order : (fault : AcceptFault) (r : RoundValue) (d : DeliveryValue) → Refuses fault r d → d.step ≡ r.step → IsOrdered r d → accept_number fault ≡ 2
+by_order : (fault : AcceptFault) (r : RoundValue) (d : DeliveryValue) → Refuses fault r d → d.step ≡ r.step → IsOrdered r d
+    → accept_number fault ≡ 2
 by_order WrongStep r d h e k = absurd (h e)
 by_order Stranger r d h e k = absurd (h.1 k)
 by_order Double r d h e k = refl

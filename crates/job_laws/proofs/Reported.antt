@@ -27,18 +27,24 @@ one_along : (p : Program) (limit : ℕ) (P : State → Type 0) (n : ℕ) → P (
     → (status limit (so_far p limit n) ≡ None → P (so_far p limit n) → P (superstep p (so_far p limit n)))
     → (o : Option Status) → status limit (so_far p limit n) ≡ o → P (so_far p limit (suc n))
 one_along p limit P n before next None e =
-    subst P (sym (goes (job_says p.plans) p.arrays (starts p) (status limit (so_far p limit n)) (so_far p limit n) (superstep p (so_far p limit n)) e)) (next e before)
+    subst P
+    (sym (goes (job_says p.plans) p.arrays (starts p) (status limit (so_far p limit n)) (so_far p limit n) (superstep p (so_far p limit n)) e))
+    (next e before)
 one_along p limit P n before next (Some s) e =
-    subst P (sym (stays (job_says p.plans) p.arrays (starts p) (status limit (so_far p limit n)) s (so_far p limit n) (superstep p (so_far p limit n)) e)) before
+    subst P
+    (sym (stays (job_says p.plans) p.arrays (starts p) (status limit (so_far p limit n)) s (so_far p limit n) (superstep p (so_far p limit n)) e))
+    before
 
 -- what holds of each state of a job, if a superstep of one that goes on keeps it
 along : (p : Program) (limit : ℕ) (P : State → Type 0) → P (initial p)
-    → ((n : ℕ) → status limit (so_far p limit n) ≡ None → P (so_far p limit n) → P (superstep p (so_far p limit n))) → (n : ℕ) → P (so_far p limit n)
+    → ((n : ℕ) → status limit (so_far p limit n) ≡ None → P (so_far p limit n) → P (superstep p (so_far p limit n))) → (n : ℕ)
+    → P (so_far p limit n)
 along p limit P first next zero = first
 along p limit P first next (suc n) = one_along p limit P n (along p limit P first next n) (next n) (status limit (so_far p limit n)) refl
 
 -- a superstep ends the job by a fault, or goes on
-by_superstep_of : (P : State → Type 0) (st : State) (ss : List (List ℕ × Segment)) → ((f : ℕ × List ℕ) → P (ended_by st f)) → P (gone_on st ss (next_live ss))
+by_superstep_of : (P : State → Type 0) (st : State) (ss : List (List ℕ × Segment)) → ((f : ℕ × List ℕ) → P (ended_by st f))
+    → P (gone_on st ss (next_live ss))
     → (o : Option (ℕ × List ℕ)) → P (closed st ss o)
 by_superstep_of P st ss ends goes_on (Some f) = ends f
 by_superstep_of P st ss ends goes_on None = goes_on
@@ -58,7 +64,8 @@ all_mapped step path (v ∷ vs) = (refl, all_mapped step path vs)
 
 all_printed : (step : ℕ) (ss : List (List ℕ × Segment)) → AllAt step (prints_of step ss)
 all_printed step [] = tt
-all_printed step (s ∷ ss) = all_append step (map (print_of step s.0) s.1.prints) (prints_of step ss) (all_mapped step s.0 s.1.prints) (all_printed step ss)
+all_printed step (s ∷ ss) =
+    all_append step (map (print_of step s.0) s.1.prints) (prints_of step ss) (all_mapped step s.0 s.1.prints) (all_printed step ss)
 
 within_at : (first step : ℕ) (ps : List PrintValue) → first ≤ step → AllAt step ps → AreWithin first (step + 1) ps
 within_at first step [] le a = tt
@@ -69,7 +76,8 @@ within_at first step (p ∷ ps) le a =
     let same : p.step ≤ step = omega arith in
     (low, high, within_at p.step step ps same a.1)
 
-within_more : (first step : ℕ) (ps qs : List PrintValue) → first ≤ step → AreWithin first step ps → AllAt step qs → AreWithin first (step + 1) (ps ++ qs)
+within_more : (first step : ℕ) (ps qs : List PrintValue) → first ≤ step → AreWithin first step ps → AllAt step qs
+    → AreWithin first (step + 1) (ps ++ qs)
 within_more first step [] qs le w a = within_at first step qs le a
 within_more first step (p ∷ ps) qs le w a =
     let below : p.step < step = w.1 in
@@ -88,7 +96,8 @@ one_more p st h =
     (λ f. record { records = h.records; taken = h.taken; prints = h.prints })
     (let taken : length st.records ≡ st.step = h.taken in
     let phase : (record_of st.step ss).phase ≡ 0 + length st.records = omega arith in
-    let count : length (st.records ++ record_of st.step ss ∷ []) ≡ length st.records + 1 = length-append st.records (record_of st.step ss ∷ []) in
+    let count : length (st.records ++ record_of st.step ss ∷ []) ≡ length st.records + 1 =
+    length-append st.records (record_of st.step ss ∷ []) in
     let least : 0 ≤ st.step = omega arith in
     record {
       records = from_more 0 st.records (record_of st.step ss) h.records phase;
@@ -119,13 +128,17 @@ every_print p limit r h = by (status limit (so_far p limit limit)) h
     by (Some s) e =
         let made : ReportValue = record { prints = st.prints; records = st.records; arrays = st.arrays; status = s } in
         let same : made ≡ r = let so : Some made ≡ Some r = e in cc in
-        let within : AreWithin 0 (0 + length st.records) st.prints = subst (λ (k : ℕ). AreWithin 0 k st.prints) (let e : st.step ≡ 0 + length st.records = (let t = good.taken in omega arith) in e) good.prints in
-        let text : steps_text st.prints st.records ≡ each_step st.prints st.records = each-step-has-its-prints 0 st.records st.prints good.records within in
+        let within : AreWithin 0 (0 + length st.records) st.prints =
+        subst (λ (k : ℕ). AreWithin 0 k st.prints) (let e : st.step ≡ 0 + length st.records = (let t = good.taken in omega arith) in e)
+        good.prints in
+        let text : steps_text st.prints st.records ≡ each_step st.prints st.records =
+        each-step-has-its-prints 0 st.records st.prints good.records within in
         let P : ReportValue → Type 0 = λ x. steps_text x.prints x.records ≡ each_step x.prints x.records in
         ap (λ (l : List ℕ). l ++ flat_map array_line r.arrays ++ status_line r.status) (subst P same text)
 
 one_append : (k : ℕ) (p : PrintValue) (ps qs : List PrintValue) → of_step k (ps ++ qs) ≡ of_step k ps ++ of_step k qs
-    → (b : Bool) → (if b then p ∷ of_step k (ps ++ qs) else of_step k (ps ++ qs)) ≡ (if b then p ∷ of_step k ps else of_step k ps) ++ of_step k qs
+    → (b : Bool)
+    → (if b then p ∷ of_step k (ps ++ qs) else of_step k (ps ++ qs)) ≡ (if b then p ∷ of_step k ps else of_step k ps) ++ of_step k qs
 one_append k p ps qs more true = ap (λ (l : List PrintValue). p ∷ l) more
 one_append k p ps qs more false = more
 
@@ -137,7 +150,8 @@ step_append k (p ∷ ps) qs = one_append k p ps qs (step_append k ps qs) (p.step
 all_of_step : (k : ℕ) (ps : List PrintValue) → AllAt k ps → of_step k ps ≡ ps
 all_of_step k [] a = refl
 all_of_step k (p ∷ ps) a =
-    ap (λ (b : Bool). cond b (p ∷ of_step k ps) (of_step k ps)) (eq-eqb p.step k a.0) ∙ ap (λ (l : List PrintValue). p ∷ l) (all_of_step k ps a.1)
+    ap (λ (b : Bool). cond b (p ∷ of_step k ps) (of_step k ps)) (eq-eqb p.step k a.0)
+    ∙ ap (λ (l : List PrintValue). p ∷ l) (all_of_step k ps a.1)
 
 none_at : (k step : ℕ) (ps : List PrintValue) → step ≢ k → AllAt step ps → of_step k ps ≡ []
 none_at k step [] n a = refl
@@ -148,7 +162,8 @@ none_within : (k first : ℕ) (ps : List PrintValue) → AreWithin first k ps �
 none_within k first [] w = refl
 none_within k first (p ∷ ps) w =
     let below : p.step < k = w.1 in
-    ap (λ (b : Bool). cond b (p ∷ of_step k ps) (of_step k ps)) (ne_eqb p.step k (λ (e : p.step ≡ k). absurd (omega arith))) ∙ none_within k p.step ps w.2
+    ap (λ (b : Bool). cond b (p ∷ of_step k ps) (of_step k ps)) (ne_eqb p.step k (λ (e : p.step ≡ k). absurd (omega arith)))
+    ∙ none_within k p.step ps w.2
 
 append_nil : (ps : List PrintValue) → ps ++ [] ≡ ps
 append_nil [] = refl
@@ -164,9 +179,11 @@ either a b lt = split_below a b lt (nat_lt a b) refl
 
 -- each superstep's prints in a state of this job
 abbrev PrintsSo : Program → ℕ → State → Type 0
-PrintsSo p limit st = (k : ℕ) → k < st.step → of_step k st.prints ≡ prints_of k (segments p (so_far p limit k).arrays k (so_far p limit k).live)
+PrintsSo p limit st =
+    (k : ℕ) → k < st.step → of_step k st.prints ≡ prints_of k (segments p (so_far p limit k).arrays k (so_far p limit k).live)
 
-prints_more : (p : Program) (limit n : ℕ) → status limit (so_far p limit n) ≡ None → PrintsSo p limit (so_far p limit n) → PrintsSo p limit (superstep p (so_far p limit n))
+prints_more : (p : Program) (limit n : ℕ) → status limit (so_far p limit n) ≡ None → PrintsSo p limit (so_far p limit n)
+    → PrintsSo p limit (superstep p (so_far p limit n))
 prints_more p limit n going h =
     by_superstep_of (PrintsSo p limit) (so_far p limit n) ss (λ f. h) went (fault_in st.arrays ss)
   where
@@ -179,10 +196,13 @@ prints_more p limit n going h =
     at_n : st.step ≡ n
     at_n = (going_on (job_says p.plans) p.arrays (starts p) limit n going).step
 
-    own : (k : ℕ) → k ≡ st.step → of_step k (prints_of st.step ss) ≡ prints_of k (segments p (so_far p limit k).arrays k (so_far p limit k).live)
+    own : (k : ℕ) → k ≡ st.step
+        → of_step k (prints_of st.step ss) ≡ prints_of k (segments p (so_far p limit k).arrays k (so_far p limit k).live)
     own k e =
-        let P : ℕ → Type 0 = λ x. of_step x (prints_of st.step ss) ≡ prints_of x (segments p (so_far p limit x).arrays x (so_far p limit x).live) in
-        let here : of_step st.step (prints_of st.step ss) ≡ prints_of st.step ss = all_of_step st.step (prints_of st.step ss) (all_printed st.step ss) in
+        let P : ℕ → Type 0 =
+        λ x. of_step x (prints_of st.step ss) ≡ prints_of x (segments p (so_far p limit x).arrays x (so_far p limit x).live) in
+        let here : of_step st.step (prints_of st.step ss) ≡ prints_of st.step ss =
+        all_of_step st.step (prints_of st.step ss) (all_printed st.step ss) in
         let same : so_far p limit st.step ≡ st = ap (so_far p limit) at_n in
         let done : P st.step = here ∙ ap (λ (x : State). prints_of st.step (segments p x.arrays st.step x.live)) (sym same) in
         subst P (sym e) done
@@ -190,15 +210,19 @@ prints_more p limit n going h =
     went : PrintsSo p limit (gone_on st ss (next_live ss))
     went k lt = ⊎_elim
         (λ (e : k ≡ st.step).
-        let none : of_step k st.prints ≡ [] = subst (λ (x : ℕ). of_step x st.prints ≡ []) (sym e) (none_within st.step 0 st.prints (by_superstep p limit n).prints) in
+        let none : of_step k st.prints ≡ [] =
+        subst (λ (x : ℕ). of_step x st.prints ≡ []) (sym e) (none_within st.step 0 st.prints (by_superstep p limit n).prints) in
         step_append k st.prints (prints_of st.step ss) ∙ ap (λ (l : List PrintValue). l ++ of_step k (prints_of st.step ss)) none ∙ own k e)
         (λ (less : k < st.step).
-        let none : of_step k (prints_of st.step ss) ≡ [] = none_at k st.step (prints_of st.step ss) (λ (e : st.step ≡ k). absurd (omega arith)) (all_printed st.step ss) in
-        step_append k st.prints (prints_of st.step ss) ∙ ap (λ (l : List PrintValue). of_step k st.prints ++ l) none ∙ append_nil (of_step k st.prints) ∙ h k less)
+        let none : of_step k (prints_of st.step ss) ≡ [] =
+        none_at k st.step (prints_of st.step ss) (λ (e : st.step ≡ k). absurd (omega arith)) (all_printed st.step ss) in
+        step_append k st.prints (prints_of st.step ss) ∙ ap (λ (l : List PrintValue). of_step k st.prints ++ l) none
+        ∙ append_nil (of_step k st.prints) ∙ h k less)
         (either k st.step lt)
 
 pub prints_of_each : PrintsAreOfTheirSuperstep
-prints_of_each p limit n k lt = along p limit (PrintsSo p limit) (λ j less. absurd (omega arith)) (λ m going h. prints_more p limit m going h) n k lt
+prints_of_each p limit n k lt =
+    along p limit (PrintsSo p limit) (λ j less. absurd (omega arith)) (λ m going h. prints_more p limit m going h) n k lt
 
 -- a record by the segments, and by the tasks
 abbrev bit : Bool → ℕ
@@ -213,15 +237,18 @@ length_is : (p : Program) (st : State) (ts : List Task) → length (segments p s
 length_is p st [] = refl
 length_is p st (t ∷ ts) = ap (λ (k : ℕ). suc k) (length_is p st ts)
 
-spawned_is : (p : Program) (st : State) (ts : List Task) → spawned (segments p st.arrays st.step ts) ≡ sum_by (λ t. length (deed p st t).spawns) ts
+spawned_is : (p : Program) (st : State) (ts : List Task)
+    → spawned (segments p st.arrays st.step ts) ≡ sum_by (λ t. length (deed p st t).spawns) ts
 spawned_is p st [] = refl
 spawned_is p st (t ∷ ts) =
     ap (λ (k : ℕ). length (deed p st t).spawns + k) (spawned_is p st ts) ∙ sym (sum_by-cons (λ x. length (deed p st x).spawns) t ts)
 
-left_is : (p : Program) (st : State) (ts : List Task) → left (segments p st.arrays st.step ts) ≡ count_by (λ t. has_stopped (deed p st t).after) ts
+left_is : (p : Program) (st : State) (ts : List Task)
+    → left (segments p st.arrays st.step ts) ≡ count_by (λ t. has_stopped (deed p st t).after) ts
 left_is p st [] = refl
 left_is p st (t ∷ ts) =
-    ap₂ (λ (a b : ℕ). a + b) (stopped_is (deed p st t).after) (left_is p st ts) ∙ sym (sum_by-cons (λ x. bit (has_stopped (deed p st x).after)) t ts)
+    ap₂ (λ (a b : ℕ). a + b) (stopped_is (deed p st t).after) (left_is p st ts)
+    ∙ sym (sum_by-cons (λ x. bit (has_stopped (deed p st x).after)) t ts)
 
 tells : (p : Program) (st : State) → Tells p st (record_of st.step (segments p st.arrays st.step st.live))
 tells p st = record {
@@ -231,7 +258,8 @@ tells p st = record {
   left = left_is p st st.live;
 }
 
-tell_more : (p : Program) (limit k : ℕ) (rs : List PhaseRecord) (r : PhaseRecord) → TellFrom p limit k rs → Tells p (so_far p limit (k + length rs)) r
+tell_more : (p : Program) (limit k : ℕ) (rs : List PhaseRecord) (r : PhaseRecord) → TellFrom p limit k rs
+    → Tells p (so_far p limit (k + length rs)) r
     → TellFrom p limit k (rs ++ r ∷ [])
 tell_more p limit k [] r a t = let e : k + 0 ≡ k = omega arith in (subst (λ (x : ℕ). Tells p (so_far p limit x) r) e t, tt)
 tell_more p limit k (x ∷ xs) r a t =
@@ -241,9 +269,11 @@ tell_more p limit k (x ∷ xs) r a t =
 abbrev RecordsSo : Program → ℕ → State → Type 0
 RecordsSo p limit st = TellFrom p limit 0 st.records
 
-records_more : (p : Program) (limit n : ℕ) → status limit (so_far p limit n) ≡ None → RecordsSo p limit (so_far p limit n) → RecordsSo p limit (superstep p (so_far p limit n))
+records_more : (p : Program) (limit n : ℕ) → status limit (so_far p limit n) ≡ None → RecordsSo p limit (so_far p limit n)
+    → RecordsSo p limit (superstep p (so_far p limit n))
 records_more p limit n going h =
-    by_superstep_of (RecordsSo p limit) (so_far p limit n) ss (λ f. h) (tell_more p limit 0 st.records (record_of st.step ss) h own) (fault_in st.arrays ss)
+    by_superstep_of (RecordsSo p limit) (so_far p limit n) ss (λ f. h) (tell_more p limit 0 st.records (record_of st.step ss) h own)
+    (fault_in st.arrays ss)
   where
     st : State
     st = so_far p limit n
@@ -252,7 +282,9 @@ records_more p limit n going h =
     ss = segments p st.arrays st.step st.live
 
     at_n : 0 + length st.records ≡ n
-    at_n = let taken = (by_superstep p limit n).taken in let step = (going_on (job_says p.plans) p.arrays (starts p) limit n going).step in omega arith
+    at_n = let taken = (by_superstep p limit n).taken in
+        let step = (going_on (job_says p.plans) p.arrays (starts p) limit n going).step in
+        omega arith
 
     own : Tells p (so_far p limit (0 + length st.records)) (record_of st.step ss)
     own = subst (λ (x : ℕ). Tells p (so_far p limit x) (record_of st.step ss)) (sym at_n) (tells p st)

@@ -23,10 +23,12 @@ use Rattle.job_laws.specs.WorkedFaults.{spawning}
 -- `Faulted` if a task faults; else `TooMany` if over 4096 tasks would live on; else `Overflowed` if a sum isn't one of
 -- 64 signed bits; else `Landed`.
 pub record OutcomesTellWhy : Type 0 where
-  pub faulted : (arrays : List (List ℕ × List ℤ)) (ss : List (List ℕ × Segment)) (f : ℕ × List ℕ) → first_fault ss ≡ Some f → outcome_of arrays ss ≡ Faulted
+  pub faulted : (arrays : List (List ℕ × List ℤ)) (ss : List (List ℕ × Segment)) (f : ℕ × List ℕ) → first_fault ss ≡ Some f
+      → outcome_of arrays ss ≡ Faulted
   pub too_many : (arrays : List (List ℕ × List ℤ)) (ss : List (List ℕ × Segment)) → first_fault ss ≡ None → 4096 < length (next_live ss)
       → outcome_of arrays ss ≡ TooMany
-  pub overflowed : (arrays : List (List ℕ × List ℤ)) (ss : List (List ℕ × Segment)) (put : List ℕ × ℕ) → first_fault ss ≡ None → length (next_live ss) ≤ 4096
+  pub overflowed : (arrays : List (List ℕ × List ℤ)) (ss : List (List ℕ × Segment)) (put : List ℕ × ℕ) → first_fault ss ≡ None
+      → length (next_live ss) ≤ 4096
       → first_over arrays (map log_of ss) ≡ Some put → outcome_of arrays ss ≡ Overflowed
   pub landed : (arrays : List (List ℕ × List ℤ)) (ss : List (List ℕ × Segment)) → first_fault ss ≡ None → length (next_live ss) ≤ 4096
       → first_over arrays (map log_of ss) ≡ None → outcome_of arrays ss ≡ Landed
@@ -37,7 +39,9 @@ outcome_at_first p = outcome_of p.arrays (segments p p.arrays 0 (initial p).live
 
 -- This many tasks. Each adds to a cell that holds the greatest number, spawns a task, and goes on.
 abbrev pub crowd : ℕ → Program
-crowd n = program (array (most ∷ [])) (body 0 (Do (Put Plus (cell (Number (pos 0))) (One (number (pos 1)))) (Do (Spawn 1 arg) (Do Sync Done))) ∷ body 0 Done ∷ [])
+crowd n =
+    program (array (most ∷ []))
+    (body 0 (Do (Put Plus (cell (Number (pos 0))) (One (number (pos 1)))) (Do (Spawn 1 arg) (Do Sync Done))) ∷ body 0 Done ∷ [])
     (replicate n (start 0 (pos 0)))
 
 pub record OutcomesAreWorkedOut : Type 0 where

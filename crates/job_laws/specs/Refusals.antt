@@ -31,7 +31,8 @@ pub record IsFirstOutside (arrays : List (List ℕ × List ℤ)) (es : List (Lis
 -- Paths aren't in order if one doesn't come before the next, whatever the puts. If they are, the first put to no cell
 -- counts.
 pub record LandingsAreRefusedInOrder : Type 0 where
-  pub falling : (arrays : List (List ℕ × List ℤ)) (front back : List (List ℕ × List Put)) (e f : List ℕ × List Put) → path_lt e.0 f.0 ≡ false
+  pub falling : (arrays : List (List ℕ × List ℤ)) (front back : List (List ℕ × List Put)) (e f : List ℕ × List Put)
+      → path_lt e.0 f.0 ≡ false
       → refusal arrays (front ++ e ∷ f ∷ back) ≡ Some NotInOrder
   pub outside : (arrays : List (List ℕ × List ℤ)) (es : List (List ℕ × List Put)) (path : List ℕ) (place : ℕ)
       → refusal arrays es ≡ Some (OutOfRange path place) → IsFirstOutside arrays es path place
@@ -40,8 +41,10 @@ pub record LandingsAreRefusedInOrder : Type 0 where
 -- and one of an order of this round is refused as a second one alone, with 2.
 pub record DeliveriesAreRefusedInOrder : Type 0 where
   pub step : (fault : AcceptFault) (r : RoundValue) (d : DeliveryValue) → Refuses fault r d → d.step ≢ r.step → accept_number fault ≡ 3
-  pub job : (fault : AcceptFault) (r : RoundValue) (d : DeliveryValue) → Refuses fault r d → d.step ≡ r.step → d.job ≢ r.job → accept_number fault ≡ 1
-  pub order : (fault : AcceptFault) (r : RoundValue) (d : DeliveryValue) → Refuses fault r d → d.step ≡ r.step → IsOrdered r d → accept_number fault ≡ 2
+  pub job : (fault : AcceptFault) (r : RoundValue) (d : DeliveryValue) → Refuses fault r d → d.step ≡ r.step → d.job ≢ r.job
+      → accept_number fault ≡ 1
+  pub order : (fault : AcceptFault) (r : RoundValue) (d : DeliveryValue) → Refuses fault r d → d.step ≡ r.step → IsOrdered r d
+      → accept_number fault ≡ 2
 
 -- the numbers of the refusals of a landing and of a closing
 pub record RefusalsAreNumbered : Type 0 where

@@ -108,7 +108,8 @@ faulting_first = program (array (pos 9223372036854775807 ∷ []))
 pub record JobsAreWorkedOut : Type 0 where
   -- both read the array as the superstep began, and both puts land at its end
   pub swapped : report_of swap 10
-      ≡ report (print 1 (0 ∷ []) (pos 20) ∷ print 1 (1 ∷ []) (pos 10) ∷ []) (superstep 0 2 0 0 ∷ superstep 1 2 2 0 ∷ []) (array (pos 20 ∷ pos 10 ∷ [])) (Ended 2)
+      ≡ report (print 1 (0 ∷ []) (pos 20) ∷ print 1 (1 ∷ []) (pos 10) ∷ []) (superstep 0 2 0 0 ∷ superstep 1 2 2 0 ∷ [])
+      (array (pos 20 ∷ pos 10 ∷ [])) (Ended 2)
   -- the last put of the last path wins
   pub last_wins : report_of conflict 10 ≡ report [] (superstep 0 2 2 0 ∷ []) (array (pos 9 ∷ [])) (Ended 1)
   pub last_put_wins : report_of other_conflict 10 ≡ report [] (superstep 0 2 2 0 ∷ []) (array (pos 6 ∷ [])) (Ended 1)
@@ -123,7 +124,8 @@ pub record JobsAreWorkedOut : Type 0 where
   -- nothing of a superstep with a sum that overflows stays, and its fault is that of the task that put it
   pub overflowed : report_of overflowing 10 ≡ report [] [] (array (pos 9223372036854775807 ∷ [])) (Fault 8 0 (0 ∷ []))
   pub fits_in_time : report_of in_time 10
-      ≡ report (print 0 (0 ∷ []) (negsuc 0) ∷ print 0 (1 ∷ []) (pos 1) ∷ []) (superstep 0 2 2 0 ∷ []) (array (pos 9223372036854775807 ∷ [])) (Ended 1)
+      ≡ report (print 0 (0 ∷ []) (negsuc 0) ∷ print 0 (1 ∷ []) (pos 1) ∷ []) (superstep 0 2 2 0 ∷ []) (array (pos 9223372036854775807 ∷ []))
+      (Ended 1)
   -- a put that would cover it doesn't mend it
   pub covered : report_of (record faulting_first { starts = start 0 (pos 1) ∷ [] }) 10
       ≡ report [] [] (array (pos 9223372036854775807 ∷ [])) (Fault 8 0 (0 ∷ []))

@@ -23,7 +23,8 @@ pub record SpawnsAreNumbered : Type 0 where
       → spawn s d b v ≡ Goes (record d { spawns = d.spawns ++ started s.plans (s.path ++ (s.begun + length d.spawns) ∷ []) b v ∷ [] })
   pub too_deep : (s : Setting) (d : Doing) (b : ℕ) (v : ℤ) → 8 ≤ length s.path → spawn s d b v ≡ Fails Depth
   pub too_many_now : (s : Setting) (d : Doing) (b : ℕ) (v : ℤ) → length s.path < 8 → 8 ≤ length d.spawns → spawn s d b v ≡ Fails Spawns
-  pub too_many : (s : Setting) (d : Doing) (b : ℕ) (v : ℤ) → length s.path < 8 → 65535 ≤ s.begun + length d.spawns → spawn s d b v ≡ Fails Spawns
+  pub too_many : (s : Setting) (d : Doing) (b : ℕ) (v : ℤ) → length s.path < 8 → 65535 ≤ s.begun + length d.spawns
+      → spawn s d b v ≡ Fails Spawns
 
 -- a job of one task, whose argument is 0
 abbrev pub alone : ℕ → Block → Program
@@ -49,7 +50,9 @@ chain n = program [] (body 0 (If (Two (Plain Step) Below (number n)) (Do (Spawn 
 
 -- a task spawns this many others, which do nothing
 abbrev pub spawning : ℤ → Program
-spawning n = program [] (body 1 (While (Two (local 0) Below (number n)) (Do (Spawn 1 (One (local 0))) (Do (Let 0 (Two (local 0) Add (number (pos 1)))) Done)) Done)
+spawning n =
+    program []
+    (body 1 (While (Two (local 0) Below (number n)) (Do (Spawn 1 (One (local 0))) (Do (Let 0 (Two (local 0) Add (number (pos 1)))) Done)) Done)
     ∷ body 0 Done ∷ []) (start 0 (pos 0) ∷ [])
 
 -- two supersteps
@@ -57,10 +60,13 @@ abbrev pub in_two : Program
 in_two = program [] (body 0 (Do Sync Done) ∷ []) (start 0 (pos 0) ∷ [])
 
 pub record FaultsAreWorkedOut : Type 0 where
-  pub overflow : report_of (alone 0 (Do (Print (Two (number (pos 9223372036854775807)) Add (number (pos 1)))) Done)) 10 ≡ report [] [] (array (pos 7 ∷ [])) (Fault 1 0 (0 ∷ []))
+  pub overflow : report_of (alone 0 (Do (Print (Two (number (pos 9223372036854775807)) Add (number (pos 1)))) Done)) 10
+      ≡ report [] [] (array (pos 7 ∷ [])) (Fault 1 0 (0 ∷ []))
   -- the array has one cell, of the index 0
-  pub read_outside : report_of (alone 0 (Do (Print (One (At (cell (Number (pos 1)))))) Done)) 10 ≡ report [] [] (array (pos 7 ∷ [])) (Fault 3 0 (0 ∷ []))
-  pub put_outside : report_of (alone 0 (Do (Put Set (cell (Number (negsuc 0))) arg) Done)) 10 ≡ report [] [] (array (pos 7 ∷ [])) (Fault 3 0 (0 ∷ []))
+  pub read_outside : report_of (alone 0 (Do (Print (One (At (cell (Number (pos 1)))))) Done)) 10
+      ≡ report [] [] (array (pos 7 ∷ [])) (Fault 3 0 (0 ∷ []))
+  pub put_outside : report_of (alone 0 (Do (Put Set (cell (Number (negsuc 0))) arg) Done)) 10
+      ≡ report [] [] (array (pos 7 ∷ [])) (Fault 3 0 (0 ∷ []))
   pub inside : report_of (alone 0 (Do (Print (One (At (cell (Number (pos 0)))))) Done)) 10
       ≡ report (print 0 (0 ∷ []) (pos 7) ∷ []) (superstep 0 1 1 0 ∷ []) (array (pos 7 ∷ [])) (Ended 1)
   -- the statement number 100001 of a superstep is one too many
@@ -68,10 +74,16 @@ pub record FaultsAreWorkedOut : Type 0 where
   pub in_budget : report_of (counts_on 49999) 10 ≡ report [] (superstep 0 1 1 0 ∷ []) (array (pos 7 ∷ [])) (Ended 1)
   -- a path has at most 8 numbers
   pub depth : report_of (chain (pos 8)) 10
-      ≡ report [] (superstep 0 2 1 1 ∷ superstep 1 2 1 1 ∷ superstep 2 2 1 1 ∷ superstep 3 2 1 1 ∷ superstep 4 2 1 1 ∷ superstep 5 2 1 1 ∷ superstep 6 2 1 1 ∷ []) []
+      ≡ report []
+      (superstep 0 2 1 1 ∷ superstep 1 2 1 1 ∷ superstep 2 2 1 1 ∷ superstep 3 2 1 1 ∷ superstep 4 2 1 1 ∷ superstep 5 2 1 1
+      ∷ superstep 6 2 1 1 ∷ [])
+      []
       (Fault 5 7 (0 ∷ 0 ∷ 0 ∷ 0 ∷ 0 ∷ 0 ∷ 0 ∷ 0 ∷ []))
   pub in_depth : report_of (chain (pos 7)) 10
-      ≡ report [] (superstep 0 2 1 1 ∷ superstep 1 2 1 1 ∷ superstep 2 2 1 1 ∷ superstep 3 2 1 1 ∷ superstep 4 2 1 1 ∷ superstep 5 2 1 1 ∷ superstep 6 2 1 1 ∷ superstep 7 1 1 0 ∷ []) [] (Ended 8)
+      ≡ report []
+      (superstep 0 2 1 1 ∷ superstep 1 2 1 1 ∷ superstep 2 2 1 1 ∷ superstep 3 2 1 1 ∷ superstep 4 2 1 1 ∷ superstep 5 2 1 1
+      ∷ superstep 6 2 1 1 ∷ superstep 7 1 1 0 ∷ [])
+      [] (Ended 8)
   -- at most 8 spawns in a superstep
   pub spawns : report_of (spawning (pos 9)) 10 ≡ report [] [] [] (Fault 6 0 (0 ∷ []))
   pub eight : report_of (spawning (pos 8)) 10 ≡ report [] (superstep 0 9 1 8 ∷ superstep 1 8 8 0 ∷ []) [] (Ended 2)

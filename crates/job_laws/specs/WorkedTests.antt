@@ -42,14 +42,20 @@ pub record TestsAreWorkedOut : Type 0 where
   -- each number but 0 is a yes
   pub above : report_of (asks (pos 5)) 10 ≡ report (print 0 (0 ∷ []) (pos 1) ∷ []) (superstep 0 1 1 0 ∷ []) (array (pos 7 ∷ [])) (Ended 1)
   pub zero : report_of (asks (pos 0)) 10 ≡ report (print 0 (0 ∷ []) (pos 2) ∷ []) (superstep 0 1 1 0 ∷ []) (array (pos 7 ∷ [])) (Ended 1)
-  pub below : report_of (asks (negsuc 0)) 10 ≡ report (print 0 (0 ∷ []) (pos 1) ∷ []) (superstep 0 1 1 0 ∷ []) (array (pos 7 ∷ [])) (Ended 1)
+  pub below : report_of (asks (negsuc 0)) 10
+      ≡ report (print 0 (0 ∷ []) (pos 1) ∷ []) (superstep 0 1 1 0 ∷ []) (array (pos 7 ∷ [])) (Ended 1)
   pub far_below : report_of (asks least) 10 ≡ report (print 0 (0 ∷ []) (pos 1) ∷ []) (superstep 0 1 1 0 ∷ []) (array (pos 7 ∷ [])) (Ended 1)
   pub once_zero : report_of (asks_once (pos 0)) 10 ≡ report [] (superstep 0 1 1 0 ∷ []) (array (pos 7 ∷ [])) (Ended 1)
-  pub once_below : report_of (asks_once (negsuc 0)) 10 ≡ report (print 0 (0 ∷ []) (pos 1) ∷ []) (superstep 0 1 1 0 ∷ []) (array (pos 7 ∷ [])) (Ended 1)
+  pub once_below : report_of (asks_once (negsuc 0)) 10
+      ≡ report (print 0 (0 ∷ []) (pos 1) ∷ []) (superstep 0 1 1 0 ∷ []) (array (pos 7 ∷ [])) (Ended 1)
   pub while_below : report_of (where_local (negsuc 1) counts_up) 10
       ≡ report (print 0 (0 ∷ []) (negsuc 1) ∷ print 0 (0 ∷ []) (negsuc 0) ∷ []) (superstep 0 1 1 0 ∷ []) (array (pos 7 ∷ [])) (Ended 1)
   -- no negative number is an index
-  pub read_below : report_of (where_local (negsuc 0) (Do (Print (One (At (cell (Local 0))))) Done)) 10 ≡ report [] [] (array (pos 7 ∷ [])) (Fault 3 0 (0 ∷ []))
-  pub test_below : report_of (alone 0 (If (One (At (cell (Number (negsuc 0))))) Done Done)) 10 ≡ report [] [] (array (pos 7 ∷ [])) (Fault 3 0 (0 ∷ []))
-  pub put_below : report_of (where_local (negsuc 0) (Do (Put Set (cell (Local 0)) (One (number (pos 1)))) Done)) 10 ≡ report [] [] (array (pos 7 ∷ [])) (Fault 3 0 (0 ∷ []))
-  pub add_below : report_of (where_local (negsuc 0) (Do (Put Plus (cell (Local 0)) (One (number (pos 1)))) Done)) 10 ≡ report [] [] (array (pos 7 ∷ [])) (Fault 3 0 (0 ∷ []))
+  pub read_below : report_of (where_local (negsuc 0) (Do (Print (One (At (cell (Local 0))))) Done)) 10
+      ≡ report [] [] (array (pos 7 ∷ [])) (Fault 3 0 (0 ∷ []))
+  pub test_below : report_of (alone 0 (If (One (At (cell (Number (negsuc 0))))) Done Done)) 10
+      ≡ report [] [] (array (pos 7 ∷ [])) (Fault 3 0 (0 ∷ []))
+  pub put_below : report_of (where_local (negsuc 0) (Do (Put Set (cell (Local 0)) (One (number (pos 1)))) Done)) 10
+      ≡ report [] [] (array (pos 7 ∷ [])) (Fault 3 0 (0 ∷ []))
+  pub add_below : report_of (where_local (negsuc 0) (Do (Put Plus (cell (Local 0)) (One (number (pos 1)))) Done)) 10
+      ≡ report [] [] (array (pos 7 ∷ [])) (Fault 3 0 (0 ∷ []))

@@ -8,12 +8,14 @@ use Rattle.job_laws.specs.Worked.{swap, spawns, faulting, forever, print, supers
 
 pub record ReportsAreWrittenSo : Type 0 where
   pub ended : option_map report_text (report_of swap 10)
-      ≡ Some (codes "phase 0 parties 2 left 0 spawned 0\nprint 1 0 20\nprint 1 1 10\nphase 1 parties 2 left 2 spawned 0\narray a 20 10\nended 2\n")
+      ≡ Some
+      (codes "phase 0 parties 2 left 0 spawned 0\nprint 1 0 20\nprint 1 1 10\nphase 1 parties 2 left 2 spawned 0\narray a 20 10\nended 2\n")
   -- points between the numbers of a path
   pub spawned : option_map report_text (report_of spawns 10)
       ≡ Some (codes "phase 0 parties 2 left 0 spawned 1\nprint 1 0.0 5\nphase 1 parties 2 left 2 spawned 0\nended 2\n")
   pub faulted : option_map report_text (report_of faulting 10) ≡ Some (codes "array a 7\nfault 2 step 0 path 1\n")
-  pub limited : option_map report_text (report_of forever 2) ≡ Some (codes "phase 0 parties 1 left 0 spawned 0\nphase 1 parties 1 left 0 spawned 0\nlimit 2\n")
+  pub limited : option_map report_text (report_of forever 2)
+      ≡ Some (codes "phase 0 parties 1 left 0 spawned 0\nphase 1 parties 1 left 0 spawned 0\nlimit 2\n")
   -- a fault of no task; numbers below 0; a path of three numbers
   pub of_nobody : report_text (record {
     prints = print 0 (10 ∷ 2 ∷ 0 ∷ []) (negsuc 6) ∷ [];

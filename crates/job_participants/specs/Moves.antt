@@ -14,7 +14,8 @@ abbrev pub by_stage : ParticipantValue → ℕ → Bool → Stage → Option Mov
 by_stage g place due Waits = None
 by_stage g place due Taken = Some (Delivers place)
 by_stage g place due Polling = Some (Calls place g.token call.Poll)
-by_stage g place due (Joining joined) = Some (Calls place (child_at g.children joined).token (call.Join (child_at g.children joined).home 1))
+by_stage g place due (Joining joined) =
+    Some (Calls place (child_at g.children joined).token (call.Join (child_at g.children joined).home 1))
 by_stage g place due (Arriving arrived) = Some (Calls place (child_at g.children arrived).token call.Arrive)
 by_stage g place due Leaving = passing due place g.token g.synced
 by_stage g place due Over = None

@@ -16,10 +16,12 @@ boards_some : (e : Extent) (across every count cells n : ℕ) (values : List ℤ
 boards_some e across every count cells zero values h = absurd (omega arith)
 boards_some e across every count cells (suc n) values h =
     let p : suc n - 1 ≡ n = omega arith in
-    ap (λ (k : ℕ). board_at e across every count cells (suc n) values ++ boards_from e across every count cells k (drop cells values)) (sym p)
+    ap (λ (k : ℕ). board_at e across every count cells (suc n) values ++ boards_from e across every count cells k (drop cells values))
+    (sym p)
 
 -- one board more
-pub next_board : (e : Extent) (across every count cells n : ℕ) (values back : List ℤ) (out new all : List ℕ) → 0 < n → back ≡ drop cells values
+pub next_board : (e : Extent) (across every count cells n : ℕ) (values back : List ℤ) (out new all : List ℕ) → 0 < n
+    → back ≡ drop cells values
     → new ≡ out ++ board_at e across every count cells n values → out ++ boards_from e across every count cells n values ≡ all
     → new ++ boards_from e across every count cells (n - 1) back ≡ all
 next_board e across every count cells n values back out new all h b s t =

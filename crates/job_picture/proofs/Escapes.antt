@@ -12,7 +12,8 @@ none_escaped (a ∷ []) more e = absurd cc
 none_escaped (a ∷ b ∷ []) more e = absurd cc
 none_escaped (a ∷ b ∷ c ∷ rest) more e = by (is_none a b c) e
   where
-    by : (x : Bool) → (if x then Some rest else None) ≡ Some more → (if x then 32 ∷ escape rest else escaped a ++ escape (b ∷ c ∷ rest)) ≡ 32 ∷ escape more
+    by : (x : Bool) → (if x then Some rest else None) ≡ Some more
+        → (if x then 32 ∷ escape rest else escaped a ++ escape (b ∷ c ∷ rest)) ≡ 32 ∷ escape more
     by true h = let same : rest ≡ more = cc in ap (λ (xs : List ℕ). 32 ∷ escape xs) same
     by false h = absurd cc
 
@@ -22,7 +23,8 @@ byte_escaped a [] e = sym (append-nil (escaped a))
 byte_escaped a (b ∷ []) e = refl
 byte_escaped a (b ∷ c ∷ rest) e = by (is_none a b c) e
   where
-    by : (x : Bool) → (if x then Some rest else None) ≡ None → (if x then 32 ∷ escape rest else escaped a ++ escape (b ∷ c ∷ rest)) ≡ escaped a ++ escape (b ∷ c ∷ rest)
+    by : (x : Bool) → (if x then Some rest else None) ≡ None
+        → (if x then 32 ∷ escape rest else escaped a ++ escape (b ∷ c ∷ rest)) ≡ escaped a ++ escape (b ∷ c ∷ rest)
     by true h = absurd cc
     by false h = refl
 
@@ -38,7 +40,9 @@ byte_text : (b : ℕ) (rest : List ℕ) → is_text (escaped b ++ rest) ≡ is_t
 byte_text b rest = by (b == 38) (b == 60) (b == 62) (nat_lt b 32) refl refl refl refl
   where
     by : (p q r s : Bool) → (b == 38) ≡ p → (b == 60) ≡ q → (b == 62) ≡ r → nat_lt b 32 ≡ s
-        → is_text ((if p then codes "&amp;" else if q then codes "&lt;" else if r then codes "&gt;" else if s then codes " " else b ∷ []) ++ rest) ≡ is_text rest
+        → is_text
+        ((if p then codes "&amp;" else if q then codes "&lt;" else if r then codes "&gt;" else if s then codes " " else b ∷ []) ++ rest)
+        ≡ is_text rest
     by true q r s e f g h = refl
     by false true r s e f g h = refl
     by false false true s e f g h = refl

@@ -21,8 +21,10 @@ same_file : (name : Option (List ℕ)) (steps most : ℕ) (status : Status) (col
     → file name steps most status columns ps ≡ viewed_file name steps most status columns (views_of ps)
 unfolding file viewed_file
 same_file name steps most status columns ps =
-    ap₂ (λ (high : ℕ) (xs : List ℕ). head (320 + high) ++ supersteps name steps most status columns ++ xs ++ codes "</svg>\n") (same_height ps) (same_from 310 ps)
+    ap₂ (λ (high : ℕ) (xs : List ℕ). head (320 + high) ++ supersteps name steps most status columns ++ xs ++ codes "</svg>\n")
+    (same_height ps) (same_from 310 ps)
 
 -- a picture with panels is one with their views
-pub shown : (text : List ℕ) (name : Option (List ℕ)) (ps : List Panel) (r : ReportValue) → text ≡ picture_with name ps r → text ≡ viewed name (views_of ps) r
+pub shown : (text : List ℕ) (name : Option (List ℕ)) (ps : List Panel) (r : ReportValue) → text ≡ picture_with name ps r
+    → text ≡ viewed name (views_of ps) r
 shown text name ps r e = e ∙ same_file name _ _ _ _ ps

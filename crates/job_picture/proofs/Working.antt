@@ -11,4 +11,18 @@ pictures_are_worked_out = record { faulted = refl; ended = refl; limited = refl;
 
 pub panels_are_worked_out : PanelsAreWorkedOut
 unfolding fmt.digits
-panels_are_worked_out = record { board = refl; over_time = refl; boards = refl; missing = refl; board_height = refl; over_time_height = refl; boards_height = refl; named = refl; ampersand = refl; bytes = refl; none = refl; unnamed = refl }
+panels_are_worked_out =
+    record {
+      board = refl;
+      over_time = refl;
+      boards = refl;
+      missing = refl;
+      board_height = refl;
+      over_time_height = refl;
+      boards_height = refl;
+      named = refl;
+      ampersand = refl;
+      bytes = refl;
+      none = refl;
+      unnamed = refl;
+    }

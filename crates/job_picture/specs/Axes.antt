@@ -6,7 +6,8 @@ use Rattle.std.specs.Prelude.{ℕ, zero, suc, ◌+◌, ◌-◌, ◌/◌, nat_le,
 abbrev pub party_tick : ℕ → ℕ → List ℕ
 party_tick most n =
     codes "<g transform=\"translate(0," ++ decimal (most - n) ++ codes ") scale(.00125," ++ decimal most
-    ++ codes ") scale(1,.005)\"><path class=\"a\" d=\"M-5 0H800\"/><text class=\"n\" x=\"-9\" y=\"4\">" ++ decimal n ++ codes "</text></g>\n"
+    ++ codes ") scale(1,.005)\"><path class=\"a\" d=\"M-5 0H800\"/><text class=\"n\" x=\"-9\" y=\"4\">" ++ decimal n
+    ++ codes "</text></g>\n"
 
 -- a number below the middle of its superstep, of `steps`
 abbrev pub step_tick : ℕ → ℕ → List ℕ

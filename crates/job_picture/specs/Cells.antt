@@ -8,7 +8,8 @@ use Rattle.job_picture.specs.declared.cells.Extent.{Extent}
 -- a byte of a name as a text of XML may hold it; one that none may hold is a space
 abbrev pub escaped : ℕ → List ℕ
 escaped b =
-    if b == 38 then codes "&amp;" else if b == 60 then codes "&lt;" else if b == 62 then codes "&gt;" else if nat_lt b 32 then codes " " else b ∷ []
+    if b == 38 then codes "&amp;" else if b == 60 then codes "&lt;" else if b == 62 then codes "&gt;" else if nat_lt b 32 then codes " "
+    else b ∷ []
 
 -- the bytes of U+FFFE and of U+FFFF, which no text of XML may hold
 abbrev pub is_none : ℕ → ℕ → ℕ → Bool
@@ -60,7 +61,8 @@ longest values = fold (λ n v. max n (length (signed_decimal v))) 1 values
 -- a value in the middle of its cell, of `count`
 abbrev pub value_at : ℕ → ℕ → ℤ → List ℕ
 value_at count at v =
-    codes "<text class=\"v\" transform=\"translate(" ++ decimal at ++ codes ".5,.68) scale(" ++ decimal count ++ codes ",1) scale(.00125,.04)\">"
+    codes "<text class=\"v\" transform=\"translate(" ++ decimal at ++ codes ".5,.68) scale(" ++ decimal count
+    ++ codes ",1) scale(.00125,.04)\">"
     ++ signed_decimal v ++ codes "</text>\n"
 
 -- the last values, out of `count`
@@ -90,7 +92,8 @@ abbrev pub strip : ℕ → List ℕ × List ℤ → List ℕ
 strip top a =
     caption top a.0 (length a.1) (extent_of a.1)
     ++ codes "</text>\n<svg x=\"80\" y=\"18\" width=\"800\" height=\"25\" viewBox=\"0 0 " ++ decimal (length a.1)
-    ++ codes " 1\" preserveAspectRatio=\"none\" overflow=\"visible\"><g class=\"c\">\n" ++ cells_from (extent_of a.1) (length a.1) a.1 ++ codes "</g>\n"
+    ++ codes " 1\" preserveAspectRatio=\"none\" overflow=\"visible\"><g class=\"c\">\n" ++ cells_from (extent_of a.1) (length a.1) a.1
+    ++ codes "</g>\n"
     ++ shown_values a.1 ++ codes "</svg><path class=\"o\" d=\"M80 18h800v25h-800z\"/></g>\n"
 
 -- arrays, with `place` others before the first

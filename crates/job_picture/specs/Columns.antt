@@ -47,7 +47,8 @@ joined (suc n) group columns =
 -- high
 abbrev pub bar : List ℕ → ℕ → ℕ → ℕ → ℕ → List ℕ
 bar class at steps up height =
-    codes "<rect class=\"" ++ class ++ codes "\" x=\"" ++ decimal at ++ codes "\" width=\"" ++ decimal (steps - 1) ++ codes ".9\" y=\"" ++ decimal up
+    codes "<rect class=\"" ++ class ++ codes "\" x=\"" ++ decimal at ++ codes "\" width=\"" ++ decimal (steps - 1) ++ codes ".9\" y=\""
+    ++ decimal up
     ++ codes "\" height=\"" ++ decimal height ++ codes "\"/>\n"
 
 -- the parties of a column; before them those that left, from the bottom, and those that were spawned, from the top

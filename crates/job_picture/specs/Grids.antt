@@ -39,13 +39,16 @@ layers e across values (suc n) = layers e across values n ++ layer e across valu
 -- where cells are drawn, and how many there are across and down
 abbrev pub frame_head : Frame → List ℕ
 frame_head f =
-    codes "<svg x=\"" ++ decimal f.left ++ codes "\" y=\"" ++ decimal f.top ++ codes "\" width=\"" ++ decimal f.wide ++ codes "\" height=\"" ++ decimal f.high
-    ++ codes "\" viewBox=\"0 -.5 " ++ decimal f.across ++ codes " " ++ decimal f.down ++ codes "\" preserveAspectRatio=\"none\" stroke=\"#6d9fd6\">\n"
+    codes "<svg x=\"" ++ decimal f.left ++ codes "\" y=\"" ++ decimal f.top ++ codes "\" width=\"" ++ decimal f.wide ++ codes "\" height=\""
+    ++ decimal f.high
+    ++ codes "\" viewBox=\"0 -.5 " ++ decimal f.across ++ codes " " ++ decimal f.down
+    ++ codes "\" preserveAspectRatio=\"none\" stroke=\"#6d9fd6\">\n"
 
 -- a line round them
 abbrev pub frame_end : Frame → List ℕ
 frame_end f =
-    codes "</svg><path class=\"o\" d=\"M" ++ decimal f.left ++ codes " " ++ decimal f.top ++ codes "h" ++ decimal f.wide ++ codes "v" ++ decimal f.high
+    codes "</svg><path class=\"o\" d=\"M" ++ decimal f.left ++ codes " " ++ decimal f.top ++ codes "h" ++ decimal f.wide ++ codes "v"
+    ++ decimal f.high
     ++ codes "h-" ++ decimal f.wide ++ codes "z\"/>\n"
 
 abbrev pub grid : Frame → Extent → ℕ → List ℤ → List ℕ

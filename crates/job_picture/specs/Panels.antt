@@ -31,7 +31,8 @@ row_numbers f every =
 
 -- the superstep of a small board, above it
 abbrev pub board_number : Frame → ℕ → List ℕ
-board_number f n = codes "<text x=\"" ++ decimal f.left ++ codes "\" y=\"" ++ decimal (f.top - 4) ++ codes "\">" ++ decimal n ++ codes "</text>\n"
+board_number f n =
+    codes "<text x=\"" ++ decimal f.left ++ codes "\" y=\"" ++ decimal (f.top - 4) ++ codes "\">" ++ decimal n ++ codes "</text>\n"
 
 abbrev pub small_board : Frame → Extent → ℕ → ℕ → List ℤ → List ℕ
 small_board f e across n values = board_number f n ++ grid f e across values
@@ -58,7 +59,8 @@ across_of across = max across 1
 -- what is written over an array that isn't there
 abbrev pub missing : ℕ → List ℕ → List ℕ
 missing top name =
-    codes "<g transform=\"translate(0," ++ decimal top ++ codes ")\"><text class=\"k\" x=\"80\" y=\"12\">" ++ escape name ++ codes ": no such array</text></g>\n"
+    codes "<g transform=\"translate(0," ++ decimal top ++ codes ")\"><text class=\"k\" x=\"80\" y=\"12\">" ++ escape name
+    ++ codes ": no such array</text></g>\n"
 
 abbrev pub board : ℕ → List ℕ → ℕ → List ℤ → ℕ → List ℕ
 board top name cells values across =
@@ -86,7 +88,8 @@ drawn top name cells values Missing = missing top name
 
 -- how high a panel is
 abbrev pub small_lines : ℕ → ℕ → List ℤ → ℕ
-small_lines across cells values = div_ceil (board_count cells values) (beside (small_frame across cells)) * ((small_frame across cells).high + 20)
+small_lines across cells values =
+    div_ceil (board_count cells values) (beside (small_frame across cells)) * ((small_frame across cells).high + 20)
 
 abbrev pub height : ℕ → List ℤ → Form → ℕ
 height cells values Strip = 50

@@ -41,20 +41,24 @@ named (Some (c ∷ cs)) = escape (c ∷ cs) ++ codes ": "
 
 abbrev pub title : Option (List ℕ) → ℕ → ℕ → Status → List ℕ
 title name steps most status =
-    codes "<text class=\"t\" x=\"20\" y=\"24\">" ++ named name ++ codes "supersteps " ++ decimal steps ++ codes ", parties at most " ++ decimal most ++ codes ", " ++ ending status
+    codes "<text class=\"t\" x=\"20\" y=\"24\">" ++ named name ++ codes "supersteps " ++ decimal steps ++ codes ", parties at most "
+    ++ decimal most ++ codes ", " ++ ending status
     ++ sharing (group_of steps) ++ codes "</text>\n"
 
 -- the size, so high, and the colours of each class
 abbrev pub head : ℕ → List ℕ
 head high =
-    codes "<svg xmlns=\"http://www.w3.org/2000/svg\" viewBox=\"0 0 920 " ++ decimal high ++ codes "\" font-family=\"sans-serif\" font-size=\"12\">\n"
-    ++ codes "<style>.p,.c{fill:#6d9fd6}.l{fill:#d9776c}.s{fill:#6fbf73}.d{fill:#444}.t{font-size:15px;font-weight:bold}.n{text-anchor:end}.m,.v{text-anchor:middle}.a{stroke:#ccc}.o{fill:none;stroke:#999}</style>\n"
+    codes "<svg xmlns=\"http://www.w3.org/2000/svg\" viewBox=\"0 0 920 " ++ decimal high
+    ++ codes "\" font-family=\"sans-serif\" font-size=\"12\">\n"
+    ++ codes
+    "<style>.p,.c{fill:#6d9fd6}.l{fill:#d9776c}.s{fill:#6fbf73}.d{fill:#444}.t{font-size:15px;font-weight:bold}.n{text-anchor:end}.m,.v{text-anchor:middle}.a{stroke:#ccc}.o{fill:none;stroke:#999}</style>\n"
     ++ codes "<rect width=\"100%\" height=\"100%\" fill=\"#fff\"/>\n"
 
 -- what the colours mean
 abbrev pub legend : List ℕ
 legend =
-    codes "<text class=\"n\" x=\"71\" y=\"42\">parties</text><text class=\"n\" x=\"71\" y=\"265\">printed</text><text class=\"n\" x=\"71\" y=\"279\">superstep</text>\n"
+    codes
+    "<text class=\"n\" x=\"71\" y=\"42\">parties</text><text class=\"n\" x=\"71\" y=\"265\">printed</text><text class=\"n\" x=\"71\" y=\"279\">superstep</text>\n"
     ++ codes "<rect class=\"p\" x=\"80\" y=\"287\" width=\"10\" height=\"10\"/><text x=\"95\" y=\"296\">lives on</text>"
     ++ codes "<rect class=\"l\" x=\"180\" y=\"287\" width=\"10\" height=\"10\"/><text x=\"195\" y=\"296\">left</text>"
     ++ codes "<rect class=\"s\" x=\"280\" y=\"287\" width=\"10\" height=\"10\"/><text x=\"295\" y=\"296\">spawned</text>"
@@ -63,7 +67,8 @@ legend =
 -- where a part of the file with other units begins: how high it is, and how many units it has across and up
 abbrev pub part_head : List ℕ → ℕ → ℕ → List ℕ
 part_head place across up =
-    codes "<svg x=\"80\" width=\"800\" " ++ place ++ codes " preserveAspectRatio=\"none\" viewBox=\"0 0 " ++ decimal across ++ codes " " ++ decimal up
+    codes "<svg x=\"80\" width=\"800\" " ++ place ++ codes " preserveAspectRatio=\"none\" viewBox=\"0 0 " ++ decimal across ++ codes " "
+    ++ decimal up
     ++ codes "\" overflow=\"visible\">\n"
 
 -- the lines across, for `most` parties
@@ -73,7 +78,8 @@ lines most = part_head (codes "y=\"50\" height=\"200\"") 1 most ++ ticks (party_
 -- the columns over them, with units that go up
 abbrev pub heights : ℕ → ℕ → List Column → List ℕ
 heights steps most columns =
-    part_head (codes "y=\"50\" height=\"200\"") steps most ++ codes "<g transform=\"scale(1,-1) translate(0,-" ++ decimal most ++ codes ")\">\n"
+    part_head (codes "y=\"50\" height=\"200\"") steps most ++ codes "<g transform=\"scale(1,-1) translate(0,-" ++ decimal most
+    ++ codes ")\">\n"
     ++ flat_map bars columns ++ codes "</g>\n</svg>\n"
 
 -- below them the ticks where tasks printed, and the numbers of supersteps
@@ -94,7 +100,8 @@ most_parties r = (greatest (columns_of r.prints r.records)).counts.parties
 -- `steps` supersteps, with at most `most` parties, as these columns
 abbrev pub supersteps : Option (List ℕ) → ℕ → ℕ → Status → List Column → List ℕ
 supersteps name steps most status columns =
-    title name steps most status ++ legend ++ lines (max most 1) ++ heights (max steps 1) (max most 1) columns ++ below (max steps 1) columns
+    title name steps most status ++ legend ++ lines (max most 1) ++ heights (max steps 1) (max most 1) columns
+    ++ below (max steps 1) columns
 
 -- the whole of `steps` supersteps, with at most `most` parties, and of these panels
 unfoldable pub file : Option (List ℕ) → ℕ → ℕ → Status → List Column → List Panel → List ℕ

@@ -19,17 +19,25 @@ faulted_report = record {
 abbrev pub faulted_picture : List ℕ
 faulted_picture =
     codes "<svg xmlns=\"http://www.w3.org/2000/svg\" viewBox=\"0 0 920 370\" font-family=\"sans-serif\" font-size=\"12\">\n"
-    ++ codes "<style>.p,.c{fill:#6d9fd6}.l{fill:#d9776c}.s{fill:#6fbf73}.d{fill:#444}.t{font-size:15px;font-weight:bold}.n{text-anchor:end}.m,.v{text-anchor:middle}.a{stroke:#ccc}.o{fill:none;stroke:#999}</style>\n"
+    ++ codes
+    "<style>.p,.c{fill:#6d9fd6}.l{fill:#d9776c}.s{fill:#6fbf73}.d{fill:#444}.t{font-size:15px;font-weight:bold}.n{text-anchor:end}.m,.v{text-anchor:middle}.a{stroke:#ccc}.o{fill:none;stroke:#999}</style>\n"
     ++ codes "<rect width=\"100%\" height=\"100%\" fill=\"#fff\"/>\n"
     ++ codes "<text class=\"t\" x=\"20\" y=\"24\">supersteps 2, parties at most 4, fault 3 in superstep 1</text>\n"
-    ++ codes "<text class=\"n\" x=\"71\" y=\"42\">parties</text><text class=\"n\" x=\"71\" y=\"265\">printed</text><text class=\"n\" x=\"71\" y=\"279\">superstep</text>\n"
-    ++ codes "<rect class=\"p\" x=\"80\" y=\"287\" width=\"10\" height=\"10\"/><text x=\"95\" y=\"296\">lives on</text><rect class=\"l\" x=\"180\" y=\"287\" width=\"10\" height=\"10\"/><text x=\"195\" y=\"296\">left</text><rect class=\"s\" x=\"280\" y=\"287\" width=\"10\" height=\"10\"/><text x=\"295\" y=\"296\">spawned</text><rect class=\"d\" x=\"380\" y=\"287\" width=\"10\" height=\"10\"/><text x=\"395\" y=\"296\">some task printed</text>\n"
+    ++ codes
+    "<text class=\"n\" x=\"71\" y=\"42\">parties</text><text class=\"n\" x=\"71\" y=\"265\">printed</text><text class=\"n\" x=\"71\" y=\"279\">superstep</text>\n"
+    ++ codes
+    "<rect class=\"p\" x=\"80\" y=\"287\" width=\"10\" height=\"10\"/><text x=\"95\" y=\"296\">lives on</text><rect class=\"l\" x=\"180\" y=\"287\" width=\"10\" height=\"10\"/><text x=\"195\" y=\"296\">left</text><rect class=\"s\" x=\"280\" y=\"287\" width=\"10\" height=\"10\"/><text x=\"295\" y=\"296\">spawned</text><rect class=\"d\" x=\"380\" y=\"287\" width=\"10\" height=\"10\"/><text x=\"395\" y=\"296\">some task printed</text>\n"
     ++ codes "<svg x=\"80\" width=\"800\" y=\"50\" height=\"200\" preserveAspectRatio=\"none\" viewBox=\"0 0 1 4\" overflow=\"visible\">\n"
-    ++ codes "<g transform=\"translate(0,4) scale(.00125,4) scale(1,.005)\"><path class=\"a\" d=\"M-5 0H800\"/><text class=\"n\" x=\"-9\" y=\"4\">0</text></g>\n"
-    ++ codes "<g transform=\"translate(0,3) scale(.00125,4) scale(1,.005)\"><path class=\"a\" d=\"M-5 0H800\"/><text class=\"n\" x=\"-9\" y=\"4\">1</text></g>\n"
-    ++ codes "<g transform=\"translate(0,2) scale(.00125,4) scale(1,.005)\"><path class=\"a\" d=\"M-5 0H800\"/><text class=\"n\" x=\"-9\" y=\"4\">2</text></g>\n"
-    ++ codes "<g transform=\"translate(0,1) scale(.00125,4) scale(1,.005)\"><path class=\"a\" d=\"M-5 0H800\"/><text class=\"n\" x=\"-9\" y=\"4\">3</text></g>\n"
-    ++ codes "<g transform=\"translate(0,0) scale(.00125,4) scale(1,.005)\"><path class=\"a\" d=\"M-5 0H800\"/><text class=\"n\" x=\"-9\" y=\"4\">4</text></g>\n"
+    ++ codes
+    "<g transform=\"translate(0,4) scale(.00125,4) scale(1,.005)\"><path class=\"a\" d=\"M-5 0H800\"/><text class=\"n\" x=\"-9\" y=\"4\">0</text></g>\n"
+    ++ codes
+    "<g transform=\"translate(0,3) scale(.00125,4) scale(1,.005)\"><path class=\"a\" d=\"M-5 0H800\"/><text class=\"n\" x=\"-9\" y=\"4\">1</text></g>\n"
+    ++ codes
+    "<g transform=\"translate(0,2) scale(.00125,4) scale(1,.005)\"><path class=\"a\" d=\"M-5 0H800\"/><text class=\"n\" x=\"-9\" y=\"4\">2</text></g>\n"
+    ++ codes
+    "<g transform=\"translate(0,1) scale(.00125,4) scale(1,.005)\"><path class=\"a\" d=\"M-5 0H800\"/><text class=\"n\" x=\"-9\" y=\"4\">3</text></g>\n"
+    ++ codes
+    "<g transform=\"translate(0,0) scale(.00125,4) scale(1,.005)\"><path class=\"a\" d=\"M-5 0H800\"/><text class=\"n\" x=\"-9\" y=\"4\">4</text></g>\n"
     ++ codes "</svg>\n"
     ++ codes "<svg x=\"80\" width=\"800\" y=\"50\" height=\"200\" preserveAspectRatio=\"none\" viewBox=\"0 0 2 4\" overflow=\"visible\">\n"
     ++ codes "<g transform=\"scale(1,-1) translate(0,-4)\">\n"
@@ -49,7 +57,8 @@ faulted_picture =
     ++ codes "<g transform=\"translate(1.5,0) scale(2,1) scale(.00125,.05)\"><text class=\"m\" y=\"12\">1</text></g>\n"
     ++ codes "</svg>\n"
     ++ codes "<g transform=\"translate(0,310)\"><text class=\"k\" x=\"80\" y=\"12\">a: cells 2, least -1, greatest 8</text>\n"
-    ++ codes "<svg x=\"80\" y=\"18\" width=\"800\" height=\"25\" viewBox=\"0 0 2 1\" preserveAspectRatio=\"none\" overflow=\"visible\"><g class=\"c\">\n"
+    ++ codes
+    "<svg x=\"80\" y=\"18\" width=\"800\" height=\"25\" viewBox=\"0 0 2 1\" preserveAspectRatio=\"none\" overflow=\"visible\"><g class=\"c\">\n"
     ++ codes "<rect x=\"0\" width=\"1\" height=\"1\" fill-opacity=\".0\"/>\n"
     ++ codes "<rect x=\"1\" width=\"1\" height=\"1\" fill-opacity=\".9\"/>\n"
     ++ codes "</g>\n"

@@ -25,7 +25,8 @@ time_values = pos 0 ∷ pos 1 ∷ pos 2 ∷ pos 2 ∷ pos 1 ∷ pos 0 ∷ []
 
 abbrev pub worked_over_time : List ℕ
 worked_over_time =
-    codes "<g transform=\"translate(0,380)\"><text class=\"k\" x=\"80\" y=\"12\">t: cells 3, least 0, greatest 2, a row every 3 supersteps</text>\n"
+    codes
+    "<g transform=\"translate(0,380)\"><text class=\"k\" x=\"80\" y=\"12\">t: cells 3, least 0, greatest 2, a row every 3 supersteps</text>\n"
     ++ codes "<text class=\"n\" x=\"71\" y=\"28\">0</text>\n"
     ++ codes "<text class=\"n\" x=\"71\" y=\"58\">3</text>\n"
     ++ codes "<svg x=\"80\" y=\"18\" width=\"60\" height=\"40\" viewBox=\"0 -.5 3 2\" preserveAspectRatio=\"none\" stroke=\"#6d9fd6\">\n"
@@ -40,7 +41,8 @@ boards_values = pos 0 ∷ pos 1 ∷ pos 1 ∷ pos 0 ∷ pos 1 ∷ pos 0 ∷ pos 
 
 abbrev pub worked_boards : List ℕ
 worked_boards =
-    codes "<g transform=\"translate(0,450)\"><text class=\"k\" x=\"80\" y=\"12\">g: cells 4, least 0, greatest 1, a board a superstep</text>\n"
+    codes
+    "<g transform=\"translate(0,450)\"><text class=\"k\" x=\"80\" y=\"12\">g: cells 4, least 0, greatest 1, a board a superstep</text>\n"
     ++ codes "<text x=\"80\" y=\"34\">0</text>\n"
     ++ codes "<svg x=\"80\" y=\"38\" width=\"16\" height=\"16\" viewBox=\"0 -.5 2 2\" preserveAspectRatio=\"none\" stroke=\"#6d9fd6\">\n"
     ++ codes "<path opacity=\".9\" d=\"M1 0h1M0 1h1\"/>\n"

@@ -23,7 +23,8 @@ beside_tasks (t ∷ ts) [] e = absurd (omega (arith, e))
 beside_tasks (t ∷ ts) (d ∷ ds) e = ap (λ (us : List TaskValue). t ∷ us) (beside_tasks ts ds (omega (arith, e)))
 
 -- those that live on are after what was delivered
-pub beside_living : (ts : List TaskValue) (ds : List (Option SegmentValue)) → length ts ≡ length ds → living_in (beside ts ds) ≡ living_by ds
+pub beside_living : (ts : List TaskValue) (ds : List (Option SegmentValue)) → length ts ≡ length ds
+    → living_in (beside ts ds) ≡ living_by ds
 beside_living [] [] e = refl
 beside_living [] (d ∷ ds) e = absurd (omega (arith, e))
 beside_living (t ∷ ts) [] e = absurd (omega (arith, e))
@@ -48,7 +49,8 @@ beside_done (t ∷ ts) (x ∷ ds) (suc p) d e lt g = beside_done ts ds p d (omeg
 
 -- what is at a place
 pub beside_at : (ts : List TaskValue) (ds : List (Option SegmentValue)) (p : ℕ) (t : TaskValue) (d : Option SegmentValue)
-    → p < length ts → t ≡ get_or ts p t → p < length ds → d ≡ get_or ds p d → slice_get (beside ts ds) p ≡ Some record { task = t; done = d }
+    → p < length ts → t ≡ get_or ts p t → p < length ds → d ≡ get_or ds p d
+    → slice_get (beside ts ds) p ≡ Some record { task = t; done = d }
 beside_at [] ds p t d lt e ld f = absurd (omega (arith, lt))
 beside_at (x ∷ ts) [] p t d lt e ld f = absurd (omega (arith, ld))
 beside_at (x ∷ ts) (y ∷ ds) zero t d lt e ld f = λ i. Some record { task = sym e i; done = sym f i }
@@ -76,7 +78,8 @@ beside_set (t ∷ ts) (d ∷ ds) zero g = refl
 beside_set (t ∷ ts) (d ∷ ds) (suc p) g = ap (λ (ss : List SlotValue). record { task = t; done = d } ∷ ss) (beside_set ts ds p g)
 
 -- the task at a place is that of its slot
-pub task_found : (ss : List SlotValue) (ts : List TaskValue) (p : ℕ) (s : SlotValue) → ts ≡ map task_at ss → slice_get ss p ≡ Some s → found_task (slice_get ts p) ≡ s.task
+pub task_found : (ss : List SlotValue) (ts : List TaskValue) (p : ℕ) (s : SlotValue) → ts ≡ map task_at ss → slice_get ss p ≡ Some s
+    → found_task (slice_get ts p) ≡ s.task
 task_found ss ts p s e at = ap (λ (us : List TaskValue). found_task (slice_get us p)) e ∙ by ss p at
   where
     by : (ss : List SlotValue) (p : ℕ) → slice_get ss p ≡ Some s → found_task (slice_get (map task_at ss) p) ≡ s.task

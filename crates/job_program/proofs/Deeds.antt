@@ -52,13 +52,16 @@ pub sets_apart : (rest : List SlotValue) (s : SlotValue) (ss : List SlotValue) �
 sets_apart rest s ss e h = both (list_all is_set (puts_in s)) (list_all is_set (log_in ss)) (sym (sets_in rest s ss e) ∙ h)
 
 -- one slot more has landed
-pub land_next : (a : List (List ℕ × List ℤ)) {b all : List (List ℕ × List ℤ)} (rest : List SlotValue) (s : SlotValue) (ss : List SlotValue) → rest ≡ s ∷ ss → b ≡ landed (puts_in s) a
+pub land_next : (a : List (List ℕ × List ℤ)) {b all : List (List ℕ × List ℤ)} (rest : List SlotValue) (s : SlotValue) (ss : List SlotValue)
+    → rest ≡ s ∷ ss → b ≡ landed (puts_in s) a
     → landed (log_in rest) a ≡ all → landed (log_in ss) b ≡ all
 land_next a rest s ss e w h =
-    ap (landed (log_in ss)) w ∙ sym (landed_append (puts_in s) (log_in ss) a) ∙ ap (λ (xs : List SlotValue). landed (log_in xs) a) (sym e) ∙ h
+    ap (landed (log_in ss)) w ∙ sym (landed_append (puts_in s) (log_in ss) a) ∙ ap (λ (xs : List SlotValue). landed (log_in xs) a) (sym e)
+    ∙ h
 
 -- puts that set, those of the first slot written
-pub write_next : (a : List (List ℕ × List ℤ)) {b all : List (List ℕ × List ℤ)} (rest : List SlotValue) (s : SlotValue) (ss : List SlotValue) → rest ≡ s ∷ ss
+pub write_next : (a : List (List ℕ × List ℤ)) {b all : List (List ℕ × List ℤ)} (rest : List SlotValue) (s : SlotValue) (ss : List SlotValue)
+    → rest ≡ s ∷ ss
     → b ≡ landed (puts_in s) a → (landed (log_in rest) a ≡ all) × (list_all is_set (log_in rest) ≡ true)
     → (landed (log_in ss) b ≡ all) × (list_all is_set (log_in ss) ≡ true)
 write_next a rest s ss e w h = (land_next a rest s ss e w h.0, (sets_apart rest s ss e h.1).1)
@@ -70,17 +73,20 @@ land_last (s ∷ ss) e h = cc
 -- ---- the first put that overflows
 
 -- the path of the put at this place
-path_located : (ps : List Plan) (ss : List SlotValue) (k : ℕ) → option_map fault_eight (located (map log_of (delivered (slots_of ps ss))) k) ≡ option_map overflow_at (path_at ss k)
+path_located : (ps : List Plan) (ss : List SlotValue) (k : ℕ)
+    → option_map fault_eight (located (map log_of (delivered (slots_of ps ss))) k) ≡ option_map overflow_at (path_at ss k)
 path_located ps [] k = refl
 path_located ps (s ∷ ss) k = by s.done (λ n. path_located ps ss n)
   where
-    reported : (b : Bool) (n : ℕ) → option_map fault_eight (located (map log_of (delivered (slots_of ps ss))) n) ≡ option_map overflow_at (path_at ss n)
+    reported : (b : Bool) (n : ℕ)
+        → option_map fault_eight (located (map log_of (delivered (slots_of ps ss))) n) ≡ option_map overflow_at (path_at ss n)
         → option_map fault_eight (if b then Some (s.task.path, k) else located (map log_of (delivered (slots_of ps ss))) n)
         ≡ option_map overflow_at (if b then Some s.task.path else path_at ss n)
     reported true n h = refl
     reported false n h = h
 
-    by : (o : Option SegmentValue) → ((n : ℕ) → option_map fault_eight (located (map log_of (delivered (slots_of ps ss))) n) ≡ option_map overflow_at (path_at ss n))
+    by : (o : Option SegmentValue)
+        → ((n : ℕ) → option_map fault_eight (located (map log_of (delivered (slots_of ps ss))) n) ≡ option_map overflow_at (path_at ss n))
         → option_map fault_eight (located (map log_of (delivered (slots_of ps (record { task = s.task; done = o } ∷ ss)))) k)
         ≡ option_map overflow_at (if nat_lt k (length (puts_of o)) then Some s.task.path else path_at ss (k - length (puts_of o)))
     by None h =
@@ -95,9 +101,11 @@ pub over_reported : (ps : List Plan) (ss : List SlotValue) (xs : List (List ℕ 
     → overflow xs (delivered (slots_of ps ss)) ≡ option_map fault_eight (at_log (map log_of (delivered (slots_of ps ss))) o)
 over_reported ps ss xs o e =
     let logs = map log_of (delivered (slots_of ps ss)) in
-    ap (option_map fault_eight) (first_located xs logs ∙ ap (λ (qs : List Put). at_log logs (over_in xs [] 0 qs)) (log_reported ps ss) ∙ ap (at_log logs) (sym e))
+    ap (option_map fault_eight)
+    (first_located xs logs ∙ ap (λ (qs : List Put). at_log logs (over_in xs [] 0 qs)) (log_reported ps ss) ∙ ap (at_log logs) (sym e))
 
-pub none_over : (ps : List Plan) (ss : List SlotValue) (xs : List (List ℕ × List ℤ)) → None ≡ over_in xs [] 0 (log_in ss) → None ≡ overflow xs (delivered (slots_of ps ss))
+pub none_over : (ps : List Plan) (ss : List SlotValue) (xs : List (List ℕ × List ℤ)) → None ≡ over_in xs [] 0 (log_in ss)
+    → None ≡ overflow xs (delivered (slots_of ps ss))
 none_over ps ss xs e = sym (over_reported ps ss xs None e)
 
 pub one_over : (ps : List Plan) (ss : List SlotValue) (xs : List (List ℕ × List ℤ)) (k : ℕ) → Some k ≡ over_in xs [] 0 (log_in ss)
@@ -105,10 +113,12 @@ pub one_over : (ps : List Plan) (ss : List SlotValue) (xs : List (List ℕ × Li
 one_over ps ss xs k e = sym (over_reported ps ss xs (Some k) e ∙ path_located ps ss k)
 
 -- the put that overflows is that of a task
-pub over_path : (ss : List SlotValue) (xs : List (List ℕ × List ℤ)) (k : ℕ) → Some k ≡ over_in xs [] 0 (log_in ss) → option_map overflow_at (path_at ss k) ≡ None → ⊥
+pub over_path : (ss : List SlotValue) (xs : List (List ℕ × List ℤ)) (k : ℕ) → Some k ≡ over_in xs [] 0 (log_in ss)
+    → option_map overflow_at (path_at ss k) ≡ None → ⊥
 over_path ss xs k e h =
     found_there (map log_of (delivered (slots_of [] ss))) k
-    (let m = over_inside xs [] 0 k (log_in ss) (sym e) in subst (λ (qs : List Put). k < length qs) (sym (log_reported [] ss)) (omega (arith, m.1)))
+    (let m = over_inside xs [] 0 k (log_in ss) (sym e) in
+    subst (λ (qs : List Put). k < length qs) (sym (log_reported [] ss)) (omega (arith, m.1)))
     (none_located (located (map log_of (delivered (slots_of [] ss))) k) (path_located [] ss k ∙ h))
   where
     none_located : (o : Option (List ℕ × ℕ)) → option_map fault_eight o ≡ None → o ≡ None
@@ -116,7 +126,8 @@ over_path ss xs k e h =
     none_located (Some e) h = cc
 
 -- puts that set don't
-pub none_over_sets : (ps : List Plan) (ss : List SlotValue) (xs : List (List ℕ × List ℤ)) → list_all is_set (log_in ss) ≡ true → None ≡ overflow xs (delivered (slots_of ps ss))
+pub none_over_sets : (ps : List Plan) (ss : List SlotValue) (xs : List (List ℕ × List ℤ)) → list_all is_set (log_in ss) ≡ true
+    → None ≡ overflow xs (delivered (slots_of ps ss))
 none_over_sets ps ss xs h = none_over ps ss xs (sym (sets_fit xs [] 0 (log_in ss) h))
 
 synced_mapped : (ps : List Plan) (a : code.After) → map (task_of ps) (synced_in a) ≡ synced (after_of ps a)
@@ -134,7 +145,8 @@ living_mapped ps [] = refl
 living_mapped ps (s ∷ ss) = map_append (task_of ps) (living_of s.done) (living_in ss) ∙ by s.done (living_mapped ps ss)
   where
     by : (o : Option SegmentValue) → map (task_of ps) (living_in ss) ≡ living_on (delivered (slots_of ps ss))
-        → map (task_of ps) (living_of o) ++ map (task_of ps) (living_in ss) ≡ living_on (delivered (slots_of ps (record { task = s.task; done = o } ∷ ss)))
+        → map (task_of ps) (living_of o) ++ map (task_of ps) (living_in ss)
+        ≡ living_on (delivered (slots_of ps (record { task = s.task; done = o } ∷ ss)))
     by None h = h
     by (Some g) h =
         (λ i. (map_append (task_of ps) (synced_in g.after) g.spawns i) ++ h i)
@@ -142,10 +154,14 @@ living_mapped ps (s ∷ ss) = map_append (task_of ps) (living_of s.done) (living
 
 living_by_append : (xs ys : List (Option SegmentValue)) → living_by (xs ++ ys) ≡ living_by xs ++ living_by ys
 living_by_append [] ys = refl
-living_by_append (x ∷ xs) ys = ap (λ (zs : List TaskValue). living_of x ++ zs) (living_by_append xs ys) ∙ sym (append_assoc (living_of x) (living_by xs) (living_by ys))
+living_by_append (x ∷ xs) ys =
+    ap (λ (zs : List TaskValue). living_of x ++ zs) (living_by_append xs ys)
+    ∙ sym (append_assoc (living_of x) (living_by xs) (living_by ys))
 
-pub living_last : (rest front : List (Option SegmentValue)) (d : Option SegmentValue) → rest ≡ front ++ d ∷ [] → living_by rest ≡ living_by front ++ living_of d
-living_last rest front d e = ap living_by e ∙ living_by_append front (d ∷ []) ∙ ap (λ (xs : List TaskValue). living_by front ++ xs) (append_nil (living_of d))
+pub living_last : (rest front : List (Option SegmentValue)) (d : Option SegmentValue) → rest ≡ front ++ d ∷ []
+    → living_by rest ≡ living_by front ++ living_of d
+living_last rest front d e =
+    ap living_by e ∙ living_by_append front (d ∷ []) ∙ ap (λ (xs : List TaskValue). living_by front ++ xs) (append_nil (living_of d))
   where
     append_nil : (xs : List TaskValue) → xs ++ [] ≡ xs
     append_nil [] = refl
@@ -159,7 +175,8 @@ pub paths_counted : (ps : List Plan) (ts : List TaskValue) → length ts ≡ len
 paths_counted ps [] = refl
 paths_counted ps (t ∷ ts) = ap suc (paths_counted ps ts)
 
-pub path_got : (ts : List TaskValue) (n : ℕ) (t : TaskValue) → n < length ts → t ≡ get_or ts n t → slice_get (map path_in ts) n ≡ Some t.path
+pub path_got : (ts : List TaskValue) (n : ℕ) (t : TaskValue) → n < length ts → t ≡ get_or ts n t
+    → slice_get (map path_in ts) n ≡ Some t.path
 path_got [] n t lt e = absurd (omega arith)
 path_got (x ∷ ts) zero t lt e = ap (λ (y : TaskValue). Some y.path) (sym e)
 path_got (x ∷ ts) (suc n) t lt e = path_got ts n t (omega arith) e

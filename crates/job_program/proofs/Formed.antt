@@ -30,7 +30,8 @@ children_same : (path : List ℕ) (b n : ℕ) → task.children path b n ≡ chi
 children_same path b zero = refl
 children_same path b (suc n) = children_cons path b n ∙ ap (λ (ps : List (List ℕ)). (path ++ b ∷ []) ∷ ps) (children_same path (suc b) n)
 
-pub job_formed : (plans : List job.Plan) (t : job.Task) (arrays : List (List ℕ × List ℤ)) (step : ℕ) → IsFormed job_frame t (job.segment_of plans t arrays step)
+pub job_formed : (plans : List job.Plan) (t : job.Task) (arrays : List (List ℕ × List ℤ)) (step : ℕ)
+    → IsFormed job_frame t (job.segment_of plans t arrays step)
 job_formed plans t arrays step =
     let h = numbers-its-spawns plans t arrays step in
     record {
@@ -56,7 +57,8 @@ left_as ps ends.Stopped t u a b g h = (record { puts = h.0.puts; prints = h.0.pr
 left_as ps (ends.Synced place) t u a b g h = (record { puts = h.0.puts; prints = h.0.prints; spawns = h.0.spawns }, h.1, ap path_in h.2)
 
 -- a segment that ended so left what a task of the program may leave
-pub job_left : (ps : List job.Plan) (arrays : List (List ℕ × List ℤ)) (step : ℕ) (d e : code.CodeEnd) (t u : TaskValue) (a b : Work TaskValue)
+pub job_left : (ps : List job.Plan) (arrays : List (List ℕ × List ℤ)) (step : ℕ) (d e : code.CodeEnd) (t u : TaskValue)
+    (a b : Work TaskValue)
     → d ≡ e → lent.IsLeft ps d t u a b (job.segment_of ps (task_of ps t) arrays step)
     → HasLeft job_frame (JobMay ps) (task_of ps) path_in arrays step (as_ending e) t u a b
 job_left ps arrays step d e t u a b is h = record {

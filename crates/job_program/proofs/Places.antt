@@ -34,11 +34,14 @@ rest_left ss rest after p s d e = by ss p (sym d ∙ e) ∙ ap (λ (k : ℕ). dr
 pub rest_below : (ss rest after : List SlotValue) (p : ℕ) (s : SlotValue) → rest ≡ s ∷ after → p + length rest ≡ length ss → p < length ss
 rest_below ss rest after p s e h = let l : length rest ≡ suc (length after) = ap length e in omega (arith, l, h)
 
-pub rest_count : (ss rest after : List SlotValue) (p : ℕ) (s : SlotValue) → rest ≡ s ∷ after → p + length rest ≡ length ss → (p + 1) + length after ≡ length ss
+pub rest_count : (ss rest after : List SlotValue) (p : ℕ) (s : SlotValue) → rest ≡ s ∷ after → p + length rest ≡ length ss
+    → (p + 1) + length after ≡ length ss
 rest_count ss rest after p s e h = let l : length rest ≡ suc (length after) = ap length e in omega (arith, l, h)
 
-pub is_place : (ss : List SlotValue) (path : List ℕ) (p : ℕ) (s : SlotValue) → p < length ss → slice_get ss p ≡ Some s → s.task.path ≡ path → IsPlaceOf ss path p
+pub is_place : (ss : List SlotValue) (path : List ℕ) (p : ℕ) (s : SlotValue) → p < length ss → slice_get ss p ≡ Some s → s.task.path ≡ path
+    → IsPlaceOf ss path p
 is_place ss path p s lt at e = record { below = lt; path = subst (IsPath path) (sym at) e }
 
-pub live_left : (rest after : List SlotValue) (path : List ℕ) (s : SlotValue) → rest ≡ s ∷ after → bytes_eq s.task.path path ≡ false → is_live rest path ≡ is_live after path
+pub live_left : (rest after : List SlotValue) (path : List ℕ) (s : SlotValue) → rest ≡ s ∷ after → bytes_eq s.task.path path ≡ false
+    → is_live rest path ≡ is_live after path
 live_left rest after path s e h = ap (λ ss. is_live ss path) e ∙ ap (λ b. b || is_live after path) h

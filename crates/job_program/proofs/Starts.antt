@@ -29,7 +29,8 @@ start_count : (ps : List Plan) (n : ℕ) (ss : List Start) → length (start_tas
 start_count ps n [] = refl
 start_count ps n (s ∷ ss) = ap suc (start_count ps (suc n) ss)
 
-pub starts_count : (ps : List Plan) (ts : List TaskValue) (ss : List Start) → map (task_of ps) ts ≡ start_tasks ps 0 ss → length ts ≡ length ss
+pub starts_count : (ps : List Plan) (ts : List TaskValue) (ss : List Start) → map (task_of ps) ts ≡ start_tasks ps 0 ss
+    → length ts ≡ length ss
 starts_count ps ts ss e = sym (length-map ts (task_of ps)) ∙ ap length e ∙ start_count ps 0 ss
 
 pub starts_paths : (ps : List Plan) (ts : List TaskValue) (ss : List Start) → map (task_of ps) ts ≡ start_tasks ps 0 ss
@@ -44,10 +45,12 @@ starts_begin p = start_paths p.plans 0 p.starts ∙ ap (children [] 0) (sym (sta
 pub job_report : (p : Program) (limit : ℕ) (outcome : ReportValue) (living : List Task)
     → HasRun job_frame (JobMay p.plans) 4096 p.arrays (starts p) limit outcome living → report_of p limit ≡ Some outcome
 job_report p limit outcome living h =
-    exactly job_frame (JobMay p.plans) 4096 (segment_of p.plans) (λ t arrays step g e. e) p.arrays (starts p) limit (starts_begin p) outcome living h
+    exactly job_frame (JobMay p.plans) 4096 (segment_of p.plans) (λ t arrays step g e. e) p.arrays (starts p) limit (starts_begin p) outcome
+    living h
 
 -- the same of a job whose run begins with its arrays and the tasks of its start lines
-pub job_left : (j : JobValue) (limit : ℕ) (arrays : List (List ℕ × List ℤ)) (ts : List TaskValue) (outcome : ReportValue) (living : List Task)
+pub job_left : (j : JobValue) (limit : ℕ) (arrays : List (List ℕ × List ℤ)) (ts : List TaskValue) (outcome : ReportValue)
+    (living : List Task)
     → arrays ≡ j.arrays → map (task_of (plans j.bodies)) ts ≡ start_tasks (plans j.bodies) 0 j.starts
     → HasRun job_frame (JobMay (plans j.bodies)) 4096 arrays (map (task_of (plans j.bodies)) ts) limit outcome living
     → report_of (program_of j) limit ≡ Some outcome

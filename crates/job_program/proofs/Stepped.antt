@@ -22,10 +22,12 @@ abbrev run_of : JobValue → StepsValue TaskValue → JobRunValue
 run_of j v = record { job = j; run = v }
 
 -- before the first superstep
-pub run_begun : (j : JobValue) (arrays : List (List ℕ × List ℤ)) (ts : List TaskValue) (limit : ℕ) (v : StepsValue TaskValue) → arrays ≡ j.arrays
+pub run_begun : (j : JobValue) (arrays : List (List ℕ × List ℤ)) (ts : List TaskValue) (limit : ℕ) (v : StepsValue TaskValue)
+    → arrays ≡ j.arrays
     → map (task_of (plans j.bodies)) ts ≡ starts (program_of j) → v ≡ begun arrays ts 4096 limit → IsAfter 0 [] [] (run_of j v)
 run_begun j arrays ts limit v ea et e =
-    subst (λ (w : StepsValue TaskValue). IsAfter 0 [] [] (run_of j w)) (sym (e ∙ ap (λ (a : List (List ℕ × List ℤ)). begun a ts 4096 limit) ea))
+    subst (λ (w : StepsValue TaskValue). IsAfter 0 [] [] (run_of j w))
+    (sym (e ∙ ap (λ (a : List (List ℕ × List ℤ)). begun a ts 4096 limit) ea))
     (so_far_none (job_says (plans j.bodies)) j.arrays (starts (program_of j)) (task_of (plans j.bodies)) ts limit et)
 
 -- what a call of `step` has done, if it didn't run out of memory
@@ -36,12 +38,14 @@ abbrev Stepped : JobValue → StepsValue TaskValue → StepsValue TaskValue → 
 Stepped j v new = HasStepped job_frame (JobMay (plans j.bodies)) (task_of (plans j.bodies)) v new
 
 module _ {X E : Type 0} (j : JobValue) (v new : StepsValue TaskValue) where
-  pub has_stepped : (r : Result X E) → AreOrdered job_frame (map (task_of (plans j.bodies)) v.tasks) → (IsSome (ended v) → OnOk r (new ≡ v) × OnErr r ⊥)
+  pub has_stepped : (r : Result X E) → AreOrdered job_frame (map (task_of (plans j.bodies)) v.tasks)
+      → (IsSome (ended v) → OnOk r (new ≡ v) × OnErr r ⊥)
       → (IsRunning v → OnOk r (Stepped j v new)) → OnOk r (Has j v new)
   has_stepped (Err x) ordered over step = tt
   has_stepped (Ok x) ordered over step = λ n ps rs h. by n ps rs h (ended v) refl
     where
-      by : (n : ℕ) (ps : List PrintValue) (rs : List PhaseRecord) → IsAfter n ps rs (run_of j v) → (o : Option Status) → ended v ≡ o → IsAfter (n + 1) ps rs (run_of j new)
+      by : (n : ℕ) (ps : List PrintValue) (rs : List PhaseRecord) → IsAfter n ps rs (run_of j v) → (o : Option Status) → ended v ≡ o
+          → IsAfter (n + 1) ps rs (run_of j new)
       by n ps rs h (Some s) e =
           let one : 1 + n ≡ n + 1 = omega arith in
           let same : new ≡ v = (over (subst (λ (o : Option Status). IsSome o) (sym e) refl)).0 in
@@ -52,10 +56,12 @@ module _ {X E : Type 0} (j : JobValue) (v new : StepsValue TaskValue) where
           let one : suc n ≡ n + 1 = omega arith in
           let run : IsRunning v = record { sound = h.sound; going = e } in
           subst (λ (m : ℕ). IsAfter m ps rs (run_of j new)) one
-          (so_far_more job_frame (JobMay (plans j.bodies)) 4096 (segment_of (plans j.bodies)) (λ t arrays step g is. is) j.arrays (starts (program_of j)) (task_of (plans j.bodies)) h run ordered.rising (step run))
+          (so_far_more job_frame (JobMay (plans j.bodies)) 4096 (segment_of (plans j.bodies)) (λ t arrays step g is. is) j.arrays
+          (starts (program_of j)) (task_of (plans j.bodies)) h run ordered.rising (step run))
 
 -- a superstep of the run is one of the job
-pub stepped_of : {X E : Type 0} (j : JobValue) (v new : StepsValue TaskValue) (r : Result X E) → (IsRunning v → OnOk r (Stepped j v new)) → IsRunning v
+pub stepped_of : {X E : Type 0} (j : JobValue) (v new : StepsValue TaskValue) (r : Result X E) → (IsRunning v → OnOk r (Stepped j v new))
+    → IsRunning v
     → OnOk r (HasSteppedOn (run_of j v) (run_of j new))
 stepped_of j v new (Ok x) h run = record { job = refl; run = h run }
 stepped_of j v new (Err x) h run = tt
@@ -93,7 +99,9 @@ ended_on k m r s h some le = record {
         }
 
 -- one superstep, whose prints and records are taken away
-pub one_on : (r s t u : JobRunValue) → ((n : ℕ) (ps : List PrintValue) (rs : List PhaseRecord) → IsAfter n ps rs r → IsAfter (n + 1) ps rs s) → s.job ≡ r.job → s.run.limit ≡ r.run.limit
+pub one_on : (r s t u : JobRunValue)
+    → ((n : ℕ) (ps : List PrintValue) (rs : List PhaseRecord) → IsAfter n ps rs r → IsAfter (n + 1) ps rs s) → s.job ≡ r.job
+    → s.run.limit ≡ r.run.limit
     → t ≡ record s { run = record s.run { prints = [] } } → u ≡ record t { run = record t.run { records = [] } } → IsLater 1 r u
 one_on r s t u next job limit et eu =
     subst (IsLater 1 r) (sym (eu ∙ ap (λ (x : JobRunValue). record x { run = record x.run { records = [] } }) et))

@@ -23,7 +23,8 @@ state_after r n = so_far (program_of r.job) r.run.limit n
 
 -- The run has taken `n` supersteps, or fewer if it ended before. These of its prints and records were taken away.
 abbrev pub IsAfter : ℕ → List PrintValue → List PhaseRecord → JobRunValue → Type 0
-IsAfter n ps rs r = IsSoFar (job_says (plans r.job.bodies)) r.job.arrays (starts (program_of r.job)) n (task_of (plans r.job.bodies)) ps rs r.run
+IsAfter n ps rs r =
+    IsSoFar (job_says (plans r.job.bodies)) r.job.arrays (starts (program_of r.job)) n (task_of (plans r.job.bodies)) ps rs r.run
 
 -- it has, whatever was taken away
 pub record HasReached (n : ℕ) (r : JobRunValue) : Type 0 where

@@ -1,4 +1,5 @@
--- What one superstep of a job does (own). It is a superstep of any program (programs/specs/Superstep.antt), whose tasks are those of the job language.
+-- What one superstep of a job does (own). It is a superstep of any program (programs/specs/Superstep.antt), whose tasks are those of the
+-- job language.
 use Rattle.std.specs.Prelude.{ℕ, ℤ, List, map, Option}
 use Rattle.task_lang.specs.Meaning.{Plan, Task, Segment, segment_of}
 use Rattle.programs.specs.Meaning.{Frame, Says}
@@ -34,7 +35,8 @@ next_live ss = program.next_live job_frame.path ss
 abbrev pub too_many : List Task → Option (ℕ × List ℕ)
 too_many next = program.too_many 4096 next
 
--- How a superstep ends the job, if it does: the first faulting task comes first, then the number of tasks, then the first put that overflows.
+-- How a superstep ends the job, if it does: the first faulting task comes first, then the number of tasks, then the first put that
+-- overflows.
 abbrev pub fault_in : List (List ℕ × List ℤ) → List (List ℕ × Segment) → Option (ℕ × List ℕ)
 fault_in arrays ss = program.fault_in job_frame.path 4096 arrays ss
 

@@ -66,7 +66,8 @@ one_more false false n m = refl
 none-more : (names : List Word) (w : Word) (ws : List Word) → none_among (names ++ w ∷ []) ws ≡ (none_among names ws && not (is_among ws w))
 none-more names w [] = refl
 none-more names w (v ∷ ws) =
-    ap (λ (b : Bool). not b && none_among (names ++ w ∷ []) ws) (among-more names w v ∙ ap (λ (b : Bool). is_among names v || b) (swapped w v))
+    ap (λ (b : Bool). not b && none_among (names ++ w ∷ []) ws)
+    (among-more names w v ∙ ap (λ (b : Bool). is_among names v || b) (swapped w v))
     ∙ (ap (λ (b : Bool). not (is_among names v || bytes_eq v w) && b) (none-more names w ws)
     ∙ one_more (is_among names v) (bytes_eq v w) (none_among names ws) (is_among ws w))
 
@@ -78,7 +79,8 @@ regrouped false n m r = refl
 apart-splits : (names ws : List Word) → apart_from names ws ≡ (none_among names ws && are_apart ws)
 apart-splits names [] = refl
 apart-splits names (w ∷ ws) =
-    ap (λ (b : Bool). not (is_among names w) && b) (apart-splits (names ++ w ∷ []) ws ∙ ap (λ (b : Bool). b && are_apart ws) (none-more names w ws))
+    ap (λ (b : Bool). not (is_among names w) && b)
+    (apart-splits (names ++ w ∷ []) ws ∙ ap (λ (b : Bool). b && are_apart ws) (none-more names w ws))
     ∙ regrouped (not (is_among names w)) (none_among names ws) (not (is_among ws w)) (are_apart ws)
 
 all-new : (ws : List Word) → none_among [] ws ≡ true
@@ -90,7 +92,8 @@ pub apart-begins : (ws : List Word) → are_apart ws ≡ apart_from [] ws
 apart-begins ws = sym (apart-splits [] ws ∙ ap (λ (b : Bool). b && are_apart ws) (all-new ws))
 
 -- a new word
-apart-goes-on : (names : List Word) (w : Word) (ws : List Word) → is_among names w ≡ false → apart_from names (w ∷ ws) ≡ apart_from (names ++ w ∷ []) ws
+apart-goes-on : (names : List Word) (w : Word) (ws : List Word) → is_among names w ≡ false
+    → apart_from names (w ∷ ws) ≡ apart_from (names ++ w ∷ []) ws
 apart-goes-on names w ws e = ap (λ (b : Bool). not b && apart_from (names ++ w ∷ []) ws) e
 
 either : (a b : Bool) → cond a true b ≡ (b || a)
@@ -100,12 +103,14 @@ either false true = refl
 either false false = refl
 
 -- the set after a word is put in
-found-more : (s n : WordSet) (names : List Word) (w : Bor Word) → Updates word_eq s n w true → AreFound s names → AreFound n (names ++ w.now ∷ [])
+found-more : (s n : WordSet) (names : List Word) (w : Bor Word) → Updates word_eq s n w true → AreFound s names
+    → AreFound n (names ++ w.now ∷ [])
 found-more s n names w u found = λ q.
     u.0 q ∙ (ap (λ (b : Bool). cond (bytes_eq w.now q.now) true b) (found q)
     ∙ (either (bytes_eq w.now q.now) (is_among names q.now) ∙ sym (among-more names w.now q.now)))
 
-lent-take : (ws : List (Bor Word)) (i : ℕ) (d : Bor Word) → i < length ws → lent (take (i + 1) ws) ≡ lent (take i ws) ++ (get_or ws i d).now ∷ []
+lent-take : (ws : List (Bor Word)) (i : ℕ) (d : Bor Word) → i < length ws
+    → lent (take (i + 1) ws) ≡ lent (take i ws) ++ (get_or ws i d).now ∷ []
 lent-take ws i d h = ap lent (take_more ws i d h) ∙ lent-append (take i ws) (get_or ws i d ∷ [])
 
 lent-drop : (ws : List (Bor Word)) (i : ℕ) (d : Bor Word) → i < length ws → lent (drop i ws) ≡ (get_or ws i d).now ∷ lent (drop (i + 1) ws)

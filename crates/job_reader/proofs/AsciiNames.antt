@@ -17,7 +17,8 @@ byte-ascii c e = grind (arith, common_steps)
 
 bytes-ascii : (w : Word) → list_all is_in_name w ≡ true → IsAscii w
 bytes-ascii [] e = IsAscii-nil
-bytes-ascii (c ∷ cs) e = IsAscii-cons c cs (byte-ascii c (and-left _ (list_all is_in_name cs) e)) (bytes-ascii cs (and-right (is_in_name c) _ e))
+bytes-ascii (c ∷ cs) e =
+    IsAscii-cons c cs (byte-ascii c (and-left _ (list_all is_in_name cs) e)) (bytes-ascii cs (and-right (is_in_name c) _ e))
 
 pub free-utf8 : (w : Word) → is_free w ≡ true → IsUtf8 w
 free-utf8 w e =
@@ -32,7 +33,8 @@ all-free (n ∷ ns) e =
     let head : is_free n && not (is_among ns n) ≡ true = and-left _ (are_names ns) e in
     and-true _ _ (and-left _ (not (is_among ns n)) head) (all-free ns (and-right (is_free n && not (is_among ns n)) _ e))
 
-pub each-free : (ns : List (Bor Word)) (i : ℕ) (d : Bor Word) → list_all is_free (lent ns) ≡ true → i < length ns → is_free (slice_index_or ns i d).now ≡ true
+pub each-free : (ns : List (Bor Word)) (i : ℕ) (d : Bor Word) → list_all is_free (lent ns) ≡ true → i < length ns
+    → is_free (slice_index_or ns i d).now ≡ true
 each-free [] i d e h = absurd (omega arith)
 each-free (n ∷ ns) zero d e h = and-left _ (list_all is_free (lent ns)) e
 each-free (n ∷ ns) (suc i) d e h = each-free ns i d (and-right (is_free n.now) _ e) (omega arith)

@@ -85,7 +85,8 @@ one-counted false n = omega arith
 
 statements-count : (code : List Line) → statements code ≡ count (map is_statement code)
 statements-count code =
-    sym (is_count_by (λ c. count (map is_statement c)) is_statement refl (λ l ls. one-counted (is_statement l) (count (map is_statement ls))) code)
+    sym
+    (is_count_by (λ c. count (map is_statement c)) is_statement refl (λ l ls. one-counted (is_statement l) (count (map is_statement ls))) code)
 
 behind-count : (n : ℕ) (l : Line) → statements_behind n l ≡ n + one_if (is_statement l)
 behind-count n l = by-line (is_statement l)
@@ -94,12 +95,14 @@ behind-count n l = by-line (is_statement l)
     by-line true = omega arith
     by-line false = omega arith
 
-pub length-step : (l : Line) (fs : List Frame) (b : Block) (s : List Frame × Block) → step_of l fs b ≡ Some s → length s.0 ≡ opened (length fs) l
+pub length-step : (l : Line) (fs : List Frame) (b : Block) (s : List Frame × Block) → step_of l fs b ≡ Some s
+    → length s.0 ≡ opened (length fs) l
 length-step (line.Do a) fs b s e = let same : fs ≡ s.0 = cc in ap (λ (x : List Frame). length x) (sym same)
 length-step (line.If t n) fs b s e = let same : InIf t b ∷ fs ≡ s.0 = cc in ap (λ (x : List Frame). length x) (sym same) ∙ omega arith
 length-step (line.While t n) fs b s e = let same : InWhile t b ∷ fs ≡ s.0 = cc in ap (λ (x : List Frame). length x) (sym same) ∙ omega arith
 length-step (line.Else n) [] b s e = absurd cc
-length-step (line.Else n) (InIf t before ∷ fs) b s e = let same : InElse t before b ∷ fs ≡ s.0 = cc in ap (λ (x : List Frame). length x) (sym same)
+length-step (line.Else n) (InIf t before ∷ fs) b s e = let same : InElse t before b ∷ fs ≡ s.0 = cc in
+    ap (λ (x : List Frame). length x) (sym same)
 length-step (line.Else n) (InElse t before a ∷ fs) b s e = absurd cc
 length-step (line.Else n) (InWhile t before ∷ fs) b s e = absurd cc
 length-step line.EndIf [] b s e = absurd cc
@@ -130,7 +133,9 @@ counted-step l fs b s n h e fits few shallow =
       counts = statements-count (open_code s.0 s.1) ∙ ap count kinds ∙ count-one (map is_statement code) (is_statement l)
           ∙ ap (λ (k : ℕ). k + one_if (is_statement l)) (sym (statements-count code) ∙ h.counts) ∙ sym (behind-count n l);
       few = few;
-      open_lines = open-after 0 (open_code s.0 s.1) ∙ ap (after 0) changes ∙ after-one 0 (map change_of code) (change_of l) ∙ level ∙ sym (length-step l fs b s e);
+      open_lines =
+          open-after 0 (open_code s.0 s.1) ∙ ap (after 0) changes ∙ after-one 0 (map change_of code) (change_of l) ∙ level
+          ∙ sym (length-step l fs b s e);
       shallow = subst (λ (k : ℕ). k ≤ 16) (sym (deepest-highest 0 (open_code s.0 s.1) ∙ ap (highest 0) changes))
           (highest-one 0 (map change_of code) (change_of l) 16 before here);
       numbers = sym (all-mapped fits_line (open_code s.0 s.1)) ∙ ap (λ (c : List Bool). list_all (λ (b : Bool). b) c) numbers

@@ -32,10 +32,12 @@ may-listed format (w ∷ ws) e = by (format == 1) e
     by true e = absurd cc
     by false e = refl
 
-pub head-parts : (format : ℕ) (name : Word) (ws : Words) (head : Word × List Word) → body_of format (name ∷ ws) ≡ Ok head → HeadParts format name ws head
+pub head-parts : (format : ℕ) (name : Word) (ws : Words) (head : Word × List Word) → body_of format (name ∷ ws) ≡ Ok head
+    → HeadParts format name ws head
 head-parts format name ws head e = by (may_list format ws) refl e
   where
-    by : (b : Bool) → may_list format ws ≡ b → (if b then made (λ (_ : Unit {0} × Unit {0}). (name, ws)) (both (named name) (all_named ws)) else Err BadLine) ≡ Ok head
+    by : (b : Bool) → may_list format ws ≡ b
+        → (if b then made (λ (_ : Unit {0} × Unit {0}). (name, ws)) (both (named name) (all_named ws)) else Err BadLine) ≡ Ok head
         → HeadParts format name ws head
     by true h e =
         let m = made-ok (λ (_ : Unit {0} × Unit {0}). (name, ws)) (both (named name) (all_named ws)) head e in
@@ -51,14 +53,16 @@ free-both false r a b = absurd cc
 none-reserved : (ws : Words) → list_any is_reserved ws ≡ false → list_all is_name ws ≡ true → list_all is_free ws ≡ true
 none-reserved [] e f = refl
 none-reserved (w ∷ ws) e f =
-    and-true _ _ (free-both (is_name w) (is_reserved w) (and-left _ (list_all is_name ws) f) (or-left (is_reserved w) (list_any is_reserved ws) e))
+    and-true _ _
+    (free-both (is_name w) (is_reserved w) (and-left _ (list_all is_name ws) f) (or-left (is_reserved w) (list_any is_reserved ws) e))
     (none-reserved ws (or-right (is_reserved w) (list_any is_reserved ws) e) (and-right (is_name w) _ f))
 
 -- names that are read may be used
 pub all-free : (ws : Words) → all_named ws ≡ Ok tt → list_all is_free ws ≡ true
 all-free ws e = by (list_any is_reserved ws) (list_all is_name ws) refl refl e
   where
-    by : (a b : Bool) → list_any is_reserved ws ≡ a → list_all is_name ws ≡ b → ◌≡◌ {A = Result (Unit {0}) Code} (if a then Err Reserved else if b then Ok tt else Err BadName) (Ok tt)
+    by : (a b : Bool) → list_any is_reserved ws ≡ a → list_all is_name ws ≡ b
+        → ◌≡◌ {A = Result (Unit {0}) Code} (if a then Err Reserved else if b then Ok tt else Err BadName) (Ok tt)
         → list_all is_free ws ≡ true
     by true b h g e = absurd cc
     by false true h g e = none-reserved ws h g

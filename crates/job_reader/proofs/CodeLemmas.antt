@@ -42,4 +42,5 @@ matched-code s code m = ap (code_lines s) (sym m) ∙ block-code s (tree_of code
 
 pub text-append : (xs ys : List Words) → text_of (xs ++ ys) ≡ text_of xs ++ text_of ys
 text-append [] ys = refl
-text-append (x ∷ xs) ys = ap (λ (t : List ℕ). line_text x ++ t) (text-append xs ys) ∙ sym (append_assoc (line_text x) (text_of xs) (text_of ys))
+text-append (x ∷ xs) ys =
+    ap (λ (t : List ℕ). line_text x ++ t) (text-append xs ys) ∙ sym (append_assoc (line_text x) (text_of xs) (text_of ys))

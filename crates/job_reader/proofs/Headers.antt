@@ -24,7 +24,8 @@ in-said w format e = by (bytes_eq w (codes "1")) (bytes_eq w (codes "2")) refl r
     two : (w : Word) → w ≡ codes "2" → SaysFormat w 2
     two w e = record { written = ap (λ (x : Word). codes "bsp" ∷ x ∷ []) (e ∙ sym (decimal_digit 2 (omega arith))); is = refl }
 
-    by : (a b : Bool) → bytes_eq w (codes "1") ≡ a → bytes_eq w (codes "2") ≡ b → (if a then Some 1 else if b then Some 2 else None) ≡ Some format → SaysFormat w format
+    by : (a b : Bool) → bytes_eq w (codes "1") ≡ a → bytes_eq w (codes "2") ≡ b
+        → (if a then Some 1 else if b then Some 2 else None) ≡ Some format → SaysFormat w format
     by true b h g e = let same : 1 ≡ format = cc in subst (SaysFormat w) same (one w (same-word w (codes "1") h))
     by false true h g e = let same : 2 ≡ format = cc in subst (SaysFormat w) same (two w (same-word w (codes "2") g))
     by false false h g e = absurd cc

@@ -37,22 +37,29 @@ job-put format [] i = put-first format i
 job-put format (x ∷ xs) i = ap (with_item x) (job-put format xs i) ∙ put-in x i (job_of format xs)
 
 pub items-append : (format : ℕ) (arrays bodies : List Word) (xs ys : List Item)
-    → items_lines format arrays bodies (xs ++ ys) ≡ items_lines format arrays bodies xs ++ items_lines format (arrays ++ array_names (job_of format xs)) bodies ys
+    → items_lines format arrays bodies (xs ++ ys)
+    ≡ items_lines format arrays bodies xs ++ items_lines format (arrays ++ array_names (job_of format xs)) bodies ys
 items-append format arrays bodies [] ys = ap (λ (a : List Word). items_lines format a bodies ys) (sym (append-nil arrays))
 items-append format arrays bodies (AnArray n g c ∷ xs) ys =
     ap (λ (t : List Words). array_words n (length c) g ∷ t)
     (items-append format (arrays ++ n ∷ []) bodies xs ys
-    ∙ ap (λ (a : List Word). items_lines format (arrays ++ n ∷ []) bodies xs ++ items_lines format a bodies ys) (append_assoc arrays (n ∷ []) (array_names (job_of format xs))))
+    ∙ ap (λ (a : List Word). items_lines format (arrays ++ n ∷ []) bodies xs ++ items_lines format a bodies ys)
+    (append_assoc arrays (n ∷ []) (array_names (job_of format xs))))
 items-append format arrays bodies (ABody b ∷ xs) ys =
     ap (λ (t : List Words). body_lines format arrays bodies b ++ t) (items-append format arrays bodies xs ys)
-    ∙ sym (append_assoc (body_lines format arrays bodies b) (items_lines format arrays bodies xs) (items_lines format (arrays ++ array_names (job_of format xs)) bodies ys))
-items-append format arrays bodies (AStart s ∷ xs) ys = ap (λ (t : List Words). start_words bodies s ∷ t) (items-append format arrays bodies xs ys)
+    ∙ sym
+    (append_assoc (body_lines format arrays bodies b) (items_lines format arrays bodies xs) (items_lines format (arrays ++ array_names (job_of format xs)) bodies ys))
+items-append format arrays bodies (AStart s ∷ xs) ys =
+    ap (λ (t : List Words). start_words bodies s ∷ t) (items-append format arrays bodies xs ys)
 
 pub sound-append : (format : ℕ) (arrays bodies : List Word) (xs ys : List Item) → AreSound format arrays bodies xs
     → AreSound format (arrays ++ array_names (job_of format xs)) bodies ys → AreSound format arrays bodies (xs ++ ys)
 sound-append format arrays bodies [] ys h k = subst (λ (a : List Word). AreSound format a bodies ys) (append-nil arrays) k
-sound-append format arrays bodies (AnArray n g c ∷ xs) ys h k =
-    (h.0, sound-append format (arrays ++ n ∷ []) bodies xs ys h.1 (subst (λ (a : List Word). AreSound format a bodies ys) (sym (append_assoc arrays (n ∷ []) (array_names (job_of format xs)))) k))
+sound-append format arrays bodies (AnArray n g c ∷ xs) ys h k = (
+  h.0,
+  sound-append format (arrays ++ n ∷ []) bodies xs ys h.1
+      (subst (λ (a : List Word). AreSound format a bodies ys) (sym (append_assoc arrays (n ∷ []) (array_names (job_of format xs)))) k),
+)
 sound-append format arrays bodies (ABody b ∷ xs) ys h k = (h.0, sound-append format arrays bodies xs ys h.1 k)
 sound-append format arrays bodies (AStart s ∷ xs) ys h k = (h.0, sound-append format arrays bodies xs ys h.1 k)
 
@@ -63,7 +70,8 @@ pub record SpelledOut (bodies : List Word) (lines : List Words) (j : JobTree) : 
   pub said : job_of j.format items ≡ j
   pub sound : AreSound j.format [] bodies items
 
-spelled-out-as : (bodies : List Word) (lines : List Words) (j : JobTree) (format : ℕ) (items : List Item) → format ≡ j.format → lines ≡ items_lines format [] bodies items
+spelled-out-as : (bodies : List Word) (lines : List Words) (j : JobTree) (format : ℕ) (items : List Item) → format ≡ j.format
+    → lines ≡ items_lines format [] bodies items
     → job_of format items ≡ j → AreSound format [] bodies items → SpelledOut bodies lines j
 spelled-out-as bodies lines j format items same w s h = record {
   items = items;
@@ -73,11 +81,13 @@ spelled-out-as bodies lines j format items same w s h = record {
 }
 
 -- an item more
-pub spelled-out-put : (bodies : List Word) (lines : List Words) (j : JobTree) (i : Item) → SpelledOut bodies lines j → AreSound j.format (array_names j) bodies (i ∷ [])
+pub spelled-out-put : (bodies : List Word) (lines : List Words) (j : JobTree) (i : Item) → SpelledOut bodies lines j
+    → AreSound j.format (array_names j) bodies (i ∷ [])
     → SpelledOut bodies (lines ++ items_lines j.format (array_names j) bodies (i ∷ [])) (put i j)
 spelled-out-put bodies lines j i t s =
     let names : array_names (job_of j.format t.items) ≡ array_names j = ap array_names t.said in
-    spelled-out-as bodies (lines ++ items_lines j.format (array_names j) bodies (i ∷ [])) (put i j) j.format (t.items ++ i ∷ []) (put-format i j)
+    spelled-out-as bodies (lines ++ items_lines j.format (array_names j) bodies (i ∷ [])) (put i j) j.format (t.items ++ i ∷ [])
+    (put-format i j)
     (ap (λ (x : List Words). x ++ items_lines j.format (array_names j) bodies (i ∷ [])) t.written
     ∙ ap (λ (a : List Word). items_lines j.format [] bodies t.items ++ items_lines j.format a bodies (i ∷ [])) (sym names)
     ∙ sym (items-append j.format [] bodies t.items (i ∷ [])))

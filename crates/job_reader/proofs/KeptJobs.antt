@@ -67,11 +67,14 @@ at-most a b e = grind (arith, common_steps)
 abbrev Within : Inside → Line → Type 0
 Within o l = (statements_behind o.statements l ≤ 1024) × (length o.locals ≤ 32) × (opened (length o.frames) l ≤ 16)
 
-not-over : (o : Inside) (l : Line) → is_over (statements_behind o.statements l) (length o.locals) (opened (length o.frames) l) ≡ false → Within o l
+not-over : (o : Inside) (l : Line) → is_over (statements_behind o.statements l) (length o.locals) (opened (length o.frames) l) ≡ false
+    → Within o l
 not-over o l e =
-    parts (nat_lt 1024 (statements_behind o.statements l)) (nat_lt 32 (length o.locals)) (nat_lt 16 (opened (length o.frames) l)) refl refl refl e
+    parts (nat_lt 1024 (statements_behind o.statements l)) (nat_lt 32 (length o.locals)) (nat_lt 16 (opened (length o.frames) l)) refl refl
+    refl e
   where
-    parts : (a b c : Bool) → nat_lt 1024 (statements_behind o.statements l) ≡ a → nat_lt 32 (length o.locals) ≡ b → nat_lt 16 (opened (length o.frames) l) ≡ c
+    parts : (a b c : Bool) → nat_lt 1024 (statements_behind o.statements l) ≡ a → nat_lt 32 (length o.locals) ≡ b
+        → nat_lt 16 (opened (length o.frames) l) ≡ c
         → (a || b || c) ≡ false → Within o l
     parts true b c x y z f = absurd cc
     parts false true c x y z f = absurd cc
@@ -79,14 +82,16 @@ not-over o l e =
     parts false false false x y z f =
         (at-most (statements_behind o.statements l) 1024 x, at-most (length o.locals) 32 y, at-most (opened (length o.frames) l) 16 z)
 
-within-case : (o : Inside) (k l : Line) (b : Bool) → is_over (statements_behind o.statements k) (length o.locals) (opened (length o.frames) k) ≡ b
+within-case : (o : Inside) (k l : Line) (b : Bool)
+    → is_over (statements_behind o.statements k) (length o.locals) (opened (length o.frames) k) ≡ b
     → ◌≡◌ {A = Result Line Code} (if b then Err TooMany else Ok k) (Ok l) → Within o l
 within-case o k l true h e = absurd cc
 within-case o k l false h e = let same : k ≡ l = cc in subst (Within o) same (not-over o k h)
 
 within-few : (r : Result Line Code) (o : Inside) (l : Line) → (r >>= within_limits o) ≡ Ok l → Within o l
 within-few (Err c) o l e = absurd cc
-within-few (Ok k) o l e = within-case o k l (is_over (statements_behind o.statements k) (length o.locals) (opened (length o.frames) k)) refl e
+within-few (Ok k) o l e =
+    within-case o k l (is_over (statements_behind o.statements k) (length o.locals) (opened (length o.frames) k)) refl e
 
 -- a line that no open line takes is outside of all open lines
 none-open : (l : Line) (fs : List Frame) (b : Block) → step_of l fs b ≡ None → sits (can_else fs) l ≡ true → fs ≡ []
@@ -103,7 +108,8 @@ none-open (line.EndWhile x n) [] b e t = refl
 none-open (line.EndWhile x n) (f ∷ fs) b e t = absurd cc
 
 -- a job with a body more
-body-put : (j : JobTree) (b : BodyTree) → KeptJob j → KeptBody j.format b → is_among (body_names j) b.name ≡ false → length (body_names j) < 64
+body-put : (j : JobTree) (b : BodyTree) → KeptJob j → KeptBody j.format b → is_among (body_names j) b.name ≡ false
+    → length (body_names j) < 64
     → KeptJob (record j { bodies = j.bodies ++ b ∷ [] })
 body-put j b g h new capacity =
     let names : map (λ x. x.name) (j.bodies ++ b ∷ []) ≡ body_names j ++ b.name ∷ [] = map-append (λ x. x.name) j.bodies (b ∷ []) in
@@ -121,7 +127,8 @@ body-put j b g h new capacity =
     }
 
 ended-kept : (o : Inside) → is_free o.name ≡ true → are_names o.locals ≡ true → length o.locals ≤ 32
-    → are_below (length o.locals) (mentions (open_code o.frames o.block)) ≡ true → Counted o.frames o.block o.statements → o.frames ≡ [] → IsBody (flat_body (ended o))
+    → are_below (length o.locals) (mentions (open_code o.frames o.block)) ≡ true → Counted o.frames o.block o.statements → o.frames ≡ []
+    → IsBody (flat_body (ended o))
 ended-kept o name locals few below c none =
     let code : open_code o.frames o.block ≡ flat o.block = ap (λ (fs : List Frame). open_code fs o.block) none in
     let count : statements (flat o.block) ≡ o.statements = sym (ap statements code) ∙ c.counts in
@@ -149,14 +156,16 @@ none-mentions (line.EndWhile x n) fs b e t = refl
 below-step : (l : Line) (fs : List Frame) (b : Block) (s : List Frame × Block) (n : ℕ) → step_of l fs b ≡ Some s
     → are_below n (mentions (open_code fs b)) ≡ true → are_below n (in_line l) ≡ true → are_below n (mentions (open_code s.0 s.1)) ≡ true
 below-step l fs b s n e before here =
-    ap (are_below n) (mentions-step l fs b s e) ∙ list_all-append (λ i. nat_lt i n) (mentions (open_code fs b)) (in_line l) ∙ and-true _ _ before here
+    ap (are_below n) (mentions-step l fs b s e) ∙ list_all-append (λ i. nat_lt i n) (mentions (open_code fs b)) (in_line l)
+    ∙ and-true _ _ before here
 
 -- and whether it has an add
 first-step : (l : Line) (fs : List Frame) (b : Block) (s : List Frame × Block) → step_of l fs b ≡ Some s
     → list_all is_of_first (open_code fs b) ≡ true → is_of_first l ≡ true → list_all is_of_first (open_code s.0 s.1) ≡ true
 first-step l fs b s e before here =
     sym (all-mapped is_of_first (open_code s.0 s.1))
-    ∙ ap (λ (c : List Bool). list_all (λ (b : Bool). b) c) (step-map is_of_first (λ e n m. refl) (λ n m. refl) (λ e n m. refl) (λ e n. refl) l fs b s e)
+    ∙ ap (λ (c : List Bool). list_all (λ (b : Bool). b) c)
+    (step-map is_of_first (λ e n m. refl) (λ n m. refl) (λ e n m. refl) (λ e n. refl) l fs b s e)
     ∙ list_all-append (λ (b : Bool). b) (map is_of_first (open_code fs b)) (is_of_first l ∷ [])
     ∙ and-true _ _ (all-mapped is_of_first (open_code fs b) ∙ before) (and-true _ true here refl)
 
@@ -171,7 +180,8 @@ record Said (format : ℕ) (o : Inside) (ls : List Word) (l : Line) : Type 0 whe
   order : format ≡ 1 → mentioned (length o.locals) (in_line l) ≡ Some (length ls)
   known : format ≡ 1 → is_of_first l ≡ true
 
-before-wider : (o : Inside) (ls : List Word) (is : List ℕ) → ((more : List Word) × (ls ≡ o.locals ++ more)) → are_below (length o.locals) is ≡ true → are_below (length ls) is ≡ true
+before-wider : (o : Inside) (ls : List Word) (is : List ℕ) → ((more : List Word) × (ls ≡ o.locals ++ more))
+    → are_below (length o.locals) is ≡ true → are_below (length ls) is ≡ true
 before-wider o ls is grown e = ap (λ (x : List Word). are_below (length x) is) grown.1 ∙ below-grows o.locals grown.0 is e
 
 same-count : (n m : ℕ) (is : List ℕ) → is ≡ [] → mentioned n is ≡ Some m → n ≡ m
@@ -196,16 +206,21 @@ whole-ended j o ls l h x e =
     let none : o.frames ≡ [] = none-open l o.frames o.block e x.stands in
     record {
       closed = none;
-      body = ended-kept (record o { locals = ls }) h.name x.names x.few.1 (before-wider o ls (mentions (open_code o.frames o.block)) x.grown h.mentions) h.counted none;
+      body =
+          ended-kept (record o { locals = ls }) h.name x.names x.few.1
+          (before-wider o ls (mentions (open_code o.frames o.block)) x.grown h.mentions) h.counted none;
     }
 
-by-step : (j : JobTree) (o : Inside) (ls : List Word) (l : Line) (r : Option (List Frame × Block)) → KeptJob j → KeptOpen j o → Said j.format o ls l
+by-step : (j : JobTree) (o : Inside) (ls : List Word) (l : Line) (r : Option (List Frame × Block)) → KeptJob j → KeptOpen j o
+    → Said j.format o ls l
     → step_of l o.frames o.block ≡ r
-    → KeptAt (behind j (record o { locals = ls }) (statements_behind o.statements l) r).0 (behind j (record o { locals = ls }) (statements_behind o.statements l) r).1
+    → KeptAt (behind j (record o { locals = ls }) (statements_behind o.statements l) r).0
+    (behind j (record o { locals = ls }) (statements_behind o.statements l) r).1
 by-step j o ls l None g h x e =
     let whole = whole-ended j o ls l h x e in
     let alone : in_line l ≡ [] = none-mentions l o.frames o.block e x.stands in
-    body-put j (ended (record o { locals = ls })) g (whole.body, λ f. first-ended o ls l (h.first f) whole.closed alone (x.order f)) h.new h.capacity
+    body-put j (ended (record o { locals = ls })) g (whole.body, λ f. first-ended o ls l (h.first f) whole.closed alone (x.order f)) h.new
+    h.capacity
 by-step j o ls l (Some s) g h x e = (
   g,
   record {
@@ -214,7 +229,8 @@ by-step j o ls l (Some s) g h x e = (
     capacity = h.capacity;
     locals = x.names;
     few = x.few.1;
-    mentions = below-step l o.frames o.block s (length ls) e (before-wider o ls (mentions (open_code o.frames o.block)) x.grown h.mentions) x.here;
+    mentions =
+        below-step l o.frames o.block s (length ls) e (before-wider o ls (mentions (open_code o.frames o.block)) x.grown h.mentions) x.here;
     first = λ f. record {
       order = order-step l o.frames o.block s (length o.locals) (length ls) e (h.first f).order (x.order f);
       lines = first-step l o.frames o.block s e (h.first f).lines (x.known f);
@@ -234,8 +250,10 @@ first-known format l e f = by (is_of_first l) (ap (λ (x : ℕ). is_in_format x 
     by true e = refl
     by false e = absurd cc
 
-said-kept : (arrays bodies : List Word) (j : JobTree) (o : Inside) (k : Option Keyword) (ws : Words) (l : Line) → KeptOpen j o → known_in j.format k ≡ k
-    → said arrays bodies (mentioning j.format o k ws) k ws ≡ Ok l → Said j.format o (locals_behind j.format o.locals (mentions_behind k ws)) l
+said-kept : (arrays bodies : List Word) (j : JobTree) (o : Inside) (k : Option Keyword) (ws : Words) (l : Line) → KeptOpen j o
+    → known_in j.format k ≡ k
+    → said arrays bodies (mentioning j.format o k ws) k ws ≡ Ok l
+    → Said j.format o (locals_behind j.format o.locals (mentions_behind k ws)) l
 said-kept arrays bodies j o k ws l h known e =
     let o' : Inside = mentioning j.format o k ws in
     let s : Names = record { arrays = arrays; bodies = bodies; locals = o'.locals } in
@@ -254,7 +272,8 @@ said-kept arrays bodies j o k ws l h known e =
     }
 
 -- a line of an open body
-pub inner-kept : (bodies : List Word) (j : JobTree) (o : Inside) (k : Option Keyword) (ws : Words) (p : JobTree × Option Inside) → KeptJob j → KeptOpen j o
+pub inner-kept : (bodies : List Word) (j : JobTree) (o : Inside) (k : Option Keyword) (ws : Words) (p : JobTree × Option Inside) → KeptJob j
+    → KeptOpen j o
     → known_in j.format k ≡ k → inner_line bodies j o k ws ≡ Ok p → KeptAt p.0 p.1
 inner-kept bodies j o k ws p g h known e =
     let o' : Inside = mentioning j.format o k ws in
@@ -264,7 +283,8 @@ inner-kept bodies j o k ws p g h known e =
     (by-step j o o'.locals m.0 (step_of m.0 o.frames o.block) g h x refl)
 
 -- what a line ends is a body
-pub ends-whole : (arrays bodies : List Word) (j : JobTree) (o : Inside) (k : Option Keyword) (ws : Words) (l : Line) → KeptOpen j o → known_in j.format k ≡ k
+pub ends-whole : (arrays bodies : List Word) (j : JobTree) (o : Inside) (k : Option Keyword) (ws : Words) (l : Line) → KeptOpen j o
+    → known_in j.format k ≡ k
     → Ok l ≡ said arrays bodies (mentioning j.format o k ws) k ws → EndsWhole (mentioning j.format o k ws) l
 ends-whole arrays bodies j o k ws l h known e =
     λ out.
@@ -273,7 +293,8 @@ ends-whole arrays bodies j o k ws l h known e =
     whole-ended j o o'.locals l h x (ends-body l o.frames o.block out x.stands).1
 
 -- what a line that was said ends is a body
-module _ (arrays bodies : List Word) (format : ℕ) (w x : OpenBody) (k : Option Keyword) (ws : Words) (l : Line) (noted : (o : Inside) → IsInside o w → IsInside (mentioning format o k ws) x)
+module _ (arrays bodies : List Word) (format : ℕ) (w x : OpenBody) (k : Option Keyword) (ws : Words) (l : Line)
+    (noted : (o : Inside) → IsInside o w → IsInside (mentioning format o k ws) x)
     (known : known_in format k ≡ k)
     (heard : (o : Inside) → IsInside o x → Ok l ≡ said arrays bodies o k ws) where
   opened-ends : (j : JobTree) (i : Option Inside) → format ≡ j.format → IsOpened i (Some w) → KeptAt j i → HasEnding x l

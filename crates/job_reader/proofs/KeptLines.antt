@@ -72,7 +72,8 @@ below a b e = grind (arith, common_steps)
 abbrev Passed : {A : Type 0} → Bool → Bool → Result A Code → A → Type 0
 Passed a b r y = (a ≡ false) × (b ≡ false) × (r ≡ Ok y)
 
-two-passed : {A : Type 0} (a b : Bool) (c d : Code) (r : Result A Code) (y : A) → (if a then Err c else if b then Err d else r) ≡ Ok y → Passed a b r y
+two-passed : {A : Type 0} (a b : Bool) (c d : Code) (r : Result A Code) (y : A) → (if a then Err c else if b then Err d else r) ≡ Ok y
+    → Passed a b r y
 two-passed true b c d r y e = absurd cc
 two-passed false true c d r y e = absurd cc
 two-passed false false c d r y e = (refl, refl, e)
@@ -97,7 +98,8 @@ zeros-fit (suc n) = zeros-fit n
 abbrev AreCells : List ℤ → Type 0
 AreCells cells = ((nat_le 1 (length cells) && nat_le (length cells) 4096) ≡ true) × (list_all fits_i64 cells ≡ true)
 
-filled-cells : (b : Bool) (m : ℕ) (vs cells : List ℤ) → (nat_le 1 m && nat_le m 4096 && nat_le (length vs) m) ≡ b → list_all fits_i64 vs ≡ true
+filled-cells : (b : Bool) (m : ℕ) (vs cells : List ℤ) → (nat_le 1 m && nat_le m 4096 && nat_le (length vs) m) ≡ b
+    → list_all fits_i64 vs ≡ true
     → (if b then Ok (vs ++ replicate (m - length vs) (pos 0)) else Err BadLength) ≡ Ok cells → AreCells cells
 filled-cells false m vs cells t f e = absurd cc
 filled-cells true m vs cells t f e =
@@ -107,7 +109,8 @@ filled-cells true m vs cells t f e =
     omega (arith, length-append vs (replicate (m - length vs) (pos 0)), length-replicate {A = ℤ} (m - length vs) (pos 0)) in
     let count : m ≡ length cells = sym len ∙ ap (λ (x : List ℤ). length x) same in (
       ap (λ (n : ℕ). nat_le 1 n && nat_le n 4096) (sym count) ∙ and-left _ (nat_le (length vs) m) t,
-      ap (list_all fits_i64) (sym same) ∙ list_all-append fits_i64 vs (replicate (m - length vs) (pos 0)) ∙ and-true _ _ f (zeros-fit (m - length vs)),
+      ap (list_all fits_i64) (sym same) ∙ list_all-append fits_i64 vs (replicate (m - length vs) (pos 0))
+          ∙ and-true _ _ f (zeros-fit (m - length vs)),
     )
 
 cells-read : (len : Word) (values : Words) (cells : List ℤ) → cells_of len values ≡ Ok cells → AreCells cells
@@ -120,7 +123,8 @@ cells-read len values cells e =
     by-sign (negsuc n) vs f e = absurd cc
     by-sign (pos m) vs f e = filled-cells (nat_le 1 m && nat_le m 4096 && nat_le (length vs) m) m vs cells refl f e
 
-pub array-read : (ws : Words) (x : Word × List ℤ) → array_of ws ≡ Ok x → (is_free x.0 ≡ true) × (is_array x ≡ true) × (list_all fits_i64 x.1 ≡ true)
+pub array-read : (ws : Words) (x : Word × List ℤ) → array_of ws ≡ Ok x
+    → (is_free x.0 ≡ true) × (is_array x ≡ true) × (list_all fits_i64 x.1 ≡ true)
 array-read [] x e = absurd cc
 array-read (name ∷ []) x e = absurd cc
 array-read (name ∷ len ∷ values) x e =
@@ -154,7 +158,9 @@ array-kept : (j j' : JobTree) (ws : Words) → KeptJob j → array_line j ws ≡
 array-kept j j' ws g e =
     let a = bind-ok (array_of ws) (with_array j) j' e in
     let x = array-read ws a.0 a.1 in
-    let p = two-passed (is_among (array_names j) a.0.0) (nat_le 16 (length (array_names j))) Twice TooMany (Ok (record j { arrays = j.arrays ++ a.0 ∷ [] })) j' a.2 in
+    let p =
+    two-passed (is_among (array_names j) a.0.0) (nat_le 16 (length (array_names j))) Twice TooMany
+    (Ok (record j { arrays = j.arrays ++ a.0 ∷ [] })) j' a.2 in
     let same : (record j { arrays = j.arrays ++ a.0 ∷ [] }) ≡ j' = cc in
     subst KeptJob same (array-put j a.0 g x.1 x.0 x.2 p.0 (below (length (array_names j)) 16 p.1) (length-map j.arrays (λ y. y.0)))
 
@@ -162,7 +168,8 @@ not-false : (b : Bool) → not b ≡ false → b ≡ true
 not-false true e = refl
 not-false false e = absurd cc
 
-none-listed : (format : ℕ) (name : Word) (ws : List Word) → format ≡ 1 → listed_in format ws ≡ ws → ◌≡◌ {A = Word × List Word} (name, ws) (name, [])
+none-listed : (format : ℕ) (name : Word) (ws : List Word) → format ≡ 1 → listed_in format ws ≡ ws
+    → ◌≡◌ {A = Word × List Word} (name, ws) (name, [])
 none-listed format name ws e h =
     let none : ◌≡◌ {A = List Word} [] ws = ap (λ (x : ℕ). listed_in x ws) (sym e) ∙ h in
     ap (λ (x : List Word). (name, x)) (sym none)
@@ -177,7 +184,8 @@ body-kept j o (name ∷ ws) e =
     let p = two-passed (twice || not (are_apart a.0.1)) (many || nat_lt 32 (length a.0.1)) Twice TooMany (Ok (begun a.0)) o a.2 in
     let same : begun a.0 ≡ o = cc in
     let apart : are_apart a.0.1 ≡ true = not-false (are_apart a.0.1) (or-right twice (not (are_apart a.0.1)) p.0) in
-    let free : list_all is_free a.0.1 ≡ true = ap (λ (h : Word × List Word). list_all is_free h.1) (sym m.same) ∙ all-free ws m.locals_said in
+    let free : list_all is_free a.0.1 ≡ true =
+    ap (λ (h : Word × List Word). list_all is_free h.1) (sym m.same) ∙ all-free ws m.locals_said in
     subst (KeptOpen j) same
     (record {
       name = ap (λ (h : Word × List Word). is_free h.0) (sym m.same) ∙ free-named name tt m.name_said;
@@ -219,7 +227,9 @@ start-kept bodies j j' ws g e =
       cells = g.cells;
       bodies_named = g.bodies_named;
       bodies = g.bodies;
-      args = list_all-append (λ s. fits_i64 s.arg) j.starts (a.0 ∷ []) ∙ and-true _ _ g.args (and-true _ true (start-read bodies ws a.0 a.1) refl);
+      args =
+          list_all-append (λ s. fits_i64 s.arg) j.starts (a.0 ∷ [])
+          ∙ and-true _ _ g.args (and-true _ true (start-read bodies ws a.0 a.1) refl);
     })
 
 outer-kept : (bodies : List Word) (j : JobTree) (k : Option Outer) (ws : Words) (p : JobTree × Option Inside) → KeptJob j
@@ -253,10 +263,12 @@ step-cases bodies n a y ws false g e =
     subst (λ (x : Above). KeptAt x.job x.inside) m.2 (any-kept bodies a.job a.inside ws m.0 g m.1)
 
 -- a line, whether it is skipped or not
-pub step-kept : (bodies : List Word) (n : ℕ) (a y : Above) (ws : Words) → KeptAt a.job a.inside → kept_step bodies n a ws ≡ Ok y → KeptAt y.job y.inside
+pub step-kept : (bodies : List Word) (n : ℕ) (a y : Above) (ws : Words) → KeptAt a.job a.inside → kept_step bodies n a ws ≡ Ok y
+    → KeptAt y.job y.inside
 step-kept bodies n a y ws g e = step-cases bodies n a y ws (is_skipped ws) g e
 
-lines-kept : (bodies : List Word) (ls : List (List ℕ)) (n : ℕ) (a : Above) (j : JobTree) → KeptAt a.job a.inside → read_lines bodies n a ls ≡ Ok j → KeptJob j
+lines-kept : (bodies : List Word) (ls : List (List ℕ)) (n : ℕ) (a : Above) (j : JobTree) → KeptAt a.job a.inside
+    → read_lines bodies n a ls ≡ Ok j → KeptJob j
 lines-kept bodies [] n a j g e =
     let f = finished-ok n a a.inside a.missing j e in
     subst KeptJob f.2 (subst (λ (i : Option Inside). KeptAt a.job i) f.0 g)
@@ -271,7 +283,8 @@ lines-kept bodies (l ∷ ls) n a j g e =
     ]
 
 -- after the header
-from-kept : (bodies : List Word) (n : ℕ) (l : List ℕ) (ls : List (List ℕ)) (j : JobTree) (a : Bool) (o : Option ℕ) → format_of (words_of l) ≡ o
+from-kept : (bodies : List Word) (n : ℕ) (l : List ℕ) (ls : List (List ℕ)) (j : JobTree) (a : Bool) (o : Option ℕ)
+    → format_of (words_of l) ≡ o
     → (read_from bodies (n + 1) ls ≡ Ok j → KeptJob j)
     → (if a then read_from bodies (n + 1) ls else read_behind bodies n o ls) ≡ Ok j → KeptJob j
 from-kept bodies n l ls j true o h later e = later e
@@ -281,13 +294,15 @@ from-kept bodies n l ls j false None h later e = absurd cc
 
 begins-kept : (bodies : List Word) (ls : List (List ℕ)) (n : ℕ) (j : JobTree) → read_from bodies n ls ≡ Ok j → KeptJob j
 begins-kept bodies [] n j e = absurd cc
-begins-kept bodies (l ∷ ls) n j e = from-kept bodies n l ls j (is_skipped (words_of l)) (format_of (words_of l)) refl (begins-kept bodies ls (n + 1) j) e
+begins-kept bodies (l ∷ ls) n j e =
+    from-kept bodies n l ls j (is_skipped (words_of l)) (format_of (words_of l)) refl (begins-kept bodies ls (n + 1) j) e
 
 pub unless-ok : (o : Option ℕ) (r : Result JobTree Refusal) (j : JobTree) → unless_bad o r ≡ Ok j → r ≡ Ok j
 unless-ok None r j e = e
 unless-ok (Some n) r j e = absurd cc
 
-pub long-ok : (b : Bool) (o : Option ℕ) (r : Result JobTree Refusal) (j : JobTree) → (if b then refused 1 TooLong else unless_bad o r) ≡ Ok j → r ≡ Ok j
+pub long-ok : (b : Bool) (o : Option ℕ) (r : Result JobTree Refusal) (j : JobTree)
+    → (if b then refused 1 TooLong else unless_bad o r) ≡ Ok j → r ≡ Ok j
 long-ok true o r j e = absurd cc
 long-ok false o r j e = unless-ok o r j e
 

@@ -35,7 +35,8 @@ known-some format k e = by (is_of_first k || not (format == 1)) e
     by false e = absurd cc
 
 -- a line that is read begins as the format knows it
-pub known-cases : (s : Names) (fits : Bool) (format : ℕ) (k : Option Keyword) (ws : Words) (l : Line) → line_behind s fits (known_in format k) ws ≡ Ok l → known_in format k ≡ k
+pub known-cases : (s : Names) (fits : Bool) (format : ℕ) (k : Option Keyword) (ws : Words) (l : Line)
+    → line_behind s fits (known_in format k) ws ≡ Ok l → known_in format k ≡ k
 unfolding line_behind
 known-cases s fits format None ws l e = absurd cc
 known-cases s fits format (Some k) ws l e = by (is_of_first k || not (format == 1)) e
@@ -62,7 +63,8 @@ alone-first k l [] h e = let same : k ≡ l = cc in ap lines.is_of_first (sym sa
 alone-first k l (w ∷ ws) h e = absurd cc
 
 -- a line is of the first format if its first word is
-pub said-first : (s : Names) (fits : Bool) (k : Keyword) (ws : Words) (l : Line) → line_behind s fits (Some k) ws ≡ Ok l → lines.is_of_first l ≡ is_of_first k
+pub said-first : (s : Names) (fits : Bool) (k : Keyword) (ws : Words) (l : Line) → line_behind s fits (Some k) ws ≡ Ok l
+    → lines.is_of_first l ≡ is_of_first k
 unfolding line_behind
 said-first s fits Let [] l e = absurd cc
 said-first s fits Let (w ∷ []) l e = absurd cc
@@ -84,7 +86,8 @@ said-first s fits While ws l e = made-first _ true (λ a. refl) _ l e
 said-first s fits End ws l e = alone-first _ l ws refl e
 
 -- a line that is said by a word that the format knows is one of the format
-pub said-known : (s : Names) (fits : Bool) (format : ℕ) (k : Option Keyword) (ws : Words) (l : Line) → known_in format k ≡ k → line_behind s fits k ws ≡ Ok l
+pub said-known : (s : Names) (fits : Bool) (format : ℕ) (k : Option Keyword) (ws : Words) (l : Line) → known_in format k ≡ k
+    → line_behind s fits k ws ≡ Ok l
     → is_in_format format l ≡ true
 unfolding line_behind
 said-known s fits format None ws l h e = absurd cc
@@ -92,7 +95,8 @@ said-known s fits format (Some k) ws l h e =
     ap (λ (b : Bool). b || not (format == 1)) (said-first s fits k ws l e) ∙ known-some format k h
 
 -- a line of the format begins as the format knows it
-pub word-known : (s : Names) (fits : Bool) (format : ℕ) (k : Option Keyword) (ws : Words) (l : Line) → line_behind s fits k ws ≡ Ok l → is_in_format format l ≡ true
+pub word-known : (s : Names) (fits : Bool) (format : ℕ) (k : Option Keyword) (ws : Words) (l : Line) → line_behind s fits k ws ≡ Ok l
+    → is_in_format format l ≡ true
     → known_in format k ≡ k
 word-known s fits format None ws l e h = refl
 word-known s fits format (Some k) ws l e h =

@@ -31,7 +31,8 @@ wide-operand k n (operand.Cell c) h e = let there : c.array < k = ltb-true c.arr
 
 wide-expr : (k n : ℕ) (x : Expr) → k ≤ n → is_expr k x ≡ true → is_expr n x ≡ true
 wide-expr k n (One a) h e = wide-operand k n a h e
-wide-expr k n (Two a o b) h e = and-true _ _ (wide-operand k n a h (and-left _ (is_operand k b) e)) (wide-operand k n b h (and-right (is_operand k a) _ e))
+wide-expr k n (Two a o b) h e =
+    and-true _ _ (wide-operand k n a h (and-left _ (is_operand k b) e)) (wide-operand k n b h (and-right (is_operand k a) _ e))
 
 wide-action : (k n m : ℕ) (a : Action) → k ≤ n → is_action k m a ≡ true → is_action n m a ≡ true
 wide-action k n m (action.Let i x) h e = wide-expr k n x h e
@@ -56,7 +57,8 @@ both-all p xs ys e f = list_all-append p xs ys ∙ and-true _ _ e f
 block-there : (k n m : ℕ) (b : Block) → k ≤ n → list_all (line_names k m) (flat b) ≡ true → list_all (is_line n m) (flat b) ≡ true
 block-there k n m Done h e = refl
 block-there k n m (Do a r) h e =
-    and-true _ _ (wide-action k n m a h (and-left _ (list_all (line_names k m) (flat r)) e)) (block-there k n m r h (and-right (is_action k m a) _ e))
+    and-true _ _ (wide-action k n m a h (and-left _ (list_all (line_names k m) (flat r)) e))
+    (block-there k n m r h (and-right (is_action k m a) _ e))
 block-there k n m (If t a r) h e =
     let inner : list_all (line_names k m) (flat a ++ line.EndIf ∷ flat r) ≡ true = and-right (is_expr k t) _ e in
     and-true _ _ (wide-expr k n t h (and-left _ (list_all (line_names k m) (flat a ++ line.EndIf ∷ flat r)) e))
@@ -79,16 +81,19 @@ block-there k n m (While t a r) h e =
     (both-all (is_line n m) (flat a) end (block-there k n m a h (left-all (line_names k m) (flat a) end inner))
     (and-true _ _ test (block-there k n m r h (right-all (line_names k m) (flat a) end inner))))
 
-lines-named : (s : Names) (code : List Line) → list_all (line_fits s) code ≡ true → list_all (line_names (length s.arrays) (length s.bodies)) code ≡ true
+lines-named : (s : Names) (code : List Line) → list_all (line_fits s) code ≡ true
+    → list_all (line_names (length s.arrays) (length s.bodies)) code ≡ true
 lines-named s [] e = refl
 lines-named s (l ∷ ls) e =
-    and-true _ _ (and-left _ (list_all (λ i. nat_lt i (length s.locals)) (in_line l)) (and-left _ (list_all (line_fits s) ls) e)) (lines-named s ls (and-right (line_fits s l) _ e))
+    and-true _ _ (and-left _ (list_all (λ i. nat_lt i (length s.locals)) (in_line l)) (and-left _ (list_all (line_fits s) ls) e))
+    (lines-named s ls (and-right (line_fits s l) _ e))
 
 -- a body among this many arrays and bodies
 abbrev WholeBody : ℕ → ℕ → BodyTree → Type 0
 WholeBody n m b = list_all (is_line n m) (flat b.block) ≡ true
 
-body-whole : (format : ℕ) (arrays bodies : List Word) (n : ℕ) (b : BodyTree) → length arrays ≤ n → IsSoundBody format arrays bodies b → WholeBody n (length bodies) b
+body-whole : (format : ℕ) (arrays bodies : List Word) (n : ℕ) (b : BodyTree) → length arrays ≤ n → IsSoundBody format arrays bodies b
+    → WholeBody n (length bodies) b
 body-whole format arrays bodies n b few sound =
     block-there (length arrays) n (length bodies) b.block few (lines-named (names_above arrays bodies b) (flat b.block) sound.names)
 
@@ -96,7 +101,8 @@ abbrev pub AreWhole : ℕ → ℕ → List BodyTree → Type 0
 AreWhole n m [] = Unit {0}
 AreWhole n m (b ∷ bs) = WholeBody n m b × AreWhole n m bs
 
-pub items-whole : (format : ℕ) (above bodies : List Word) (n : ℕ) (items : List Item) → length above + length (array_names (job_of format items)) ≡ n → AreSound format above bodies items
+pub items-whole : (format : ℕ) (above bodies : List Word) (n : ℕ) (items : List Item)
+    → length above + length (array_names (job_of format items)) ≡ n → AreSound format above bodies items
     → AreWhole n (length bodies) (job_of format items).bodies
 items-whole format above bodies n [] many h = tt
 items-whole format above bodies n (AnArray name given cells ∷ is) many h =
@@ -110,4 +116,5 @@ pub starts-there : (format : ℕ) (above bodies : List Word) (items : List Item)
 starts-there format above bodies [] h = refl
 starts-there format above bodies (AnArray name given cells ∷ is) h = starts-there format (above ++ name ∷ []) bodies is h.1
 starts-there format above bodies (ABody b ∷ is) h = starts-there format above bodies is h.1
-starts-there format above bodies (AStart s ∷ is) h = and-true _ _ (below-true s.body (length bodies) h.0) (starts-there format above bodies is h.1)
+starts-there format above bodies (AStart s ∷ is) h =
+    and-true _ _ (below-true s.body (length bodies) h.0) (starts-there format above bodies is h.1)

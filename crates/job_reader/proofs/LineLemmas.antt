@@ -43,17 +43,23 @@ pub said-stands : (arrays bodies : List Word) (o : Inside) (k : Option Keyword) 
 said-stands arrays bodies o k ws l e =
     said-sits (record { arrays = arrays; bodies = bodies; locals = o.locals }) (can_else o.frames) k ws l (within-sits _ o l (sym e))
 
-pub line-refused : (names : List Word) (bodies : List Word) (j : JobTree) (o : Inside) (k : Option Keyword) (ws : Words) (c : Code) → names ≡ array_names j
+pub line-refused : (names : List Word) (bodies : List Word) (j : JobTree) (o : Inside) (k : Option Keyword) (ws : Words) (c : Code)
+    → names ≡ array_names j
     → Err c ≡ said names bodies (mentioning j.format o k ws) k ws → inner_line bodies j o k ws ≡ Err c
 line-refused names bodies j o k ws c n e =
-    ap (made (with_line j (mentioning j.format o k ws))) (ap (λ (x : List Word). said x bodies (mentioning j.format o k ws) k ws) (sym n) ∙ sym e)
+    ap (made (with_line j (mentioning j.format o k ws)))
+    (ap (λ (x : List Word). said x bodies (mentioning j.format o k ws) k ws) (sym n) ∙ sym e)
 
-pub line-put : (names : List Word) (bodies : List Word) (j : JobTree) (o : Inside) (k : Option Keyword) (ws : Words) (l : Line) (r : SoFar) (w : Option OpenBody)
+pub line-put : (names : List Word) (bodies : List Word) (j : JobTree) (o : Inside) (k : Option Keyword) (ws : Words) (l : Line) (r : SoFar)
+    (w : Option OpenBody)
     → names ≡ array_names j
-    → Ok l ≡ said names bodies (mentioning j.format o k ws) k ws → IsBehind (with_line j (mentioning j.format o k ws) l) r w → FitsOk (λ p. IsBehind p r w) (inner_line bodies j o k ws)
+    → Ok l ≡ said names bodies (mentioning j.format o k ws) k ws → IsBehind (with_line j (mentioning j.format o k ws) l) r w
+    → FitsOk (λ p. IsBehind p r w) (inner_line bodies j o k ws)
 line-put names bodies j o k ws l r w n e b =
     let P : Result (JobTree × Option Inside) Code → Type 0 = λ x. FitsOk (λ p. IsBehind p r w) x in
-    subst P (sym (ap (made (with_line j (mentioning j.format o k ws))) (ap (λ (x : List Word). said x bodies (mentioning j.format o k ws) k ws) (sym n) ∙ sym e))) b
+    subst P
+    (sym (ap (made (with_line j (mentioning j.format o k ws))) (ap (λ (x : List Word). said x bodies (mentioning j.format o k ws) k ws) (sym n) ∙ sym e)))
+    b
 
 begun-cases : (j : JobTree) (r : SoFar) (w : OpenBody) (read : Result Inside Code) → IsSoFar j r → FitsOk (λ o. IsInside o w) read
     → FitsOk {Y = JobTree × Option Inside} (λ p. IsBehind p r (Some w)) (made (λ o. (j, Some o)) read)
@@ -61,8 +67,10 @@ begun-cases j r w (Ok o) s h = (s, h)
 begun-cases j r w (Err c) s h = h
 
 -- the body that a line begins
-pub body-begun : (bodies : List Word) (j : JobTree) (begins : Option Outer) (ws : Words) (r : SoFar) (w : OpenBody) → begins ≡ Some outer.Body → IsSoFar j r
-    → FitsOk (λ o. IsInside o w) (body_line j ws) → FitsOk {Y = JobTree × Option Inside} (λ p. IsBehind p r (Some w)) (outer_line bodies j begins ws)
+pub body-begun : (bodies : List Word) (j : JobTree) (begins : Option Outer) (ws : Words) (r : SoFar) (w : OpenBody)
+    → begins ≡ Some outer.Body → IsSoFar j r
+    → FitsOk (λ o. IsInside o w) (body_line j ws)
+    → FitsOk {Y = JobTree × Option Inside} (λ p. IsBehind p r (Some w)) (outer_line bodies j begins ws)
 body-begun bodies j begins ws r w e s h =
     subst (λ (b : Option Outer). FitsOk {Y = JobTree × Option Inside} (λ p. IsBehind p r (Some w)) (outer_line bodies j b ws)) (sym e)
     (begun-cases j r w (body_line j ws) s h)

@@ -27,10 +27,13 @@ listed-same format ls ws = by (format == 1)
     by true = refl
     by false = refl
 
-pub behind-append : (format : ℕ) (ls xs ys : List Word) → locals_behind format ls (xs ++ ys) ≡ locals_behind format (locals_behind format ls xs) ys
+pub behind-append : (format : ℕ) (ls xs ys : List Word)
+    → locals_behind format ls (xs ++ ys) ≡ locals_behind format (locals_behind format ls xs) ys
 behind-append format ls xs ys = by (format == 1)
   where
-    by : (b : Bool) → (if b then noted ls (xs ++ ys) else ls) ≡ (if b then noted (if b then noted ls xs else ls) ys else (if b then noted ls xs else ls))
+    by : (b : Bool)
+        → (if b then noted ls (xs ++ ys) else ls)
+        ≡ (if b then noted (if b then noted ls xs else ls) ys else (if b then noted ls xs else ls))
     by true = noted-append ls xs ys
     by false = refl
 
@@ -42,14 +45,16 @@ behind-none format ls = by (format == 1)
     by false = refl
 
 -- a line more
-pub by-one : (format : ℕ) (listed : List Word) (xs : List Words) (w : Words) → locals_by format listed (xs ++ w ∷ []) ≡ locals_behind format (locals_by format listed xs) (mentions_of w)
+pub by-one : (format : ℕ) (listed : List Word) (xs : List Words) (w : Words)
+    → locals_by format listed (xs ++ w ∷ []) ≡ locals_behind format (locals_by format listed xs) (mentions_of w)
 by-one format listed xs w =
     ap (locals_behind format listed) (flat_map-append mentions_of xs (w ∷ []))
     ∙ behind-append format listed (flat_map mentions_of xs) (mentions_of w ++ [])
     ∙ ap (locals_behind format (locals_by format listed xs)) (append-nil (mentions_of w))
 
 -- they stay distinct names
-pub names-behind : (format : ℕ) (ls ws : List Word) → are_names ls ≡ true → list_all is_free ws ≡ true → are_names (locals_behind format ls ws) ≡ true
+pub names-behind : (format : ℕ) (ls ws : List Word) → are_names ls ≡ true → list_all is_free ws ≡ true
+    → are_names (locals_behind format ls ws) ≡ true
 names-behind format ls ws e f = by (format == 1)
   where
     by : (b : Bool) → are_names (if b then noted ls ws else ls) ≡ true

@@ -35,13 +35,17 @@ abbrev Says : List Word → List Word → List ℕ → Type 0
 Says locals ws is = (map (name_at locals) is ≡ ws) × (list_all (λ k. nat_lt k (length locals)) is ≡ true)
 
 index-cases : (locals : List Word) (w : Word) (i : Index) (a b c : Bool)
-    → (if a then made index.Number (numbered w) else if b then Ok index.Arg else if c then Ok index.Step else made index.Local (declared_at locals w)) ≡ Ok i
+    → (if a then made index.Number (numbered w) else if b then Ok index.Arg else if c then Ok index.Step
+    else made index.Local (declared_at locals w))
+    ≡ Ok i
     → Says locals (if a || b || c then [] else w ∷ []) (mentions.in_index i)
 index-cases locals w i true b c e =
     let m = made-ok index.Number (numbered w) i e in
     subst (λ (x : Index). Says locals [] (mentions.in_index x)) m.2 (refl, refl)
-index-cases locals w i false true c e = let same : index.Arg ≡ i = cc in subst (λ (x : Index). Says locals [] (mentions.in_index x)) same (refl, refl)
-index-cases locals w i false false true e = let same : index.Step ≡ i = cc in subst (λ (x : Index). Says locals [] (mentions.in_index x)) same (refl, refl)
+index-cases locals w i false true c e = let same : index.Arg ≡ i = cc in
+    subst (λ (x : Index). Says locals [] (mentions.in_index x)) same (refl, refl)
+index-cases locals w i false false true e = let same : index.Step ≡ i = cc in
+    subst (λ (x : Index). Says locals [] (mentions.in_index x)) same (refl, refl)
 index-cases locals w i false false false e =
     let m = made-ok index.Local (declared_at locals w) i e in
     let d = declared-said locals w m.0 m.1 in
@@ -52,7 +56,8 @@ index-says : (locals : List Word) (w : Word) (i : Index) → index_of locals w �
 unfolding index_of in_index
 index-says locals w i e = index-cases locals w i (begins_number w) (bytes_eq w (codes "arg")) (bytes_eq w (codes "step")) e
 
-cell-from-says : (s : Names) (o : Option (Word × Word)) (c : Cell) → cell_from s o ≡ Ok c → Says s.locals (in_parts o) (mentions.in_index c.index)
+cell-from-says : (s : Names) (o : Option (Word × Word)) (c : Cell) → cell_from s o ≡ Ok c
+    → Says s.locals (in_parts o) (mentions.in_index c.index)
 cell-from-says s None c e = absurd cc
 cell-from-says s (Some p) c e =
     let m = made-ok cell_at (both (declared_at s.arrays p.0) (index_of s.locals p.1)) c e in
@@ -83,7 +88,8 @@ unfolding in_operand
 put-says s w c e =
     let bracket : has_bracket w ≡ true =
     ap has_bracket (cell-said s w c e).0 ∙ cell-bracket (name_at s.arrays c.array) (index_word s.locals c.index ++ 93 ∷ []) in
-    subst (λ (b : Bool). Says s.locals (if b then in_parts (cell_parts w) else in_index w) (mentions.in_index c.index)) (sym bracket) (cell-says s w c e)
+    subst (λ (b : Bool). Says s.locals (if b then in_parts (cell_parts w) else in_index w) (mentions.in_index c.index)) (sym bracket)
+    (cell-says s w c e)
 
 both-say : (locals vs ws : List Word) (is js : List ℕ) → Says locals vs is → Says locals ws js → Says locals (vs ++ ws) (is ++ js)
 both-say locals vs ws is js x y = (
@@ -106,7 +112,8 @@ expr-says s (a ∷ op ∷ b ∷ []) e h =
     (operand-says s a m.0.0.0 inner.0) (operand-says s b m.0.1 outer.1))
 expr-says s (a ∷ op ∷ b ∷ c ∷ ws) e h = absurd cc
 
-test-says : (s : Names) (f : Expr → Line) (ws : Words) (l : Line) → ((e : Expr) → mentions.in_line (f e) ≡ mentions.in_expr e) → made f (expr_of s ws) ≡ Ok l
+test-says : (s : Names) (f : Expr → Line) (ws : Words) (l : Line) → ((e : Expr) → mentions.in_line (f e) ≡ mentions.in_expr e)
+    → made f (expr_of s ws) ≡ Ok l
     → Says s.locals (in_expr ws) (mentions.in_line l)
 test-says s f ws l w e =
     let m = made-ok f (expr_of s ws) l e in
@@ -171,8 +178,10 @@ take-front [] ys = refl
 take-front (x ∷ xs) ys = ap (λ (t : List Word). x ∷ t) (take-front xs ys)
 
 -- a line mentions its new locals in the order in which they are noted
-pub line-order : (s : Names) (ns : List Word) (fits : Bool) (k : Option Keyword) (ws : Words) (l : Line) → s.locals ≡ noted ns (mentions_behind k ws)
-    → are_names s.locals ≡ true → line_behind s fits k ws ≡ Ok l → mentions.mentioned (length ns) (mentions.in_line l) ≡ Some (length s.locals)
+pub line-order : (s : Names) (ns : List Word) (fits : Bool) (k : Option Keyword) (ws : Words) (l : Line)
+    → s.locals ≡ noted ns (mentions_behind k ws)
+    → are_names s.locals ≡ true → line_behind s fits k ws ≡ Ok l
+    → mentions.mentioned (length ns) (mentions.in_line l) ≡ Some (length s.locals)
 line-order s ns fits k ws l all names e =
     let x = line-says s fits k ws l e in
     let more = noted-grows ns (mentions_behind k ws) in
@@ -191,7 +200,8 @@ mentioned-cases false false x y x' y' m r f g e = absurd cc
 mentioned-behind : (k m : ℕ) (is js : List ℕ) → mentions.mentioned k is ≡ Some m → mentions.mentioned k (is ++ js) ≡ mentions.mentioned m js
 mentioned-behind k m [] js e = let same : k ≡ m = cc in ap (λ (x : ℕ). mentions.mentioned x js) same
 mentioned-behind k m (i ∷ is) js e =
-    mentioned-cases (i == k) (nat_lt i k) _ _ _ _ m (mentions.mentioned m js) (mentioned-behind (k + 1) m is js) (mentioned-behind k m is js) e
+    mentioned-cases (i == k) (nat_lt i k) _ _ _ _ m (mentions.mentioned m js) (mentioned-behind (k + 1) m is js)
+    (mentioned-behind k m is js) e
 
 abbrev joined : List (List ℕ) → List ℕ
 joined [] = []
@@ -209,7 +219,8 @@ joined-one (y ∷ ys) x = ap (λ (t : List ℕ). y ++ t) (joined-one ys x) ∙ s
 pub mentions-step : (l : Line) (fs : List Frame) (b : Block) (s : List Frame × Block) → step_of l fs b ≡ Some s
     → mentions.mentions (open_code s.0 s.1) ≡ mentions.mentions (open_code fs b) ++ mentions.in_line l
 mentions-step l fs b s e =
-    mentions-joined (open_code s.0 s.1) ∙ ap joined (step-map mentions.in_line (λ e n m. refl) (λ n m. refl) (λ e n m. refl) (λ e n. refl) l fs b s e)
+    mentions-joined (open_code s.0 s.1)
+    ∙ ap joined (step-map mentions.in_line (λ e n m. refl) (λ n m. refl) (λ e n m. refl) (λ e n. refl) l fs b s e)
     ∙ joined-one (map mentions.in_line (open_code fs b)) (mentions.in_line l)
     ∙ ap (λ (t : List ℕ). t ++ mentions.in_line l) (sym (mentions-joined (open_code fs b)))
 
@@ -218,4 +229,5 @@ pub order-step : (l : Line) (fs : List Frame) (b : Block) (s : List Frame × Blo
     → mentions.mentioned 0 (mentions.mentions (open_code fs b)) ≡ Some n → mentions.mentioned n (mentions.in_line l) ≡ Some m
     → mentions.mentioned 0 (mentions.mentions (open_code s.0 s.1)) ≡ Some m
 order-step l fs b s n m e before here =
-    ap (mentions.mentioned 0) (mentions-step l fs b s e) ∙ mentioned-behind 0 n (mentions.mentions (open_code fs b)) (mentions.in_line l) before ∙ here
+    ap (mentions.mentioned 0) (mentions-step l fs b s e)
+    ∙ mentioned-behind 0 n (mentions.mentions (open_code fs b)) (mentions.in_line l) before ∙ here

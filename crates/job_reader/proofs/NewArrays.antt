@@ -18,13 +18,15 @@ use Rattle.job_reader.proofs.KeptLines.{array-read}
 among-arrays : (arrays : List (Word × List ℤ)) (w : Word) → is_among (map (λ a. a.0) arrays) w ≡ false → has_array arrays w ≡ false
 among-arrays [] w e = refl
 among-arrays (a ∷ rest) w e =
-    or-false (bytes_eq w a.0) (has_array rest w) (turned a.0 w (bytes_eq w a.0) refl (or-left (bytes_eq a.0 w) (is_among (map (λ a. a.0) rest) w) e))
+    or-false (bytes_eq w a.0) (has_array rest w)
+    (turned a.0 w (bytes_eq w a.0) refl (or-left (bytes_eq a.0 w) (is_among (map (λ a. a.0) rest) w) e))
     (among-arrays rest w (or-right (bytes_eq a.0 w) (is_among (map (λ a. a.0) rest) w) e))
 
 few-cells : (n : ℕ) → nat_le n 4096 ≡ true → n ≤ 2 ^ 32
 few-cells n e = grind (arith, common_steps)
 
-pub array-new : (r : SoFar) (names : List Word) (ws : Words) (text name : Word) (cells : List ℤ) → HasSoFar r → names ≡ lent r.array_names.items → is_among names name ≡ false
+pub array-new : (r : SoFar) (names : List Word) (ws : Words) (text name : Word) (cells : List ℤ) → HasSoFar r
+    → names ≡ lent r.array_names.items → is_among names name ≡ false
     → text ≡ name → array_of ws ≡ Ok (name, cells) → IsNew r.arrays text cells
 array-new r names ws text name cells h n out same e =
     let read = array-read ws (name, cells) e in

@@ -91,10 +91,12 @@ turned v w false e f = refl
 
 among-put : (ns : List Word) (w n : Word) → is_among ns n ≡ false → bytes_eq w n ≡ false → is_among (ns ++ w ∷ []) n ≡ false
 among-put [] w n e f = or-false (bytes_eq w n) false f refl
-among-put (m ∷ ns) w n e f = or-false (bytes_eq m n) _ (or-left (bytes_eq m n) (is_among ns n) e) (among-put ns w n (or-right (bytes_eq m n) (is_among ns n) e) f)
+among-put (m ∷ ns) w n e f =
+    or-false (bytes_eq m n) _ (or-left (bytes_eq m n) (is_among ns n) e) (among-put ns w n (or-right (bytes_eq m n) (is_among ns n) e) f)
 
 -- a new name after distinct names
-pub names-put : (ns : List Word) (w : Word) → are_names ns ≡ true → is_free w ≡ true → is_among ns w ≡ false → are_names (ns ++ w ∷ []) ≡ true
+pub names-put : (ns : List Word) (w : Word) → are_names ns ≡ true → is_free w ≡ true → is_among ns w ≡ false
+    → are_names (ns ++ w ∷ []) ≡ true
 names-put [] w e f g = and-true _ true (and-true _ true f refl) refl
 names-put (n ∷ ns) w e f g =
     let head : is_free n && not (is_among ns n) ≡ true = and-left _ (are_names ns) e in
@@ -106,7 +108,9 @@ names-put (n ∷ ns) w e f g =
 -- the first ones of distinct names
 among-front : (ns ms : List Word) (n : Word) → is_among (ns ++ ms) n ≡ false → is_among ns n ≡ false
 among-front [] ms n e = refl
-among-front (m ∷ ns) ms n e = or-false (bytes_eq m n) _ (or-left (bytes_eq m n) (is_among (ns ++ ms) n) e) (among-front ns ms n (or-right (bytes_eq m n) (is_among (ns ++ ms) n) e))
+among-front (m ∷ ns) ms n e =
+    or-false (bytes_eq m n) _ (or-left (bytes_eq m n) (is_among (ns ++ ms) n) e)
+    (among-front ns ms n (or-right (bytes_eq m n) (is_among (ns ++ ms) n) e))
 
 pub names-front : (ns ms : List Word) → are_names (ns ++ ms) ≡ true → are_names ns ≡ true
 names-front [] ms e = refl
@@ -116,7 +120,8 @@ names-front (n ∷ ns) ms e =
     (and-true _ _ (and-left _ (not (is_among (ns ++ ms) n)) head) (false-not (is_among ns n) (among-front ns ms n (not-true (is_among (ns ++ ms) n) (and-right (is_free n) _ head)))))
     (names-front ns ms (and-right (is_free n && not (is_among (ns ++ ms) n)) _ e))
 
-note-one : (b : Bool) (ns : List Word) (w : Word) → is_among ns w ≡ b → are_names ns ≡ true → is_free w ≡ true → are_names (if b then ns else ns ++ w ∷ []) ≡ true
+note-one : (b : Bool) (ns : List Word) (w : Word) → is_among ns w ≡ b → are_names ns ≡ true → is_free w ≡ true
+    → are_names (if b then ns else ns ++ w ∷ []) ≡ true
 note-one true ns w h e f = e
 note-one false ns w h e f = names-put ns w e f h
 
@@ -124,7 +129,8 @@ note-one false ns w h e f = names-put ns w e f h
 pub names-noted : (ns ws : List Word) → are_names ns ≡ true → list_all is_free ws ≡ true → are_names (noted ns ws) ≡ true
 names-noted ns [] e f = e
 names-noted ns (w ∷ ws) e f =
-    names-noted (if is_among ns w then ns else ns ++ w ∷ []) ws (note-one (is_among ns w) ns w refl e (and-left _ (list_all is_free ws) f)) (and-right (is_free w) _ f)
+    names-noted (if is_among ns w then ns else ns ++ w ∷ []) ws (note-one (is_among ns w) ns w refl e (and-left _ (list_all is_free ws) f))
+    (and-right (is_free w) _ f)
 
 name-seam : (ns : List Word) (k : ℕ) (w : Word) (more : List Word) → k ≤ length ns → name_at ((take k ns ++ w ∷ []) ++ more) k ≡ w
 name-seam [] zero w more h = refl
@@ -146,7 +152,8 @@ IsOrder ns is = (k : ℕ) → k ≤ length ns → noted (take k ns) (map (name_a
 beyond : (i k : ℕ) → nat_eq i k ≡ false → nat_lt i k ≡ false → k < i
 beyond i k e f = grind (arith, common_steps)
 
-one-first : (ns : List Word) (k i : ℕ) (is : List ℕ) (a b : Bool) → are_names ns ≡ true → k ≤ length ns → i < length ns → IsOrder ns is → nat_eq i k ≡ a → nat_lt i k ≡ b
+one-first : (ns : List Word) (k i : ℕ) (is : List ℕ) (a b : Bool) → are_names ns ≡ true → k ≤ length ns → i < length ns → IsOrder ns is
+    → nat_eq i k ≡ a → nat_lt i k ≡ b
     → noted (if is_among (take k ns) (name_at ns i) then take k ns else take k ns ++ name_at ns i ∷ []) (map (name_at ns) is) ≡ ns
     → (if a then mentioned (k + 1) is else if b then mentioned k is else None) ≡ Some (length ns)
 one-first ns k i is true b g m below later p q f =
@@ -171,7 +178,8 @@ one-first ns k i is false false g m below later p q f =
     absurd (apart ns k i g far below (ap (λ (x : List Word). name_at x k) (sym whole) ∙ name-seam ns k (name_at ns i) grows.0 m))
 
 pub firsts-noted : (ns : List Word) (is : List ℕ) → are_names ns ≡ true → list_all (λ i. nat_lt i (length ns)) is ≡ true → IsOrder ns is
-firsts-noted ns [] g h = λ k m e. let same : k ≡ length ns = sym (length-take-le k ns m) ∙ ap (λ (x : List Word). length x) e in ap (λ (x : ℕ). Some x) same
+firsts-noted ns [] g h = λ k m e. let same : k ≡ length ns = sym (length-take-le k ns m) ∙ ap (λ (x : List Word). length x) e in
+    ap (λ (x : ℕ). Some x) same
 firsts-noted ns (i ∷ is) g h =
     λ k m e.
     one-first ns k i is (nat_eq i k) (nat_lt i k) g m (ltb-true i (length ns) (and-left _ (list_all (λ i. nat_lt i (length ns)) is) h))

@@ -11,7 +11,8 @@ moved front n (Err c) = refl
 
 -- one value more is read
 pub numbered-next : (front items : List ℤ) (n : ℤ) (w : Word) (before rest : Words) → Ok n ≡ numbered w → FitsSigned w64 n
-    → items ≡ front ++ to_z w64 (of_z w64 n) ∷ [] → before ≡ w ∷ rest → with_front items (all_numbered rest) ≡ with_front front (all_numbered before)
+    → items ≡ front ++ to_z w64 (of_z w64 n) ∷ [] → before ≡ w ∷ rest
+    → with_front items (all_numbered rest) ≡ with_front front (all_numbered before)
 numbered-next front items n w before rest e fits i b =
     let back : to_z w64 (of_z w64 n) ≡ n = omega (arith, ints, fits) in
     let same : items ≡ front ++ n ∷ [] = i ∙ ap (λ (m : ℤ). front ++ m ∷ []) back in

@@ -50,7 +50,8 @@ body-ended o w b i none n l c =
     value-parts b.name o.name b.locals o.locals b.code (flat o.block) (n ∙ i.name) (l ∙ i.locals) code
 
 -- a line that doesn't belong to the open lines, and isn't an `else` out of place, ends the body
-pub ends-body : (l : Line) (fs : List Frame) (b : Block) → belongs l fs ≡ false → sits (can_else fs) l ≡ true → (fs ≡ []) × (step_of l fs b ≡ None)
+pub ends-body : (l : Line) (fs : List Frame) (b : Block) → belongs l fs ≡ false → sits (can_else fs) l ≡ true
+    → (fs ≡ []) × (step_of l fs b ≡ None)
 ends-body (line.Do a) fs b e s = absurd cc
 ends-body (line.If t n) fs b e s = absurd cc
 ends-body (line.While t n) fs b e s = absurd cc

@@ -20,17 +20,22 @@ joined-says view (Err c) (Ok b) read e = ap (both (Err c)) e
 joined-says view (Err c) (Err (line_fault.Refused d)) read e = ap (both (Err c)) e
 joined-says view a (Err line_fault.Memory) read e = tt
 
-both-said : {A B Y : Type 0} (view : B → Y) (a : Result A Code) (b : Result B LineFault) (read : Result Y Code) (p : A × B) → LineSays view b read
+both-said : {A B Y : Type 0} (view : B → Y) (a : Result A Code) (b : Result B LineFault) (read : Result Y Code) (p : A × B)
+    → LineSays view b read
     → joined a b ≡ Ok p → both a read ≡ Ok (p.0, view p.1)
 both-said {A} {B} view a b read p e made_of =
-    subst (λ (r : Result (A × B) LineFault). LineSays (λ (q : A × B). (q.0, view q.1)) r (both a read)) made_of (joined-says view a b read e)
+    subst (λ (r : Result (A × B) LineFault). LineSays (λ (q : A × B). (q.0, view q.1)) r (both a read)) made_of
+    (joined-says view a b read e)
 
-both-failed : {A B Y : Type 0} (view : B → Y) (a : Result A Code) (b : Result B LineFault) (read : Result Y Code) (fault : LineFault) → LineSays view b read
+both-failed : {A B Y : Type 0} (view : B → Y) (a : Result A Code) (b : Result B LineFault) (read : Result Y Code) (fault : LineFault)
+    → LineSays view b read
     → joined a b ≡ Err fault → LineFails fault (both a read)
 both-failed {A} {B} view a b read fault e made_of =
-    subst (λ (r : Result (A × B) LineFault). LineSays (λ (q : A × B). (q.0, view q.1)) r (both a read)) made_of (joined-says view a b read e)
+    subst (λ (r : Result (A × B) LineFault). LineSays (λ (q : A × B). (q.0, view q.1)) r (both a read)) made_of
+    (joined-says view a b read e)
 
-fails-along : {X Y : Type 0} (fault : LineFault) (read : Result X Code) (next : X → Result Y Code) → LineFails fault read → LineFails fault (read >>= next)
+fails-along : {X Y : Type 0} (fault : LineFault) (read : Result X Code) (next : X → Result Y Code) → LineFails fault read
+    → LineFails fault (read >>= next)
 fails-along (line_fault.Refused code) read next e = ap (λ r. r >>= next) e
 fails-along line_fault.Memory read next e = tt
 
@@ -49,7 +54,8 @@ joined-first (Err c) (Err (line_fault.Refused d)) p e = absurd cc
 joined-first a (Err line_fault.Memory) p e = absurd cc
 
 -- the cells of an array
-pub cells-said : (len : Word) (values : Words) (n : Result ℤ Code) (ns : Result (Vec ℤ Global) LineFault) (p : ℤ × Vec ℤ Global) (result : Result (Vec ℤ Global) LineFault)
+pub cells-said : (len : Word) (values : Words) (n : Result ℤ Code) (ns : Result (Vec ℤ Global) LineFault) (p : ℤ × Vec ℤ Global)
+    (result : Result (Vec ℤ Global) LineFault)
     → n ≡ numbered len → IfOk n (λ m. FitsSigned w64 m) → LineSays items ns (all_numbered values) → joined n ns ≡ Ok p
     → LineSays items result (filled (to_z w64 (of_z w64 p.0), p.1.items)) → LineSays items result (cells_of len values)
 cells-said len values n ns p result is fits read made_of h =
@@ -57,7 +63,10 @@ cells-said len values n ns p result is fits read made_of h =
     let back : to_z w64 (of_z w64 p.0) ≡ p.0 = omega (arith, ints, fit) in
     subst (λ (r : Result (List ℤ) Code). LineSays items result r)
     (ap (λ (m : ℤ). filled (m, p.1.items)) back
-    ∙ sym (ap (λ (x : Result ℤ Code). both x (all_numbered values) >>= filled) (sym is) ∙ ap (λ r. r >>= filled) (both-said items n ns (all_numbered values) p read made_of))) h
+    ∙ sym
+    (ap (λ (x : Result ℤ Code). both x (all_numbered values) >>= filled) (sym is)
+    ∙ ap (λ r. r >>= filled) (both-said items n ns (all_numbered values) p read made_of)))
+    h
 
 pub cells-failed : (len : Word) (values : Words) (n : Result ℤ Code) (ns : Result (Vec ℤ Global) LineFault) (fault : LineFault)
     → n ≡ numbered len → LineSays items ns (all_numbered values) → joined n ns ≡ Err fault → LineFails fault (cells_of len values)
@@ -69,14 +78,18 @@ abbrev under : Word → Unit {0} × List ℤ → Word × List ℤ
 under name p = (name, p.1)
 
 -- an array
-pub array-said : (all : Words) (name len : Word) (values : Words) (n : Result (Unit {0}) Code) (cells : Result (Vec ℤ Global) LineFault) (p : Unit {0} × Vec ℤ Global)
-    → all ≡ name ∷ len ∷ values → n ≡ named name → LineSays items cells (cells_of len values) → joined n cells ≡ Ok p → array_of all ≡ Ok (name, p.1.items)
+pub array-said : (all : Words) (name len : Word) (values : Words) (n : Result (Unit {0}) Code) (cells : Result (Vec ℤ Global) LineFault)
+    (p : Unit {0} × Vec ℤ Global)
+    → all ≡ name ∷ len ∷ values → n ≡ named name → LineSays items cells (cells_of len values) → joined n cells ≡ Ok p
+    → array_of all ≡ Ok (name, p.1.items)
 array-said all name len values n cells p words is read made_of =
     ap array_of words ∙ ap (λ (x : Result (Unit {0}) Code). made (under name) (both x (cells_of len values))) (sym is)
     ∙ ap (made (under name)) (both-said items n cells (cells_of len values) p read made_of)
 
-pub array-failed : (all : Words) (name len : Word) (values : Words) (n : Result (Unit {0}) Code) (cells : Result (Vec ℤ Global) LineFault) (fault : LineFault)
-    → all ≡ name ∷ len ∷ values → n ≡ named name → LineSays items cells (cells_of len values) → joined n cells ≡ Err fault → LineFails fault (array_of all)
+pub array-failed : (all : Words) (name len : Word) (values : Words) (n : Result (Unit {0}) Code) (cells : Result (Vec ℤ Global) LineFault)
+    (fault : LineFault)
+    → all ≡ name ∷ len ∷ values → n ≡ named name → LineSays items cells (cells_of len values) → joined n cells ≡ Err fault
+    → LineFails fault (array_of all)
 array-failed all name len values n cells fault words is read made_of =
     subst (λ (x : Words). LineFails fault (array_of x)) (sym words)
     (subst (λ (x : Result (Unit {0}) Code). LineFails fault (made (under name) (both x (cells_of len values)))) is

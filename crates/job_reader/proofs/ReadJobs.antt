@@ -81,7 +81,8 @@ read-jobs text j e =
     }
 
 value-parts : (n m : ℕ) (a b : List (Word × List ℤ)) (k l : List BodyValue) (s t : List Start) → n ≡ m → a ≡ b → k ≡ l → s ≡ t
-    → ◌≡◌ {A = JobValue} (record { format = n; arrays = a; bodies = k; starts = s }) (record { format = m; arrays = b; bodies = l; starts = t })
+    → ◌≡◌ {A = JobValue} (record { format = n; arrays = a; bodies = k; starts = s })
+    (record { format = m; arrays = b; bodies = l; starts = t })
 value-parts n m a b k l s t h e f g =
     ap (λ (x : ℕ). record { format = x; arrays = a; bodies = k; starts = s }) h
     ∙ ap (λ (x : List (Word × List ℤ)). record { format = m; arrays = x; bodies = k; starts = s }) e
@@ -89,12 +90,15 @@ value-parts n m a b k l s t h e f g =
     ∙ ap (λ (x : List Start). record { format = m; arrays = b; bodies = l; starts = x }) g
 
 same-job : (j : JobTree) (r : SoFar) → IsSoFar j r → job_value r.format r.arrays r.bodies r.starts ≡ flat_job j
-same-job j r s = value-parts r.format j.format r.arrays j.arrays r.bodies.items (map flat_body j.bodies) r.starts.items j.starts s.format s.arrays s.bodies s.starts
+same-job j r s =
+    value-parts r.format j.format r.arrays j.arrays r.bodies.items (map flat_body j.bodies) r.starts.items j.starts s.format s.arrays
+    s.bodies s.starts
 
 trees-back : (bs : List BodyTree) → map body_tree (map flat_body bs) ≡ bs
 trees-back [] = refl
 trees-back (b ∷ bs) =
-    ap (λ (x : Block). record b { block = x } ∷ map body_tree (map flat_body bs)) (tree-flat b.block) ∙ ap (λ (xs : List BodyTree). b ∷ xs) (trees-back bs)
+    ap (λ (x : Block). record b { block = x } ∷ map body_tree (map flat_body bs)) (tree-flat b.block)
+    ∙ ap (λ (xs : List BodyTree). b ∷ xs) (trees-back bs)
 
 -- what the type of a job takes is the job that the reader has
 pub job-back : (j : JobTree) (r : SoFar) (v : JobValue) → IsSoFar j r → v ≡ job_value r.format r.arrays r.bodies r.starts → job_tree v ≡ j
@@ -105,8 +109,10 @@ pub short-enough : (n : ℕ) → n ≤ 1048576 → nat_lt 1048576 n ≡ false
 short-enough n h = grind (arith, common_steps)
 
 -- a text's lines after the header say a job, if anything
-pub text-says : (text : List ℕ) (format n : ℕ) (rest : List (List ℕ)) (bodies : List Word) → length text ≤ 1048576 → bad_byte_line 1 text ≡ None
-    → ((bodies : List Word) → read_from bodies 1 (lines_of text) ≡ read_lines bodies n (nothing format) rest) → bodies ≡ declared (lines_of text)
+pub text-says : (text : List ℕ) (format n : ℕ) (rest : List (List ℕ)) (bodies : List Word) → length text ≤ 1048576
+    → bad_byte_line 1 text ≡ None
+    → ((bodies : List Word) → read_from bodies 1 (lines_of text) ≡ read_lines bodies n (nothing format) rest)
+    → bodies ≡ declared (lines_of text)
     → SaysJobs (read_lines bodies n (nothing format) rest)
 unfolding job_in
 text-says text format n rest bodies short clean header same =

@@ -29,7 +29,8 @@ use Rattle.job_words.specs.Lines.{is_equals, body_at, let_line, put_line, spawn_
 use Rattle.job_words.proofs.SaidLemmas.{made-ok, both-ok, and-true, cell-said, number-ok}
 use Rattle.job_words.proofs.WrittenExprs.{cell-bracket}
 
-named-cases : (a b : Bool) (u : Unit {0}) → ◌≡◌ {A = Result (Unit {0}) Code} (if a then Err Reserved else if b then Ok tt else Err BadName) (Ok u) → (b && not a) ≡ true
+named-cases : (a b : Bool) (u : Unit {0})
+    → ◌≡◌ {A = Result (Unit {0}) Code} (if a then Err Reserved else if b then Ok tt else Err BadName) (Ok u) → (b && not a) ≡ true
 named-cases true b u e = absurd cc
 named-cases false true u e = refl
 named-cases false false u e = absurd cc
@@ -53,7 +54,9 @@ abbrev pub Reads : List Word → Bool → Type 0
 Reads mentions fits = (list_all is_free mentions ≡ true) × (fits ≡ true)
 
 index-cases : (locals : List Word) (w : Word) (i : Index) (a b c : Bool)
-    → (if a then made index.Number (numbered w) else if b then Ok index.Arg else if c then Ok index.Step else made index.Local (declared_at locals w)) ≡ Ok i
+    → (if a then made index.Number (numbered w) else if b then Ok index.Arg else if c then Ok index.Step
+    else made index.Local (declared_at locals w))
+    ≡ Ok i
     → Reads (if a || b || c then [] else w ∷ []) (fits_index i)
 index-cases locals w i true b c e =
     let m = made-ok index.Number (numbered w) i e in
@@ -120,7 +123,8 @@ expr-reads s (a ∷ op ∷ b ∷ []) e h =
     (two-free (in_operand a) (in_operand b) x.0 y.0, and-true _ _ x.1 y.1)
 expr-reads s (a ∷ op ∷ b ∷ c ∷ ws) e h = absurd cc
 
-test-reads : (s : Names) (f : Expr → Line) (ws : Words) (l : Line) → ((e : Expr) → fits_line (f e) ≡ fits_expr e) → made f (expr_of s ws) ≡ Ok l
+test-reads : (s : Names) (f : Expr → Line) (ws : Words) (l : Line) → ((e : Expr) → fits_line (f e) ≡ fits_expr e)
+    → made f (expr_of s ws) ≡ Ok l
     → Reads (in_expr ws) (fits_line l)
 test-reads s f ws l w e =
     let m = made-ok f (expr_of s ws) l e in
@@ -138,7 +142,8 @@ else-reads false [] l e = absurd cc
 else-reads false (w ∷ ws) l e = absurd cc
 
 -- a line of a body that is read
-pub line-reads : (s : Names) (fits : Bool) (k : Option Keyword) (ws : Words) (l : Line) → line_behind s fits k ws ≡ Ok l → Reads (mentions_behind k ws) (fits_line l)
+pub line-reads : (s : Names) (fits : Bool) (k : Option Keyword) (ws : Words) (l : Line) → line_behind s fits k ws ≡ Ok l
+    → Reads (mentions_behind k ws) (fits_line l)
 unfolding line_behind mentions_behind
 line-reads s fits None ws l e = absurd cc
 line-reads s fits (Some Let) [] l e = absurd cc

@@ -39,20 +39,23 @@ pub record SpelledInside (bodies : List Word) (lines : List Words) (j : JobTree)
   pub spelled_out : SpelledOut bodies base j
   pub written : lines ≡ base ++ body_words j.format o.name o.locals ∷ code_lines (names bodies j o.locals) (open_code o.frames o.block)
   pub fits : list_all (line_fits (names bodies j o.locals)) (open_code o.frames o.block) ≡ true
-  pub noted : locals_by j.format (listed_in j.format o.locals) (code_lines (names bodies j o.locals) (open_code o.frames o.block)) ≡ o.locals
+  pub noted : locals_by j.format (listed_in j.format o.locals) (code_lines (names bodies j o.locals) (open_code o.frames o.block))
+      ≡ o.locals
   pub lines_known : list_all (is_in_format j.format) (open_code o.frames o.block) ≡ true
 
 abbrev pub Tells : List Word → List Words → JobTree → Option Inside → Type 0
 Tells bodies lines j None = SpelledOut bodies lines j
 Tells bodies lines j (Some o) = SpelledInside bodies lines j o
 
-code-wider : (s : Names) (more : List Word) (code : List Line) → list_all (line_fits s) code ≡ true → code_lines (wider s more) code ≡ code_lines s code
+code-wider : (s : Names) (more : List Word) (code : List Line) → list_all (line_fits s) code ≡ true
+    → code_lines (wider s more) code ≡ code_lines s code
 code-wider s more [] e = refl
 code-wider s more (l ∷ ls) e =
     ap (λ (t : Words). t ∷ code_lines (wider s more) ls) (line-grows s more l (and-left _ (list_all (line_fits s) ls) e))
     ∙ ap (λ (t : List Words). line_words s l ∷ t) (code-wider s more ls (and-right (line_fits s l) _ e))
 
-fits-wider : (s : Names) (more : List Word) (code : List Line) → list_all (line_fits s) code ≡ true → list_all (line_fits (wider s more)) code ≡ true
+fits-wider : (s : Names) (more : List Word) (code : List Line) → list_all (line_fits s) code ≡ true
+    → list_all (line_fits (wider s more)) code ≡ true
 fits-wider s more [] e = refl
 fits-wider s more (l ∷ ls) e =
     and-true _ _ (fits-grows s more l (and-left _ (list_all (line_fits s) ls) e)) (fits-wider s more ls (and-right (line_fits s l) _ e))
@@ -65,7 +68,8 @@ all-mapped p (x ∷ xs) = ap (λ (b : Bool). p x && b) (all-mapped p xs)
 abbrev pub SameCode : Names → Names → List Line → Type 0
 SameCode s t code = (code_lines t code ≡ code_lines s code) × (list_all (line_fits t) code ≡ true)
 
-added : (bodies : List Word) (j : JobTree) (locals ws : List Word) (code : List Line) → list_all (line_fits (names bodies j locals)) code ≡ true
+added : (bodies : List Word) (j : JobTree) (locals ws : List Word) (code : List Line)
+    → list_all (line_fits (names bodies j locals)) code ≡ true
     → SameCode (names bodies j locals) (names bodies j (locals_behind j.format locals ws)) code
 added bodies j locals ws code e =
     let more = locals-grow j.format locals ws in
@@ -73,9 +77,11 @@ added bodies j locals ws code e =
     subst (λ (ls : List Word). SameCode s (names bodies j ls) code) (sym more.1) (code-wider s more.0 code e, fits-wider s more.0 code e)
 
 -- a line more in the body
-grown-spelled-out : (bodies : List Word) (lines : List Words) (j : JobTree) (o : Inside) (k : Word) (ws : Words) (l : Line) (n : ℕ) (st : List Frame × Block)
+grown-spelled-out : (bodies : List Word) (lines : List Words) (j : JobTree) (o : Inside) (k : Word) (ws : Words) (l : Line) (n : ℕ)
+    (st : List Frame × Block)
     → SpelledInside bodies lines j o
-    → LineSaid (names bodies j (mentioning j.format o (keyword_of k) ws).locals) (k ∷ ws) l → is_in_format j.format l ≡ true → step_of l o.frames o.block ≡ Some st
+    → LineSaid (names bodies j (mentioning j.format o (keyword_of k) ws).locals) (k ∷ ws) l → is_in_format j.format l ≡ true
+    → step_of l o.frames o.block ≡ Some st
     → SpelledInside bodies (lines ++ (k ∷ ws) ∷ []) j (grown (mentioning j.format o (keyword_of k) ws) n st)
 grown-spelled-out bodies lines j o k ws l n st t x known e =
     let code : List Line = open_code o.frames o.block in
@@ -89,7 +95,8 @@ grown-spelled-out bodies lines j o k ws l n st t x known e =
     ∙ ap (λ (c : List Words). c ++ line_words s' l ∷ []) same.0 ∙ ap (λ (w : Words). code_lines s code ++ w ∷ []) (sym x.0) in
     let fits : list_all (line_fits s') (open_code st.0 st.1) ≡ true =
     sym (all-mapped (line_fits s') (open_code st.0 st.1))
-    ∙ ap (λ (c : List Bool). list_all (λ (b : Bool). b) c) (step-map (line_fits s') (λ e n m. refl) (λ n m. refl) (λ e n m. refl) (λ e n. refl) l o.frames o.block st e)
+    ∙ ap (λ (c : List Bool). list_all (λ (b : Bool). b) c)
+    (step-map (line_fits s') (λ e n m. refl) (λ n m. refl) (λ e n m. refl) (λ e n. refl) l o.frames o.block st e)
     ∙ list_all-append (λ (b : Bool). b) (map (line_fits s') code) (line_fits s' l ∷ [])
     ∙ and-true _ _ (all-mapped (line_fits s') code ∙ same.1) (and-true _ true x.1 refl) in
     record {
@@ -105,7 +112,8 @@ grown-spelled-out bodies lines j o k ws l n st t x known e =
           ∙ by-one j.format (listed_in j.format o.locals) (code_lines s code) (k ∷ ws)
           ∙ ap (λ (c : List Word). locals_behind j.format c (mentions_of (k ∷ ws))) t.noted;
       lines_known = sym (all-mapped (is_in_format j.format) (open_code st.0 st.1))
-          ∙ ap (λ (c : List Bool). list_all (λ (b : Bool). b) c) (step-map (is_in_format j.format) (λ e n m. refl) (λ n m. refl) (λ e n m. refl) (λ e n. refl) l o.frames o.block st e)
+          ∙ ap (λ (c : List Bool). list_all (λ (b : Bool). b) c)
+          (step-map (is_in_format j.format) (λ e n m. refl) (λ n m. refl) (λ e n m. refl) (λ e n. refl) l o.frames o.block st e)
           ∙ list_all-append (λ (b : Bool). b) (map (is_in_format j.format) code) (is_in_format j.format l ∷ [])
           ∙ and-true _ _ (all-mapped (is_in_format j.format) code ∙ t.lines_known) (and-true _ true known refl);
     }
@@ -129,8 +137,10 @@ end-mentions : mentions_of end_words ≡ []
 unfolding keyword_of mentions_behind
 end-mentions = refl
 
-ended-spelled-out : (bodies : List Word) (lines : List Words) (j : JobTree) (o : Inside) (k : Word) (ws : Words) (l : Line) → SpelledInside bodies lines j o
-    → LineSaid (names bodies j (mentioning j.format o (keyword_of k) ws).locals) (k ∷ ws) l → is_in_format j.format l ≡ true → step_of l o.frames o.block ≡ None → sits (can_else o.frames) l ≡ true
+ended-spelled-out : (bodies : List Word) (lines : List Words) (j : JobTree) (o : Inside) (k : Word) (ws : Words) (l : Line)
+    → SpelledInside bodies lines j o
+    → LineSaid (names bodies j (mentioning j.format o (keyword_of k) ws).locals) (k ∷ ws) l → is_in_format j.format l ≡ true
+    → step_of l o.frames o.block ≡ None → sits (can_else o.frames) l ≡ true
     → SpelledOut bodies (lines ++ (k ∷ ws) ∷ []) (put (ABody (ended (mentioning j.format o (keyword_of k) ws))) j)
 ended-spelled-out bodies lines j o k ws l t x known e st =
     let ls : List Word = locals_behind j.format o.locals (mentions_behind (keyword_of k) ws) in
@@ -148,7 +158,8 @@ ended-spelled-out bodies lines j o k ws l t x known e st =
     let locals : locals_by j.format (listed_in j.format ls) (block_lines s' o.block) ≡ ls =
     ap (λ (c : List Word). locals_by j.format c (block_lines s' o.block)) listed
     ∙ ap (locals_by j.format (listed_in j.format o.locals)) (sym blocks) ∙ t.noted ∙ sym none in
-    let lines_known : list_all (is_in_format j.format) (flat o.block) ≡ true = ap (list_all (is_in_format j.format)) (sym flat-code) ∙ t.lines_known in
+    let lines_known : list_all (is_in_format j.format) (flat o.block) ≡ true =
+    ap (list_all (is_in_format j.format)) (sym flat-code) ∙ t.lines_known in
     let b : BodyTree = ended (mentioning j.format o (keyword_of k) ws) in
     let shape : lines ++ (k ∷ ws) ∷ [] ≡ t.base ++ items_lines j.format (array_names j) bodies (ABody b ∷ []) =
     ap (λ (c : List Words). c ++ (k ∷ ws) ∷ []) t.written
@@ -169,7 +180,9 @@ present-cases bodies j locals k ws (Some (Put kind)) h e = refl
 present-cases bodies j locals k ws (Some Print) h e = refl
 present-cases bodies j locals k [] (Some Spawn) h e = refl
 present-cases bodies j locals k (b ∷ ws) (Some Spawn) h e =
-    there (is_among bodies b) (ap (λ (w : Word). (bytes_eq w (codes "spawn") || bytes_eq w (codes "start")) && not (is_among bodies b)) (sym (keyword-said k Spawn h)) ∙ e)
+    there (is_among bodies b)
+    (ap (λ (w : Word). (bytes_eq w (codes "spawn") || bytes_eq w (codes "start")) && not (is_among bodies b)) (sym (keyword-said k Spawn h))
+    ∙ e)
   where
     there : (a : Bool) → not a ≡ false → a ≡ true
     there true e = refl
@@ -181,18 +194,22 @@ present-cases bodies j locals k ws (Some Else) h e = refl
 present-cases bodies j locals k ws (Some While) h e = refl
 present-cases bodies j locals k ws (Some End) h e = refl
 
-by-step : (bodies : List Word) (lines : List Words) (j : JobTree) (o : Inside) (k : Word) (ws : Words) (l : Line) (r : Option (List Frame × Block))
+by-step : (bodies : List Word) (lines : List Words) (j : JobTree) (o : Inside) (k : Word) (ws : Words) (l : Line)
+    (r : Option (List Frame × Block))
     → SpelledInside bodies lines j o
     → LineSaid (names bodies j (mentioning j.format o (keyword_of k) ws).locals) (k ∷ ws) l → is_in_format j.format l ≡ true
     → sits (can_else o.frames) l ≡ true → step_of l o.frames o.block ≡ r → (n : ℕ)
-    → Tells bodies (lines ++ (k ∷ ws) ∷ []) (behind j (mentioning j.format o (keyword_of k) ws) n r).0 (behind j (mentioning j.format o (keyword_of k) ws) n r).1
+    → Tells bodies (lines ++ (k ∷ ws) ∷ []) (behind j (mentioning j.format o (keyword_of k) ws) n r).0
+    (behind j (mentioning j.format o (keyword_of k) ws) n r).1
 by-step bodies lines j o k ws l None t x known st e n = ended-spelled-out bodies lines j o k ws l t x known e st
 by-step bodies lines j o k ws l (Some s) t x known st e n = grown-spelled-out bodies lines j o k ws l n s t x known e
 
 -- a line in an open body
-pub inner-spelled-out : (bodies : List Word) (lines : List Words) (j : JobTree) (o : Inside) (k : Word) (ws : Words) (p : JobTree × Option Inside)
+pub inner-spelled-out : (bodies : List Word) (lines : List Words) (j : JobTree) (o : Inside) (k : Word) (ws : Words)
+    (p : JobTree × Option Inside)
     → SpelledInside bodies lines j o
-    → is_missing bodies (k ∷ ws) ≡ false → inner_line bodies j o (known_in j.format (keyword_of k)) ws ≡ Ok p → Tells bodies (lines ++ (k ∷ ws) ∷ []) p.0 p.1
+    → is_missing bodies (k ∷ ws) ≡ false → inner_line bodies j o (known_in j.format (keyword_of k)) ws ≡ Ok p
+    → Tells bodies (lines ++ (k ∷ ws) ∷ []) p.0 p.1
 inner-spelled-out bodies lines j o k ws p t miss read =
     let known = known-line bodies j o (keyword_of k) ws p read in
     let e : inner_line bodies j o (keyword_of k) ws ≡ Ok p = known.0 in

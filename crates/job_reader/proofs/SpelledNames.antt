@@ -71,8 +71,10 @@ Adds j i ws p = (so_far p.0 p.1 ≡ so_far j i ++ listed (declared_by ws)) × (l
 
 same-adds : (j : JobTree) (i : Option Inside) (ws : Words) (p : JobTree × Option Inside) → so_far p.0 p.1 ≡ so_far j i
     → declared_by ws ≡ None → Adds j i ws p
-same-adds j i ws p e d =
-    (e ∙ sym (append-nil (so_far j i)) ∙ ap (λ (o : Option Word). so_far j i ++ listed o) (sym d), λ h. subst (λ (x : List Word). length x ≤ 64) (sym e) h)
+same-adds j i ws p e d = (
+  e ∙ sym (append-nil (so_far j i)) ∙ ap (λ (o : Option Word). so_far j i ++ listed o) (sym d),
+  λ h. subst (λ (x : List Word). length x ≤ 64) (sym e) h,
+)
 
 pub no-body : (k : Keyword) → outer_of (keyword_text k) ≡ None
 unfolding outer_of
@@ -88,7 +90,8 @@ no-body Else = refl
 no-body While = refl
 no-body End = refl
 
-ended-names : (j : JobTree) (o : Inside) (m : ℕ) (r : Option (List Frame × Block)) → so_far (behind j o m r).0 (behind j o m r).1 ≡ so_far j (Some o)
+ended-names : (j : JobTree) (o : Inside) (m : ℕ) (r : Option (List Frame × Block))
+    → so_far (behind j o m r).0 (behind j o m r).1 ≡ so_far j (Some o)
 ended-names j o m None = append-nil _ ∙ map-append (λ (b : BodyTree). b.name) j.bodies (ended o ∷ [])
 ended-names j o m (Some s) = refl
 
@@ -108,7 +111,8 @@ inner-adds bodies j o k ws (Some w) p h e =
 le-false : (a b : ℕ) → nat_le a b ≡ false → b < a
 le-false a b e = grind (arith, common_steps)
 
-second-false : {A : Type 0} (a b : Bool) (c d : Code) (r : Result A Code) (y : A) → (if a then Err c else if b then Err d else r) ≡ Ok y → b ≡ false
+second-false : {A : Type 0} (a b : Bool) (c d : Code) (r : Result A Code) (y : A) → (if a then Err c else if b then Err d else r) ≡ Ok y
+    → b ≡ false
 second-false true b c d r y e = absurd cc
 second-false false true c d r y e = absurd cc
 second-false false false c d r y e = refl
@@ -120,15 +124,20 @@ outer-adds bodies j k ws (Some outer.Array) p h e =
     let m = made-ok (λ (i : JobTree). (i, None)) (array_line j ws) p e in
     let a = bind-ok (array_of ws) (with_array j) m.0 m.1 in
     let ok =
-    two-tests (is_among (array_names j) a.0.0) (nat_le 16 (length (array_names j))) Twice TooMany (Ok (record j { arrays = j.arrays ++ a.0 ∷ [] })) m.0 a.2 in
+    two-tests (is_among (array_names j) a.0.0) (nat_le 16 (length (array_names j))) Twice TooMany
+    (Ok (record j { arrays = j.arrays ++ a.0 ∷ [] })) m.0 a.2 in
     let same : (record j { arrays = j.arrays ++ a.0 ∷ [] }) ≡ m.0 = cc in
-    same-adds j None (k ∷ ws) p (ap (λ (q : JobTree × Option Inside). so_far q.0 q.1) (sym m.2) ∙ ap (λ (i : JobTree). so_far i None) (sym same)) (ap (λ (o : Option Outer). name_if_body o ws) h)
+    same-adds j None (k ∷ ws) p
+    (ap (λ (q : JobTree × Option Inside). so_far q.0 q.1) (sym m.2) ∙ ap (λ (i : JobTree). so_far i None) (sym same))
+    (ap (λ (o : Option Outer). name_if_body o ws) h)
 outer-adds bodies j k ws (Some outer.Start) p h e =
     let m = made-ok (λ (i : JobTree). (i, None)) (start_line bodies j ws) p e in
     let a = bind-ok (start_of bodies ws) (with_start j) m.0 m.1 in
     let ok = one-test (nat_le 4096 (length j.starts)) TooMany (Ok (record j { starts = j.starts ++ a.0 ∷ [] })) m.0 a.2 in
     let same : (record j { starts = j.starts ++ a.0 ∷ [] }) ≡ m.0 = cc in
-    same-adds j None (k ∷ ws) p (ap (λ (q : JobTree × Option Inside). so_far q.0 q.1) (sym m.2) ∙ ap (λ (i : JobTree). so_far i None) (sym same)) (ap (λ (o : Option Outer). name_if_body o ws) h)
+    same-adds j None (k ∷ ws) p
+    (ap (λ (q : JobTree × Option Inside). so_far q.0 q.1) (sym m.2) ∙ ap (λ (i : JobTree). so_far i None) (sym same))
+    (ap (λ (o : Option Outer). name_if_body o ws) h)
 outer-adds bodies j k [] (Some outer.Body) p h e = absurd cc
 outer-adds bodies j k (name ∷ ws) (Some outer.Body) p h e =
     let m = made-ok (λ (o : Inside). (j, Some o)) (body_line j (name ∷ ws)) p e in
@@ -139,7 +148,8 @@ outer-adds bodies j k (name ∷ ws) (Some outer.Body) p h e =
     let ok = two-tests twice many Twice TooMany (Ok (begun a.0)) m.0 a.2 in
     let same : begun a.0 ≡ m.0 = cc in
     let few : length (body_names j) < 64 =
-    le-false 64 (length (body_names j)) (or-left (nat_le 64 (length (body_names j))) (nat_lt 32 (length a.0.1)) (second-false twice many Twice TooMany (Ok (begun a.0)) m.0 a.2)) in
+    le-false 64 (length (body_names j))
+    (or-left (nat_le 64 (length (body_names j))) (nat_lt 32 (length a.0.1)) (second-false twice many Twice TooMany (Ok (begun a.0)) m.0 a.2)) in
     let names : so_far p.0 p.1 ≡ body_names j ++ name ∷ [] =
     ap (λ (q : JobTree × Option Inside). so_far q.0 q.1) (sym m.2) ∙ ap (λ (o : Inside). so_far j (Some o)) (sym same)
     ∙ ap (λ (x : Word × List Word). body_names j ++ x.0 ∷ []) (sym b.same) in (
@@ -193,6 +203,9 @@ lines-named bodies (l ∷ ls) n a j h e =
           let s = step-adds bodies a.job a.inside (words_of l) x.1.0 x.1.1 in
           let same : so_far m.0.job m.0.inside ≡ so_far x.1.0.0 x.1.0.1 =
           ap (λ (k : JobTree). so_far k m.0.inside) x.1.2 ∙ ap (λ (i : Option Inside). so_far x.1.0.0 i) x.1.3 in
-          let r = lines-named bodies ls (n + 1) m.0 j (subst (λ (y : List Word). length y ≤ 64) (sym same) (s.1 h)) m.1 in
-          (r.0 ∙ ap (λ (y : List Word). y ++ names_in ls) (same ∙ s.0) ∙ listed-first (so_far a.job a.inside) (declared_by (words_of l)) (names_in ls), r.1)
+          let r = lines-named bodies ls (n + 1) m.0 j (subst (λ (y : List Word). length y ≤ 64) (sym same) (s.1 h)) m.1 in (
+            r.0 ∙ ap (λ (y : List Word). y ++ names_in ls) (same ∙ s.0)
+                ∙ listed-first (so_far a.job a.inside) (declared_by (words_of l)) (names_in ls),
+            r.1,
+          )
     ]

@@ -73,7 +73,8 @@ values-said (w ∷ ws) ns e =
     let a = bind-ok (numbered w) (λ n. all_numbered ws >>= λ ns. Ok (n ∷ ns)) ns e in
     let b = bind-ok (all_numbered ws) (λ (ns : List ℤ). Ok (a.0 ∷ ns)) ns a.2 in
     let same : a.0 ∷ b.0 ≡ ns = cc in
-    ap (λ (t : Word). t ∷ ws) (number-said w a.0 a.1) ∙ ap (λ (t : Words). signed_decimal a.0 ∷ t) (values-said ws b.0 b.1) ∙ ap (map signed_decimal) same
+    ap (λ (t : Word). t ∷ ws) (number-said w a.0 a.1) ∙ ap (λ (t : Words). signed_decimal a.0 ∷ t) (values-said ws b.0 b.1)
+    ∙ ap (map signed_decimal) same
 
 pub le-true : (a b : ℕ) → nat_le a b ≡ true → a ≤ b
 le-true a b e = grind (arith, common_steps)
@@ -114,10 +115,18 @@ array-said (name ∷ len ∷ values) x e =
     let m = made-ok (λ (p : Unit {0} × List ℤ). (name, p.1)) (both (named name) (cells_of len values)) x e in
     let b = both-ok (named name) (cells_of len values) m.0 m.1 in
     let c = cells-said len values m.0.1 b.1 in
-    subst (λ (y : Word × List ℤ). (given : List ℤ) × (codes "array" ∷ name ∷ len ∷ values ≡ array_words y.0 (length y.1) given) × IsFilled given y.1) m.2
-    (c.0, ap (λ (t : Word). codes "array" ∷ name ∷ t ∷ values) c.1 ∙ ap (λ (t : Words). codes "array" ∷ name ∷ decimal (length m.0.1) ∷ t) c.2, c.3)
+    subst
+    (λ (y : Word × List ℤ). (given : List ℤ) × (codes "array" ∷ name ∷ len ∷ values ≡ array_words y.0 (length y.1) given)
+    × IsFilled given y.1)
+    m.2 (
+      c.0,
+      ap (λ (t : Word). codes "array" ∷ name ∷ t ∷ values) c.1
+          ∙ ap (λ (t : Words). codes "array" ∷ name ∷ decimal (length m.0.1) ∷ t) c.2,
+      c.3,
+    )
 
-pub two-tests : {A : Type 0} (a b : Bool) (c d : Code) (r : Result A Code) (y : A) → (if a then Err c else if b then Err d else r) ≡ Ok y → r ≡ Ok y
+pub two-tests : {A : Type 0} (a b : Bool) (c d : Code) (r : Result A Code) (y : A) → (if a then Err c else if b then Err d else r) ≡ Ok y
+    → r ≡ Ok y
 two-tests true b c d r y e = absurd cc
 two-tests false true c d r y e = absurd cc
 two-tests false false c d r y e = e
@@ -126,24 +135,30 @@ pub one-test : {A : Type 0} (a : Bool) (c : Code) (r : Result A Code) (y : A) �
 one-test true c r y e = absurd cc
 one-test false c r y e = e
 
-array-spelled-out : (bodies : List Word) (lines : List Words) (j j' : JobTree) (ws : Words) → SpelledOut bodies lines j → array_line j ws ≡ Ok j'
+array-spelled-out : (bodies : List Word) (lines : List Words) (j j' : JobTree) (ws : Words) → SpelledOut bodies lines j
+    → array_line j ws ≡ Ok j'
     → SpelledOut bodies (lines ++ (codes "array" ∷ ws) ∷ []) j'
 array-spelled-out bodies lines j j' ws t e =
     let a = bind-ok (array_of ws) (with_array j) j' e in
     let s = array-said ws a.0 a.1 in
-    let ok = two-tests (is_among (array_names j) a.0.0) (nat_le 16 (length (array_names j))) Twice TooMany (Ok (put (AnArray a.0.0 s.0 a.0.1) j)) j' a.2 in
+    let ok =
+    two-tests (is_among (array_names j) a.0.0) (nat_le 16 (length (array_names j))) Twice TooMany (Ok (put (AnArray a.0.0 s.0 a.0.1) j)) j'
+    a.2 in
     let same : put (AnArray a.0.0 s.0 a.0.1) j ≡ j' = cc in
     subst (λ (w : Words). SpelledOut bodies (lines ++ w ∷ []) j') (sym s.1)
     (subst (λ (k : JobTree). SpelledOut bodies (lines ++ array_words a.0.0 (length a.0.1) s.0 ∷ []) k) same
     (spelled-out-put bodies lines j (AnArray a.0.0 s.0 a.0.1) t (s.2, tt)))
 
-body-spelled-out : (bodies : List Word) (lines : List Words) (j : JobTree) (o : Inside) (ws : Words) → SpelledOut bodies lines j → body_line j ws ≡ Ok o
+body-spelled-out : (bodies : List Word) (lines : List Words) (j : JobTree) (o : Inside) (ws : Words) → SpelledOut bodies lines j
+    → body_line j ws ≡ Ok o
     → SpelledInside bodies (lines ++ (codes "body" ∷ ws) ∷ []) j o
 body-spelled-out bodies lines j o [] t e = absurd cc
 body-spelled-out bodies lines j o (name ∷ ws) t e =
     let a = bind-ok (body_of j.format (name ∷ ws)) (new_body j) o e in
     let m = head-parts j.format name ws a.0 a.1 in
-    let ok = two-tests (is_among (body_names j) a.0.0 || not (are_apart a.0.1)) (nat_le 64 (length (body_names j)) || nat_lt 32 (length a.0.1)) Twice TooMany (Ok (begun a.0)) o a.2 in
+    let ok =
+    two-tests (is_among (body_names j) a.0.0 || not (are_apart a.0.1)) (nat_le 64 (length (body_names j)) || nat_lt 32 (length a.0.1)) Twice
+    TooMany (Ok (begun a.0)) o a.2 in
     let same : begun a.0 ≡ o = cc in
     let begins : begun (name, ws) ≡ o = ap begun m.same ∙ same in
     subst (λ (p : Inside). SpelledInside bodies (lines ++ (codes "body" ∷ name ∷ ws) ∷ []) j p) begins
@@ -185,13 +200,16 @@ by-first : (bodies : List Word) (lines : List Words) (j : JobTree) (k : Outer) (
     → outer_line bodies j (Some k) ws ≡ Ok p → Tells bodies (lines ++ (outer_text k ∷ ws) ∷ []) p.0 p.1
 by-first bodies lines j outer.Array ws p t miss e =
     let m = made-ok (λ (k : JobTree). (k, None)) (array_line j ws) p e in
-    subst (λ (q : JobTree × Option Inside). Tells bodies (lines ++ (codes "array" ∷ ws) ∷ []) q.0 q.1) m.2 (array-spelled-out bodies lines j m.0 ws t m.1)
+    subst (λ (q : JobTree × Option Inside). Tells bodies (lines ++ (codes "array" ∷ ws) ∷ []) q.0 q.1) m.2
+    (array-spelled-out bodies lines j m.0 ws t m.1)
 by-first bodies lines j outer.Body ws p t miss e =
     let m = made-ok (λ (o : Inside). (j, Some o)) (body_line j ws) p e in
-    subst (λ (q : JobTree × Option Inside). Tells bodies (lines ++ (codes "body" ∷ ws) ∷ []) q.0 q.1) m.2 (body-spelled-out bodies lines j m.0 ws t m.1)
+    subst (λ (q : JobTree × Option Inside). Tells bodies (lines ++ (codes "body" ∷ ws) ∷ []) q.0 q.1) m.2
+    (body-spelled-out bodies lines j m.0 ws t m.1)
 by-first bodies lines j outer.Start ws p t miss e =
     let m = made-ok (λ (k : JobTree). (k, None)) (start_line bodies j ws) p e in
-    subst (λ (q : JobTree × Option Inside). Tells bodies (lines ++ (codes "start" ∷ ws) ∷ []) q.0 q.1) m.2 (start-spelled-out bodies lines j m.0 ws t miss m.1)
+    subst (λ (q : JobTree × Option Inside). Tells bodies (lines ++ (codes "start" ∷ ws) ∷ []) q.0 q.1) m.2
+    (start-spelled-out bodies lines j m.0 ws t miss m.1)
 
 by-outer : (bodies : List Word) (lines : List Words) (j : JobTree) (k : Word) (o : Option Outer) (ws : Words) (p : JobTree × Option Inside)
     → SpelledOut bodies lines j → outer_of k ≡ o → is_missing bodies (k ∷ ws) ≡ false

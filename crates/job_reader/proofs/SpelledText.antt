@@ -21,7 +21,8 @@ use Rattle.job_reader.proofs.ItemLemmas.{SpelledOut}
 use Rattle.job_reader.proofs.SpelledInside.{Tells, inner-spelled-out}
 use Rattle.job_reader.proofs.SpelledOuter.{bind-ok, two-tests, one-test, outer-spelled-out}
 
-pub finished-ok : (n : ℕ) (a : Above) (i : Option Inside) (m : Option ℕ) (j : JobTree) → finished n a i m ≡ Ok j → (i ≡ None) × (m ≡ None) × (a.job ≡ j)
+pub finished-ok : (n : ℕ) (a : Above) (i : Option Inside) (m : Option ℕ) (j : JobTree) → finished n a i m ≡ Ok j
+    → (i ≡ None) × (m ≡ None) × (a.job ≡ j)
 finished-ok n a (Some o) m j e = absurd cc
 finished-ok n a None (Some k) j e = absurd cc
 finished-ok n a None None j e = (refl, refl, cc)
@@ -30,7 +31,8 @@ at-ok : {A : Type 0} (n : ℕ) (r : Result A Code) (x : A) → at n r ≡ Ok x �
 at-ok n (Ok y) x e = let same : y ≡ x = cc in ap (λ z. Ok z) same
 at-ok n (Err c) x e = absurd cc
 
-skip-cases : {A : Type 0} (b : Bool) (a x : A) (r : Result A Code) → (if b then Ok a else r) ≡ Ok x → ((b ≡ true) × (a ≡ x)) ⊎ ((b ≡ false) × (r ≡ Ok x))
+skip-cases : {A : Type 0} (b : Bool) (a x : A) (r : Result A Code) → (if b then Ok a else r) ≡ Ok x
+    → ((b ≡ true) × (a ≡ x)) ⊎ ((b ≡ false) × (r ≡ Ok x))
 skip-cases true a x r e = inl (refl, cc)
 skip-cases false a x r e = inr (refl, e)
 
@@ -42,11 +44,13 @@ missing-none None n false e = (refl, refl)
 -- what a line that was read made of the lines above it
 abbrev pub Stepped : List Word → ℕ → Above → Words → Above → Type 0
 Stepped bodies n a ws b =
-    (p : JobTree × Option Inside) × (any_line bodies a.job a.inside ws ≡ Ok p) × (b.job ≡ p.0) × (b.inside ≡ p.1) × (b.missing ≡ first_missing a.missing n (is_missing bodies ws))
+    (p : JobTree × Option Inside) × (any_line bodies a.job a.inside ws ≡ Ok p) × (b.job ≡ p.0) × (b.inside ≡ p.1)
+    × (b.missing ≡ first_missing a.missing n (is_missing bodies ws))
 
 stepped : (bodies : List Word) (n : ℕ) (a : Above) (ws : Words) (b : Above) → line_step bodies n a ws ≡ Ok b → Stepped bodies n a ws b
 stepped bodies n a ws b e =
-    let f : JobTree × Option Inside → Above = λ p. record { job = p.0; inside = p.1; missing = first_missing a.missing n (is_missing bodies ws) } in
+    let f : JobTree × Option Inside → Above =
+    λ p. record { job = p.0; inside = p.1; missing = first_missing a.missing n (is_missing bodies ws) } in
     let m = made-ok f (any_line bodies a.job a.inside ws) b e in
     (m.0, m.1, ap (λ (x : Above). x.job) (sym m.2), ap (λ (x : Above). x.inside) (sym m.2), ap (λ (x : Above). x.missing) (sym m.2))
 
@@ -74,14 +78,16 @@ inner-format j o m None = refl
 inner-format j o m (Some s) = refl
 
 -- a line leaves the format
-any-format : (bodies : List Word) (j : JobTree) (i : Option Inside) (ws : Words) (p : JobTree × Option Inside) → any_line bodies j i ws ≡ Ok p → p.0.format ≡ j.format
+any-format : (bodies : List Word) (j : JobTree) (i : Option Inside) (ws : Words) (p : JobTree × Option Inside)
+    → any_line bodies j i ws ≡ Ok p → p.0.format ≡ j.format
 any-format bodies j None [] p e = absurd cc
 any-format bodies j (Some o) [] p e = absurd cc
 any-format bodies j (Some o) (k ∷ ws) p e =
     let w : Option Keyword = known_in j.format (keyword_of k) in
     let o' : Inside = mentioning j.format o w ws in
     let m = made-ok (with_line j o') (said (array_names j) bodies o' w ws) p e in
-    ap (λ (q : JobTree × Option Inside). q.0.format) (sym m.2) ∙ inner-format j o' (statements_behind o'.statements m.0) (step_of m.0 o.frames o.block)
+    ap (λ (q : JobTree × Option Inside). q.0.format) (sym m.2)
+    ∙ inner-format j o' (statements_behind o'.statements m.0) (step_of m.0 o.frames o.block)
 any-format bodies j None (k ∷ ws) p e = by (outer_of k) e
   where
     by : (x : Option Outer) → outer_line bodies j x ws ≡ Ok p → p.0.format ≡ j.format
@@ -89,7 +95,9 @@ any-format bodies j None (k ∷ ws) p e = by (outer_of k) e
     by (Some outer.Array) e =
         let m = made-ok (λ (i : JobTree). (i, None)) (array_line j ws) p e in
         let a = bind-ok (array_of ws) (with_array j) m.0 m.1 in
-        let ok = two-tests (is_among (array_names j) a.0.0) (nat_le 16 (length (array_names j))) Twice TooMany (Ok (record j { arrays = j.arrays ++ a.0 ∷ [] })) m.0 a.2 in
+        let ok =
+        two-tests (is_among (array_names j) a.0.0) (nat_le 16 (length (array_names j))) Twice TooMany
+        (Ok (record j { arrays = j.arrays ++ a.0 ∷ [] })) m.0 a.2 in
         let same : (record j { arrays = j.arrays ++ a.0 ∷ [] }) ≡ m.0 = cc in
         ap (λ (q : JobTree × Option Inside). q.0.format) (sym m.2) ∙ ap (λ (i : JobTree). i.format) (sym same)
     by (Some outer.Body) e =
@@ -102,7 +110,8 @@ any-format bodies j None (k ∷ ws) p e = by (outer_of k) e
         let same : (record j { starts = j.starts ++ a.0 ∷ [] }) ≡ m.0 = cc in
         ap (λ (q : JobTree × Option Inside). q.0.format) (sym m.2) ∙ ap (λ (i : JobTree). i.format) (sym same)
 
-pub lines-format : (bodies : List Word) (ls : List (List ℕ)) (n : ℕ) (a : Above) (j : JobTree) → read_lines bodies n a ls ≡ Ok j → j.format ≡ a.job.format
+pub lines-format : (bodies : List Word) (ls : List (List ℕ)) (n : ℕ) (a : Above) (j : JobTree) → read_lines bodies n a ls ≡ Ok j
+    → j.format ≡ a.job.format
 lines-format bodies [] n a j e = ap (λ (x : JobTree). x.format) (sym (finished-ok n a a.inside a.missing j e).2)
 lines-format bodies (l ∷ ls) n a j e =
     let m = next bodies n a l ls j e in
@@ -113,7 +122,8 @@ lines-format bodies (l ∷ ls) n a j e =
           ∙ any-format bodies a.job a.inside (words_of l) x.1.0 x.1.1
     ]
 
-pub lines-found : (bodies : List Word) (ls : List (List ℕ)) (n : ℕ) (a : Above) (j : JobTree) → read_lines bodies n a ls ≡ Ok j → a.missing ≡ None
+pub lines-found : (bodies : List Word) (ls : List (List ℕ)) (n : ℕ) (a : Above) (j : JobTree) → read_lines bodies n a ls ≡ Ok j
+    → a.missing ≡ None
 lines-found bodies [] n a j e = (finished-ok n a a.inside a.missing j e).1
 lines-found bodies (l ∷ ls) n a j e =
     let m = next bodies n a l ls j e in
@@ -142,16 +152,19 @@ lines-spelled-out bodies (l ∷ ls) n a lines j t e =
     let m = next bodies n a l ls j e in
     elim m.2 [
       | inl x ↦
-          subst (λ (c : List Words). SpelledOut bodies (lines ++ c) j) (sym (ap (λ (b : Bool). if b then kept ls else words_of l ∷ kept ls) x.0))
+          subst (λ (c : List Words). SpelledOut bodies (lines ++ c) j)
+          (sym (ap (λ (b : Bool). if b then kept ls else words_of l ∷ kept ls) x.0))
           (lines-spelled-out bodies ls (n + 1) m.0 lines j (subst (λ (y : Above). Tells bodies lines y.job y.inside) x.1 t) m.1)
       | inr x ↦
           let later : m.0.missing ≡ None = lines-found bodies ls (n + 1) m.0 j m.1 in
-          let miss : is_missing bodies (words_of l) ≡ false = (missing-none a.missing n (is_missing bodies (words_of l)) (sym x.1.4 ∙ later)).1 in
+          let miss : is_missing bodies (words_of l) ≡ false =
+          (missing-none a.missing n (is_missing bodies (words_of l)) (sym x.1.4 ∙ later)).1 in
           let s = step-spelled-out bodies lines a.job a.inside (words_of l) x.1.0 t miss x.1.1 in
           let u : Tells bodies (lines ++ words_of l ∷ []) m.0.job m.0.inside =
           subst (λ (k : JobTree). Tells bodies (lines ++ words_of l ∷ []) k m.0.inside) (sym x.1.2)
           (subst (λ (i : Option Inside). Tells bodies (lines ++ words_of l ∷ []) x.1.0.0 i) (sym x.1.3) s) in
           subst (λ (c : List Words). SpelledOut bodies c j)
-          (append_assoc lines (words_of l ∷ []) (kept ls) ∙ ap (λ (c : List Words). lines ++ c) (sym (ap (λ (b : Bool). if b then kept ls else words_of l ∷ kept ls) x.0)))
+          (append_assoc lines (words_of l ∷ []) (kept ls)
+          ∙ ap (λ (c : List Words). lines ++ c) (sym (ap (λ (b : Bool). if b then kept ls else words_of l ∷ kept ls) x.0)))
           (lines-spelled-out bodies ls (n + 1) m.0 (lines ++ words_of l ∷ []) j u m.1)
     ]

@@ -29,7 +29,8 @@ record Begun (bodies : List Word) (ls : List (List ℕ)) (j : JobTree) : Type 0 
   named : names_in ls ≡ names_in rest
   read : read_lines bodies line (nothing format) rest ≡ Ok j
 
-begun-cases : (bodies : List Word) (n : ℕ) (l : List ℕ) (ls : List (List ℕ)) (j : JobTree) (a : Bool) (o : Option ℕ) → is_skipped (words_of l) ≡ a
+begun-cases : (bodies : List Word) (n : ℕ) (l : List ℕ) (ls : List (List ℕ)) (j : JobTree) (a : Bool) (o : Option ℕ)
+    → is_skipped (words_of l) ≡ a
     → format_of (words_of l) ≡ o
     → (read_from bodies (n + 1) ls ≡ Ok j → Begun bodies ls j)
     → (if a then read_from bodies (n + 1) ls else read_behind bodies n o ls) ≡ Ok j → Begun bodies (l ∷ ls) j
@@ -50,14 +51,17 @@ begun-cases bodies n l ls j false (Some format) h g later e =
       rest = ls;
       line = n + 1;
       kept_lines = ap (λ (x : Bool). if x then kept ls else words_of l ∷ kept ls) h ∙ ap (λ (w : Words). w ∷ kept ls) header;
-      named = ap (λ (w : Words). cons_option (declared_by w) (names_in ls)) header ∙ ap (λ (o : Option Word). cons_option o (names_in ls)) (header-none format);
+      named =
+          ap (λ (w : Words). cons_option (declared_by w) (names_in ls)) header
+          ∙ ap (λ (o : Option Word). cons_option o (names_in ls)) (header-none format);
       read = e;
     }
 begun-cases bodies n l ls j false None h g later e = absurd cc
 
 begins : (bodies : List Word) (ls : List (List ℕ)) (n : ℕ) (j : JobTree) → read_from bodies n ls ≡ Ok j → Begun bodies ls j
 begins bodies [] n j e = absurd cc
-begins bodies (l ∷ ls) n j e = begun-cases bodies n l ls j (is_skipped (words_of l)) (format_of (words_of l)) refl refl (begins bodies ls (n + 1) j) e
+begins bodies (l ∷ ls) n j e =
+    begun-cases bodies n l ls j (is_skipped (words_of l)) (format_of (words_of l)) refl refl (begins bodies ls (n + 1) j) e
 
 -- the first lines read leave the format as it was
 lines-are-text : (ls : List (List ℕ)) (j : JobTree) → read_from (declared ls) 1 ls ≡ Ok j → IsTextOf j (kept ls)
@@ -68,11 +72,14 @@ lines-are-text ls j e =
     let same : declared ls ≡ body_names j =
     ap (λ (x : List Word). take 64 x) all ∙ take_all 64 (body_names j) names.1 in
     let spelled_out : SpelledOut (body_names j) (kept b.rest) j =
-    subst (λ (x : List Word). SpelledOut x (kept b.rest) j) same (lines-spelled-out (declared ls) b.rest b.line (nothing b.format) [] j (spelled-out-nothing b.format (declared ls)) b.read) in
+    subst (λ (x : List Word). SpelledOut x (kept b.rest) j) same
+    (lines-spelled-out (declared ls) b.rest b.line (nothing b.format) [] j (spelled-out-nothing b.format (declared ls)) b.read) in
     let format : j.format ≡ b.format = lines-format (declared ls) b.rest b.line (nothing b.format) j b.read in
     record {
       items = spelled_out.items;
-      written = b.kept_lines ∙ ap (λ (f : ℕ). header_words f ∷ kept b.rest) (sym format) ∙ ap (λ (x : List Words). header_words j.format ∷ x) spelled_out.written;
+      written =
+          b.kept_lines ∙ ap (λ (f : ℕ). header_words f ∷ kept b.rest) (sym format)
+          ∙ ap (λ (x : List Words). header_words j.format ∷ x) spelled_out.written;
       said = spelled_out.said;
       sound = spelled_out.sound;
     }

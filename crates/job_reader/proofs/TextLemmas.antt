@@ -29,7 +29,8 @@ use Rattle.job_reader.specs.Writing.{code_lines}
 use Rattle.job_reader.proofs.CodeLemmas.{matched-code, text-append}
 
 -- one body more
-pub bodies-next : (format : ℕ) (arrays bodies : List Word) (b : BodyTree) (bs : List BodyTree) (out next : List ℕ) → next ≡ out ++ text_of (body_lines format arrays bodies b)
+pub bodies-next : (format : ℕ) (arrays bodies : List Word) (b : BodyTree) (bs : List BodyTree) (out next : List ℕ)
+    → next ≡ out ++ text_of (body_lines format arrays bodies b)
     → next ++ text_of (bodies_lines format arrays bodies bs) ≡ out ++ text_of (bodies_lines format arrays bodies (b ∷ bs))
 bodies-next format arrays bodies b bs out next e =
     ap (λ (x : List ℕ). x ++ text_of (bodies_lines format arrays bodies bs)) e
@@ -45,7 +46,8 @@ last-line ls = text-append ls (end_words ∷ [])
 
 -- a body's pieces are its lines
 pub body-text : (format : ℕ) (s : Names) (name : Word) (locals : List Word) (code : List Line) → IsMatched code → (out a b l c d e : List ℕ)
-    → a ≡ out ++ codes "body " → b ≡ a ++ name → l ≡ b ++ spaced (listed_in format locals) → c ≡ l ++ 10 ∷ [] → d ≡ c ++ text_of (code_lines s code) → e ≡ d ++ codes "end\n"
+    → a ≡ out ++ codes "body " → b ≡ a ++ name → l ≡ b ++ spaced (listed_in format locals) → c ≡ l ++ 10 ∷ []
+    → d ≡ c ++ text_of (code_lines s code) → e ≡ d ++ codes "end\n"
     → e ≡ out ++ text_of (body_words format name locals ∷ (block_lines s (tree_of code) ++ end_words ∷ []))
 body-text format s name locals code m out a b l c d e p q v r t u =
     let whole : text_of (code_lines s code) ++ codes "end\n" ≡ text_of (block_lines s (tree_of code) ++ end_words ∷ []) =
@@ -65,13 +67,15 @@ names-of-trees [] = refl
 names-of-trees (b ∷ bs) = ap (λ (t : List Word). b.name ∷ t) (names-of-trees bs)
 
 -- a job's pieces are its text
-pub job-text : (header : Words) (xs ys zs : List Words) (new a b c d : List ℕ) → new ≡ [] → a ≡ new ++ line_text header → b ≡ a ++ text_of xs
+pub job-text : (header : Words) (xs ys zs : List Words) (new a b c d : List ℕ) → new ≡ [] → a ≡ new ++ line_text header
+    → b ≡ a ++ text_of xs
     → c ≡ b ++ text_of ys → d ≡ c ++ text_of zs
     → d ≡ text_of (header ∷ (xs ++ (ys ++ zs)))
 job-text header xs ys zs new a b c d n p q r t =
     let first : List ℕ = line_text header in
     t
-    ∙ ap (λ (x : List ℕ). x ++ text_of zs) (r ∙ ap (λ (x : List ℕ). x ++ text_of ys) (q ∙ ap (λ (x : List ℕ). x ++ text_of xs) (p ∙ ap (λ (x : List ℕ). x ++ first) n)))
+    ∙ ap (λ (x : List ℕ). x ++ text_of zs)
+    (r ∙ ap (λ (x : List ℕ). x ++ text_of ys) (q ∙ ap (λ (x : List ℕ). x ++ text_of xs) (p ∙ ap (λ (x : List ℕ). x ++ first) n)))
     ∙ append_assoc (first ++ text_of xs) (text_of ys) (text_of zs)
     ∙ append_assoc first (text_of xs) (text_of ys ++ text_of zs)
     ∙ ap (λ (x : List ℕ). first ++ (text_of xs ++ x)) (sym (text-append ys zs))
@@ -114,10 +118,16 @@ pub job-made : (j : JobValue) (f h : ℕ) (xs ys : List (Word × List ℤ)) (p q
 job-made j f h xs ys p q r ss new a b c d ex ey ep eq er es ef eh n first g k i =
     let names : (bs : List BodyValue) → bs ≡ j.bodies → map (λ (x : BodyValue). x.name) bs ≡ body_names (job_tree j) =
     λ bs e. ap (λ (t : List BodyValue). map (λ (x : BodyValue). x.name) t) e ∙ sym (names-of-trees j.bodies) in
-    job-text (header_words j.format) (array_lines j.arrays) (bodies_lines j.format (array_names (job_tree j)) (body_names (job_tree j)) (map body_tree j.bodies)) (start_lines (body_names (job_tree j)) j.starts)
+    job-text (header_words j.format) (array_lines j.arrays)
+    (bodies_lines j.format (array_names (job_tree j)) (body_names (job_tree j)) (map body_tree j.bodies))
+    (start_lines (body_names (job_tree j)) j.starts)
     new a b c d n (first ∙ ap (λ (x : ℕ). new ++ line_text (header_words x)) ef)
     (g ∙ ap (λ (t : List (Word × List ℤ)). a ++ text_of (array_lines t)) ex)
-    (k ∙ ap (λ (t : List (Word × List ℤ)). b ++ text_of (bodies_lines h (map (λ (x : Word × List ℤ). x.0) t) (map (λ (x : BodyValue). x.name) p) (map body_tree q))) ey
+    (k
+    ∙ ap
+    (λ (t : List (Word × List ℤ)). b
+    ++ text_of (bodies_lines h (map (λ (x : Word × List ℤ). x.0) t) (map (λ (x : BodyValue). x.name) p) (map body_tree q)))
+    ey
     ∙ ap (λ (t : List Word). b ++ text_of (bodies_lines h (array_names (job_tree j)) t (map body_tree q))) (names p ep)
     ∙ ap (λ (t : List BodyValue). b ++ text_of (bodies_lines h (array_names (job_tree j)) (body_names (job_tree j)) (map body_tree t))) eq
     ∙ ap (λ (x : ℕ). b ++ text_of (bodies_lines x (array_names (job_tree j)) (body_names (job_tree j)) (map body_tree j.bodies))) eh)

@@ -45,7 +45,8 @@ abbrev pub names_above : List Word → List Word → BodyTree → Names
 names_above arrays bodies b = record { arrays = arrays; bodies = bodies; locals = b.locals }
 
 abbrev pub body_lines : ℕ → List Word → List Word → BodyTree → List Words
-body_lines format arrays bodies b = body_words format b.name b.locals ∷ (block_lines (names_above arrays bodies b) b.block ++ end_words ∷ [])
+body_lines format arrays bodies b =
+    body_words format b.name b.locals ∷ (block_lines (names_above arrays bodies b) b.block ++ end_words ∷ [])
 
 -- What is outside bodies, in the order of the text: an array with the values that its line gives and its cells, a body,
 -- a start line.
@@ -58,7 +59,8 @@ pub data Item : Type 0 where
 module _ (format : ℕ) where
   abbrev pub items_lines : List Word → List Word → List Item → List Words
   items_lines arrays bodies [] = []
-  items_lines arrays bodies (AnArray name given cells ∷ is) = array_words name (length cells) given ∷ items_lines (arrays ++ name ∷ []) bodies is
+  items_lines arrays bodies (AnArray name given cells ∷ is) =
+      array_words name (length cells) given ∷ items_lines (arrays ++ name ∷ []) bodies is
   items_lines arrays bodies (ABody b ∷ is) = body_lines format arrays bodies b ++ items_lines arrays bodies is
   items_lines arrays bodies (AStart s ∷ is) = start_words bodies s ∷ items_lines arrays bodies is
 
@@ -129,7 +131,8 @@ start_lines bodies starts = map (start_words bodies) starts
 
 abbrev pub canonical : JobTree → List Words
 canonical j =
-    header_words j.format ∷ (array_lines j.arrays ++ (bodies_lines j.format (array_names j) (body_names j) j.bodies ++ start_lines (body_names j) j.starts))
+    header_words j.format
+    ∷ (array_lines j.arrays ++ (bodies_lines j.format (array_names j) (body_names j) j.bodies ++ start_lines (body_names j) j.starts))
 
 -- single spaces between words, and an LF after each line
 abbrev pub spaced : Words → List ℕ

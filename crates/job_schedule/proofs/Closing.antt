@@ -32,7 +32,8 @@ not_called w worker place tree answer.Begun h = cc
 not_called w worker place tree (answer.Played a) h = cc
 not_called w worker place tree answer.NotNow h = cc
 
-not_advanced : (w : World) (worker place : ℕ) (tree : Tree) (a : TreeAnswer) {A : Type 0} → (advanced_by w worker place tree a).0 ≡ Closed → A
+not_advanced : (w : World) (worker place : ℕ) (tree : Tree) (a : TreeAnswer) {A : Type 0} → (advanced_by w worker place tree a).0 ≡ Closed
+    → A
 not_advanced w worker place tree answer.Begun h = cc
 not_advanced w worker place tree (answer.Played a) h = cc
 not_advanced w worker place tree answer.NotNow h = cc
@@ -56,7 +57,8 @@ closing_move w worker (Delivers place) h = cc
 closing_move w worker (Calls place token c) h =
     not_called w worker place (after (after w.tree (Begin token c)) (Go token)) (answer_to (after w.tree (Begin token c)) (Go token)) h
 closing_move w worker (Advances place) h =
-    not_advanced w worker place (after w.tree (Finish (participant_at w.participants place).token)) (answer_to w.tree (Finish (participant_at w.participants place).token)) h
+    not_advanced w worker place (after w.tree (Finish (participant_at w.participants place).token))
+    (answer_to w.tree (Finish (participant_at w.participants place).token)) h
 closing_move w worker (Closes token) h = by (report_in w.limit (next_job w)) refl h
   where
     by : (o : Option ReportValue) → report_in w.limit (next_job w) ≡ o → (closed_as w worker token (next_job w) o).0 ≡ Closed
@@ -69,7 +71,8 @@ closing_move w worker (Ends token) h =
 abbrev pub FromMode : World → ℕ → ℕ → Mode → Type 0
 FromMode w worker token m = (is_some (status w.limit w.job) ≡ true) ⊎ ((m ≡ mode.Advanced worker token) × (all_over w.participants ≡ true))
 
-no_stage : (g : ParticipantValue) (place : ℕ) (due : Bool) (stage : Stage) (token : ℕ) {A : Type 0} → by_stage g place due stage ≡ Some (Closes token) → A
+no_stage : (g : ParticipantValue) (place : ℕ) (due : Bool) (stage : Stage) (token : ℕ) {A : Type 0}
+    → by_stage g place due stage ≡ Some (Closes token) → A
 no_stage g place due Waits token h = cc
 no_stage g place due Taken token h = cc
 no_stage g place due Polling token h = cc
@@ -95,7 +98,8 @@ in_mode w worker token mode.Runs h = by_the_hand (slice_index_or w.hands worker 
     by_the_hand (Some place) e = no_stage (participant_at w.participants place) place _ (participant_at w.participants place).stage token e
 in_mode w worker token (mode.Advanced closer owner) h = by (worker == closer) (all_over w.participants) refl refl h
   where
-    by : (b c : Bool) → (worker == closer) ≡ b → all_over w.participants ≡ c → (if b && c then Some (Closes owner) else None) ≡ Some (Closes token)
+    by : (b c : Bool) → (worker == closer) ≡ b → all_over w.participants ≡ c
+        → (if b && c then Some (Closes owner) else None) ≡ Some (Closes token)
         → FromMode w worker token (mode.Advanced closer owner)
     by true true e f k =
         let same : worker ≡ closer = eqb-true worker closer e in
@@ -118,10 +122,12 @@ from_mode w worker token h = by (nat_lt worker 64) h
     by false e = cc
 
 -- the job goes on only if it hadn't ended, by one superstep
-pub one_superstep : (w : World) → report_in w.limit (next_job w) ≡ None → (next_job w ≡ superstep w.program w.job) × (is_some (status w.limit w.job) ≡ false)
+pub one_superstep : (w : World) → report_in w.limit (next_job w) ≡ None
+    → (next_job w ≡ superstep w.program w.job) × (is_some (status w.limit w.job) ≡ false)
 one_superstep w h = by (status w.limit w.job) refl h
   where
-    ended : (o : Option Status) (s : Status) → o ≡ Some s → report_with w.job o ≡ None → (w.job ≡ superstep w.program w.job) × (true ≡ false)
+    ended : (o : Option Status) (s : Status) → o ≡ Some s → report_with w.job o ≡ None
+        → (w.job ≡ superstep w.program w.job) × (true ≡ false)
     ended None s e k = cc
     ended (Some t) s e k = cc
 
@@ -146,7 +152,8 @@ is_closing w x h =
     let all = whole (move_of w (worker_of x)) refl h in
     record { by = all.0; advanced = all.1; over = all.2; runs = all.3; step = all.4 }
   where
-    at : (m : Move) → move_of w (worker_of x) ≡ Some m → (kind_of x == kind_for m) ≡ true → Closes_ w m (done_by w (worker_of x) m).1 → Is w x (done_by w (worker_of x) m).1
+    at : (m : Move) → move_of w (worker_of x) ≡ Some m → (kind_of x == kind_for m) ≡ true → Closes_ w m (done_by w (worker_of x) m).1
+        → Is w x (done_by w (worker_of x) m).1
     at m e k c =
         let one = one_superstep w c.on in
         let from = from_mode w (worker_of x) c.token (e ∙ ap (λ (n : Move). Some n) c.move) in
@@ -160,7 +167,8 @@ is_closing w x h =
         )
 
     if_so : (m : Move) (b : Bool) → move_of w (worker_of x) ≡ Some m → (kind_of x == kind_for m) ≡ b
-        → (if b then done_by w (worker_of x) m else (NotNow, w)).0 ≡ Closed → Is w x (if b then done_by w (worker_of x) m else (NotNow, w)).1
+        → (if b then done_by w (worker_of x) m else (NotNow, w)).0 ≡ Closed
+        → Is w x (if b then done_by w (worker_of x) m else (NotNow, w)).1
     if_so m true e k c = at m e k (closing_move w (worker_of x) m c)
     if_so m false e k c = cc
 
@@ -183,7 +191,8 @@ call_closes_none w worker place tree answer.Begun = refl
 call_closes_none w worker place tree (answer.Played a) = refl
 call_closes_none w worker place tree answer.NotNow = refl
 
-advance_closes_none : (w : World) (worker place : ℕ) (tree : Tree) (a : TreeAnswer) → closes_round (advanced_by w worker place tree a).0 ≡ false
+advance_closes_none : (w : World) (worker place : ℕ) (tree : Tree) (a : TreeAnswer)
+    → closes_round (advanced_by w worker place tree a).0 ≡ false
 advance_closes_none w worker place tree answer.Begun = refl
 advance_closes_none w worker place tree (answer.Played a) = refl
 advance_closes_none w worker place tree answer.NotNow = refl

@@ -37,7 +37,8 @@ later p [] place t a h = cc
 later p (u ∷ ts) zero t a h = let e : u ≡ t = cc in ap (λ (v : Task). path_lt p v.path) (sym e) ∙ a.0
 later p (u ∷ ts) (suc place) t a h = later p ts place t a.1 h
 
-pub deed_there : (p : Program) (arrays : List (List ℕ × List ℤ)) (n : ℕ) (ts : List Task) (place : ℕ) (t : Task) → is_rising (map (λ (u : Task). u.path) ts) ≡ true
+pub deed_there : (p : Program) (arrays : List (List ℕ × List ℤ)) (n : ℕ) (ts : List Task) (place : ℕ) (t : Task)
+    → is_rising (map (λ (u : Task). u.path) ts) ≡ true
     → slice_get ts place ≡ Some t → deed_in (segments p arrays n ts) t.path ≡ segment_of p.plans t arrays n
 deed_there p arrays n [] place t r h = cc
 deed_there p arrays n (u ∷ ts) zero t r h =
@@ -66,7 +67,8 @@ deed_delivered r d path is run own job step at = by (slice_get (state_of r).live
         ∙ ap (λ (j : JobValue). deed_at (program_of j) d.step d.place) (sym job)
         ∙ own
 
-    by : (o : Option Task) → slice_get (state_of r).live d.place ≡ o → deed_of (program_of r.job) (state_of r) o ≡ Some (d.path, delivered_segment d)
+    by : (o : Option Task) → slice_get (state_of r).live d.place ≡ o
+        → deed_of (program_of r.job) (state_of r) o ≡ Some (d.path, delivered_segment d)
         → delivered_segment d ≡ deed_by r path
     by None e h = cc
     by (Some t) e h =

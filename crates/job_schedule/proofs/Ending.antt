@@ -79,13 +79,16 @@ force_done w worker closer token can =
 -- After the end.
 
 over_step : (w : World) (x : JobStep) → w.mode ≡ mode.Over → step_of w x ≡ (NotNow, w)
-over_step w x e = ap (if_asked w x) (ap (λ (m : Mode). if nat_lt (worker_of x) 64 then by_mode w (worker_of x) m else None) e ∙ by (nat_lt (worker_of x) 64))
+over_step w x e =
+    ap (if_asked w x)
+    (ap (λ (m : Mode). if nat_lt (worker_of x) 64 then by_mode w (worker_of x) m else None) e ∙ by (nat_lt (worker_of x) 64))
   where
     by : (b : Bool) → ◌≡◌ {A = Option Move} (if b then None else None) None
     by true = refl
     by false = refl
 
-behind_over : (w : World) (closer : ℕ) (end : Played) (ys : List JobStep) → w.mode ≡ mode.Over → answers w ys ≡ behind_the_end closer end false ys
+behind_over : (w : World) (closer : ℕ) (end : Played) (ys : List JobStep) → w.mode ≡ mode.Over
+    → answers w ys ≡ behind_the_end closer end false ys
 behind_over w closer end [] e = refl
 behind_over w closer end (y ∷ ys) e =
     ap (λ (r : AnswerValue × World). r.0 ∷ answers r.1 ys) (over_step w y e)
@@ -108,18 +111,21 @@ due_step w closer token x e can =
     other x true false k = refl
     other x false b k = refl
 
-    mine : (worker : ℕ) (b : Bool) → (worker == closer) ≡ b → if_asked w (TreeStep worker) (ends_where token (nat_lt worker 64) b) ≡ when_due w token b
+    mine : (worker : ℕ) (b : Bool) → (worker == closer) ≡ b
+        → if_asked w (TreeStep worker) (ends_where token (nat_lt worker 64) b) ≡ when_due w token b
     mine worker true q =
         let same : worker ≡ closer = eqb-true worker closer q in
         let here : worker < 64 = (let a = can.within in omega arith) in
-        ap (λ (a : Bool). if_asked w (TreeStep worker) (ends_where token a true)) (lt-ltb worker 64 here) ∙ force_done w worker closer token can
+        ap (λ (a : Bool). if_asked w (TreeStep worker) (ends_where token a true)) (lt-ltb worker 64 here)
+        ∙ force_done w worker closer token can
     mine worker false q = by (nat_lt worker 64)
       where
         by : (a : Bool) → if_asked w (TreeStep worker) (ends_where token a false) ≡ (NotNow, w)
         by true = refl
         by false = refl
 
-    at : (x : JobStep) → if_asked w x (ends_where token (nat_lt (worker_of x) 64) (worker_of x == closer)) ≡ when_due w token (is_tree_step closer x)
+    at : (x : JobStep)
+        → if_asked w x (ends_where token (nat_lt (worker_of x) 64) (worker_of x == closer)) ≡ when_due w token (is_tree_step closer x)
     at (Take worker) = other (Take worker) (nat_lt worker 64) (worker == closer) refl
     at (Deliver worker) = other (Deliver worker) (nat_lt worker 64) (worker == closer) refl
     at (TreeStep worker) = mine worker (worker == closer) refl
@@ -133,9 +139,13 @@ behind_due w closer token (y ∷ ys) e can =
     ap (λ (r : AnswerValue × World). r.0 ∷ answers r.1 ys) (due_step w closer token y e can)
     ∙ by (is_tree_step closer y) (behind_due w closer token ys e can)
   where
-    by : (b : Bool) → answers w ys ≡ behind_the_end closer (end_of w.tree) true ys → (when_due w token b).0 ∷ answers (when_due w token b).1 ys
-        ≡ (if b then Stepped (end_of w.tree) ∷ behind_the_end closer (end_of w.tree) false ys else NotNow ∷ behind_the_end closer (end_of w.tree) true ys)
-    by true rest = ap (λ (reported : List AnswerValue). Stepped (end_of w.tree) ∷ reported) (behind_over (forced w token) closer (end_of w.tree) ys refl)
+    by : (b : Bool) → answers w ys ≡ behind_the_end closer (end_of w.tree) true ys
+        → (when_due w token b).0 ∷ answers (when_due w token b).1 ys
+        ≡ (if b then Stepped (end_of w.tree) ∷ behind_the_end closer (end_of w.tree) false ys
+        else NotNow ∷ behind_the_end closer (end_of w.tree) true ys)
+    by true rest =
+        ap (λ (reported : List AnswerValue). Stepped (end_of w.tree) ∷ reported)
+        (behind_over (forced w token) closer (end_of w.tree) ys refl)
     by false rest = ap (λ (reported : List AnswerValue). NotNow ∷ reported) rest
 
 -- A round that is closed.
@@ -161,12 +171,14 @@ over_reported w report none over h = by (status w.limit w.job) refl over h
     by None e k r = cc
     by (Some s) e k r =
         ap has_faulted (sym (same s (ap (report_with w.job) (sym e) ∙ r)))
-        ∙ unfaulted w.limit w.job.step w.job.live s (ap (λ (f : Option (ℕ × List ℕ)). status_of w.limit w.job.step f w.job.live) (sym none) ∙ e)
+        ∙ unfaulted w.limit w.job.step w.job.live s
+        (ap (λ (f : Option (ℕ × List ℕ)). status_of w.limit w.job.step f w.job.live) (sym none) ∙ e)
 
 abbrev IsReadyBy : World → ℕ → ℕ → Type 0
 IsReadyBy w worker token = ((w.job.fault ≡ None) × (is_some (status w.limit w.job) ≡ true)) ⊎ CanEnd w worker token
 
-ready_by : (w : World) (worker token : ℕ) (m : Mode) → w.mode ≡ m → Ready w m → move_of w worker ≡ Some (Closes token) → IsReadyBy w worker token
+ready_by : (w : World) (worker token : ℕ) (m : Mode) → w.mode ≡ m → Ready w m → move_of w worker ≡ Some (Closes token)
+    → IsReadyBy w worker token
 ready_by w worker token mode.Runs e ready h = ⊎_elim
     (λ (q : is_some (status w.limit w.job) ≡ true). inl (ready, q))
     (λ q. let bad : mode.Runs ≡ mode.Advanced worker token = sym e ∙ q.0 in cc)
@@ -186,13 +198,15 @@ ready_by w worker token (mode.Forces closer own) e ready h =
     by true true k = cc
     by true false k = cc
     by false b k = cc
-ready_by w worker token mode.Over e ready h = by (nat_lt worker 64) (ap (λ (m : Mode). if nat_lt worker 64 then by_mode w worker m else None) (sym e) ∙ h)
+ready_by w worker token mode.Over e ready h =
+    by (nat_lt worker 64) (ap (λ (m : Mode). if nat_lt worker 64 then by_mode w worker m else None) (sym e) ∙ h)
   where
     by : (a : Bool) → (if a then None else None) ≡ Some (Closes token) → IsReadyBy w worker token
     by true k = cc
     by false k = cc
 
-fault_can_end : (w : World) (worker token : ℕ) (report : ReportValue) → IsReadyBy w worker token → report_in w.limit (next_job w) ≡ Some report
+fault_can_end : (w : World) (worker token : ℕ) (report : ReportValue) → IsReadyBy w worker token
+    → report_in w.limit (next_job w) ≡ Some report
     → has_faulted report.status ≡ true → CanEnd w worker token
 fault_can_end w worker token report ready reported faulted =
     ⊎_elim (λ q. not_both (has_faulted report.status) faulted (over_reported w report q.0 q.1 reported)) (λ q. q) ready
@@ -261,7 +275,8 @@ children_mode w place (path ∷ paths) = children_mode (child_from w place path 
     by [] = refl
     by (token ∷ free) = refl
 
-called_ready : (w : World) (worker place : ℕ) (tree : Tree) (a : TreeAnswer) → w.mode ≡ mode.Runs → w.job.fault ≡ None → IsReady (called_by w worker place tree a).1
+called_ready : (w : World) (worker place : ℕ) (tree : Tree) (a : TreeAnswer) → w.mode ≡ mode.Runs → w.job.fault ≡ None
+    → IsReady (called_by w worker place tree a).1
 called_ready w worker place tree answer.Begun runs none = goes_on (called_by w worker place tree answer.Begun).1 runs none
 called_ready w worker place tree (answer.Played a) runs none = goes_on (called_by w worker place tree (answer.Played a)).1 runs none
 called_ready w worker place tree answer.NotNow runs none = goes_on (called_by w worker place tree answer.NotNow).1 runs none
@@ -275,7 +290,8 @@ both : (a b : Bool) → (a && b) ≡ true → (a ≡ true) × (b ≡ true)
 both true b h = (refl, h)
 both false b h = cc
 
-advanced_ready : (w : World) (worker place : ℕ) → worker < 64 → w.mode ≡ mode.Runs → w.job.fault ≡ None → IsReady (done_by w worker (Advances place)).1
+advanced_ready : (w : World) (worker place : ℕ) → worker < 64 → w.mode ≡ mode.Runs → w.job.fault ≡ None
+    → IsReady (done_by w worker (Advances place)).1
 advanced_ready w worker place within runs none = by (may_finish w.tree token) refl
   where
     token : ℕ
@@ -291,8 +307,10 @@ advanced_ready w worker place within runs none = by (may_finish w.tree token) re
         let may = both (nat_lt token (length w.tree.views)) (is_due (call_at w.tree.calls token)) e in
         let listed = due_is_listed w.tree.calls token may.1 in
         let known = ltb-true token (length w.tree.views) may.0 in
-        let long : length (played w.tree token (finish_at w.tree token ends)).calls ≡ length w.tree.calls = length-set w.tree.calls token Idle in
-        let wide : length (played w.tree token (finish_at w.tree token ends)).views ≡ length w.tree.views = length-set w.tree.views token _ in (
+        let long : length (played w.tree token (finish_at w.tree token ends)).calls ≡ length w.tree.calls =
+        length-set w.tree.calls token Idle in
+        let wide : length (played w.tree token (finish_at w.tree token ends)).views ≡ length w.tree.views =
+        length-set w.tree.views token _ in (
           none,
           record {
             within = within;
@@ -314,7 +332,8 @@ no_fault limit st e = by st.fault (status limit st) refl e
 closed_ready : (w : World) (worker token : ℕ) → IsReadyBy w worker token → IsReady (done_by w worker (Closes token)).1
 closed_ready w worker token ready = by (report_in w.limit (next_job w)) refl
   where
-    after_it : (v : World) (s : Status) → v.tree ≡ w.tree → (has_faulted s ≡ true → CanEnd w worker token) → Ready v (mode_after worker token s)
+    after_it : (v : World) (s : Status) → v.tree ≡ w.tree → (has_faulted s ≡ true → CanEnd w worker token)
+        → Ready v (mode_after worker token s)
     after_it v (HasEnded steps) e can = tt
     after_it v (HasFaulted code step path) e can = same_tree w v worker token e (can refl)
     after_it v (IsAtLimit steps) e can = tt
@@ -324,7 +343,8 @@ closed_ready w worker token ready = by (report_in w.limit (next_job w)) refl
     by (Some report) e =
         after_it (closed_as w worker token (next_job w) (Some report)).1 report.status refl (fault_can_end w worker token report ready e)
 
-ended_ready : (w : World) (worker token : ℕ) (m : Mode) → w.mode ≡ m → Ready w m → move_of w worker ≡ Some (Ends token) → IsReady (done_by w worker (Ends token)).1
+ended_ready : (w : World) (worker token : ℕ) (m : Mode) → w.mode ≡ m → Ready w m → move_of w worker ≡ Some (Ends token)
+    → IsReady (done_by w worker (Ends token)).1
 ended_ready w worker token m e ready h = at m e ready (ap (λ (n : Mode). if nat_lt worker 64 then by_mode w worker n else None) (sym e) ∙ h)
   where
     in_runs : (tree : Tree) (a : TreeAnswer) → w.mode ≡ mode.Runs → w.job.fault ≡ None → IsReady (ended_by w tree a).1
@@ -332,11 +352,15 @@ ended_ready w worker token m e ready h = at m e ready (ap (λ (n : Mode). if nat
     in_runs tree (answer.Played a) runs none = tt
     in_runs tree answer.NotNow runs none = goes_on (ended_by w tree answer.NotNow).1 runs none
 
-    at : (m : Mode) → w.mode ≡ m → Ready w m → (if nat_lt worker 64 then by_mode w worker m else None) ≡ Some (Ends token) → IsReady (done_by w worker (Ends token)).1
-    at mode.Runs runs r k = in_runs (after (after w.tree (Begin token call.Force)) (Go token)) (answer_to (after w.tree (Begin token call.Force)) (Go token)) runs r
+    at : (m : Mode) → w.mode ≡ m → Ready w m → (if nat_lt worker 64 then by_mode w worker m else None) ≡ Some (Ends token)
+        → IsReady (done_by w worker (Ends token)).1
+    at mode.Runs runs r k =
+        in_runs (after (after w.tree (Begin token call.Force)) (Go token)) (answer_to (after w.tree (Begin token call.Force)) (Go token))
+        runs r
     at (mode.Advanced closer own) q r k = by (nat_lt worker 64) ((worker == closer) && all_over w.participants) k
       where
-        by : (a b : Bool) → (if a then (if b then Some (Closes own) else None) else None) ≡ Some (Ends token) → IsReady (done_by w worker (Ends token)).1
+        by : (a b : Bool) → (if a then (if b then Some (Closes own) else None) else None) ≡ Some (Ends token)
+            → IsReady (done_by w worker (Ends token)).1
         by true true q = cc
         by true false q = cc
         by false b q = cc
@@ -346,7 +370,8 @@ ended_ready w worker token m e ready h = at m e ready (ap (λ (n : Mode). if nat
             → IsReady (done_by w worker (Ends token)).1
         by true true f q =
             let what : own ≡ token = cc in
-            subst (λ (p : AnswerValue × World). IsReady p.1) (sym (force_done w worker closer token (subst (λ (t : ℕ). CanEnd w closer t) what r))) tt
+            subst (λ (p : AnswerValue × World). IsReady p.1)
+            (sym (force_done w worker closer token (subst (λ (t : ℕ). CanEnd w closer t) what r))) tt
         by true false f q = cc
         by false b f q = cc
     at mode.Over q r k = by (nat_lt worker 64) k
@@ -364,13 +389,17 @@ done_ready w worker (Takes place) e ready =
     goes_on (done_by w worker (Takes place)).1 runs (in_runs w runs ready)
 done_ready w worker (Delivers place) e ready =
     let runs = only_in_runs w worker (Delivers place) e refl in
-    let k = children_keep (noted w place (has_synced (deed_of w (participant_at w.participants place).path))) place (spawned_paths (deed_of w (participant_at w.participants place).path)) in
+    let k =
+    children_keep (noted w place (has_synced (deed_of w (participant_at w.participants place).path))) place
+    (spawned_paths (deed_of w (participant_at w.participants place).path)) in
     goes_on (done_by w worker (Delivers place)).1
-    (children_mode (noted w place (has_synced (deed_of w (participant_at w.participants place).path))) place (spawned_paths (deed_of w (participant_at w.participants place).path)) ∙ runs)
+    (children_mode (noted w place (has_synced (deed_of w (participant_at w.participants place).path))) place (spawned_paths (deed_of w (participant_at w.participants place).path))
+    ∙ runs)
     (ap (λ (st : State). st.fault) k.job ∙ in_runs w runs ready)
 done_ready w worker (Calls place token c) e ready =
     let runs = only_in_runs w worker (Calls place token c) e refl in
-    called_ready w worker place (after (after w.tree (Begin token c)) (Go token)) (answer_to (after w.tree (Begin token c)) (Go token)) runs (in_runs w runs ready)
+    called_ready w worker place (after (after w.tree (Begin token c)) (Go token)) (answer_to (after w.tree (Begin token c)) (Go token)) runs
+    (in_runs w runs ready)
 done_ready w worker (Advances place) e ready =
     let runs = only_in_runs w worker (Advances place) e refl in
     advanced_ready w worker place (within_of w worker (Advances place) e) runs (in_runs w runs ready)
@@ -405,7 +434,8 @@ reached_ready p parents limit xs =
 
 -- The law.
 
-behind : (v : World) (worker token : ℕ) (s : Status) (ys : List JobStep) → v.mode ≡ mode_after worker token s → (has_faulted s ≡ true → CanEnd v worker token)
+behind : (v : World) (worker token : ℕ) (s : Status) (ys : List JobStep) → v.mode ≡ mode_after worker token s
+    → (has_faulted s ≡ true → CanEnd v worker token)
     → answers v ys ≡ behind_the_end worker (end_of v.tree) (has_faulted s) ys
 behind v worker token (HasEnded steps) ys e can = behind_over v worker (end_of v.tree) ys e
 behind v worker token (HasFaulted code step path) ys e can = behind_due v worker token ys e (can refl)
@@ -421,7 +451,8 @@ is_behind w x report ys ready h =
   where
     by : (token : ℕ) → IsReadyBy w (worker_of x) token → (o : Option ReportValue) → report_in w.limit (next_job w) ≡ o
         → (closed_as w (worker_of x) token (next_job w) o).0 ≡ Finished report
-        → answers (closed_as w (worker_of x) token (next_job w) o).1 ys ≡ behind_the_end (worker_of x) (end_of w.tree) (has_faulted report.status) ys
+        → answers (closed_as w (worker_of x) token (next_job w) o).1 ys
+        ≡ behind_the_end (worker_of x) (end_of w.tree) (has_faulted report.status) ys
     by token can None e k = cc
     by token can (Some r) e k =
         let same : r ≡ report = cc in

@@ -38,7 +38,8 @@ and_then u v w h k = record { program = k.program ∙ h.program; limit = k.limit
 starts_keep : (w : World) (paths : List (List ℕ)) → SameJob w (with_starts w paths)
 starts_keep w [] = same w
 starts_keep w (path ∷ paths) =
-    and_then w (with_start w path) (with_starts w (path ∷ paths)) (record { program = refl; limit = refl; job = refl }) (starts_keep (with_start w path) paths)
+    and_then w (with_start w path) (with_starts w (path ∷ paths)) (record { program = refl; limit = refl; job = refl })
+    (starts_keep (with_start w path) paths)
 
 child_keeps : (w : World) (place : ℕ) (path free : List ℕ) → SameJob w (child_from w place path free)
 child_keeps w place path [] = record { program = refl; limit = refl; job = refl }
@@ -81,7 +82,9 @@ closed_goes w worker token (Some report) = record { program = refl; limit = refl
 done_goes : (w : World) (worker : ℕ) (m : Move) → GoesOn w (done_by w worker m).1
 done_goes w worker (Takes place) = stays w (done_by w worker (Takes place)).1 (record { program = refl; limit = refl; job = refl })
 done_goes w worker (Delivers place) =
-    let k = children_keep (noted w place (has_synced (deed_of w (participant_at w.participants place).path))) place (spawned_paths (deed_of w (participant_at w.participants place).path)) in
+    let k =
+    children_keep (noted w place (has_synced (deed_of w (participant_at w.participants place).path))) place
+    (spawned_paths (deed_of w (participant_at w.participants place).path)) in
     stays w (done_by w worker (Delivers place)).1 (record { program = k.program; limit = k.limit; job = k.job })
 done_goes w worker (Calls place token c) = stays w (done_by w worker (Calls place token c)).1
     (called_keeps w worker place (after (after w.tree (Begin token c)) (Go token)) (answer_to (after w.tree (Begin token c)) (Go token)))
@@ -111,14 +114,20 @@ pub record IsOf (p : Program) (limit : ℕ) (w : World) : Type 0 where
 one_more : (p : Program) (limit : ℕ) (w : World) (is : IsOf p limit w) → next_job w ≡ so_far p limit (suc is.job.0)
 one_more p limit w is =
     ap (λ (st : State). unless_ended (status w.limit st) st (superstep w.program st)) is.job.1
-    ∙ ap (λ (n : ℕ). unless_ended (status n (so_far p limit is.job.0)) (so_far p limit is.job.0) (superstep w.program (so_far p limit is.job.0))) is.limited
-    ∙ ap (λ (q : Program). unless_ended (status limit (so_far p limit is.job.0)) (so_far p limit is.job.0) (superstep q (so_far p limit is.job.0))) is.program
+    ∙ ap
+    (λ (n : ℕ). unless_ended (status n (so_far p limit is.job.0)) (so_far p limit is.job.0) (superstep w.program (so_far p limit is.job.0)))
+    is.limited
+    ∙ ap
+    (λ (q : Program). unless_ended (status limit (so_far p limit is.job.0)) (so_far p limit is.job.0) (superstep q (so_far p limit is.job.0)))
+    is.program
 
 pub step_is_of : (p : Program) (limit : ℕ) (w v : World) → IsOf p limit w → GoesOn w v → IsOf p limit v
 step_is_of p limit w v is g = record {
   program = g.program ∙ is.program;
   limited = g.limit ∙ is.limited;
-  job = ⊎_elim (λ (e : v.job ≡ w.job). (is.job.0, e ∙ is.job.1)) (λ (e : v.job ≡ next_job w). (suc is.job.0, e ∙ one_more p limit w is)) g.job;
+  job =
+      ⊎_elim (λ (e : v.job ≡ w.job). (is.job.0, e ∙ is.job.1)) (λ (e : v.job ≡ next_job w). (suc is.job.0, e ∙ one_more p limit w is))
+      g.job;
 }
 
 pub run_is_of : (p : Program) (limit : ℕ) (w : World) (xs : List JobStep) → IsOf p limit w → IsOf p limit (reached w xs)
@@ -130,12 +139,14 @@ initial_is_of p parents limit =
     let k = starts_keep (empty_world p parents limit) (live_paths (initial p)) in
     record { program = k.program; limited = k.limit; job = (0, k.job) }
 
-not_called : (w : World) (worker place : ℕ) (tree : Tree) (a : TreeAnswer) (report : ReportValue) {A : Type 0} → (called_by w worker place tree a).0 ≡ Finished report → A
+not_called : (w : World) (worker place : ℕ) (tree : Tree) (a : TreeAnswer) (report : ReportValue) {A : Type 0}
+    → (called_by w worker place tree a).0 ≡ Finished report → A
 not_called w worker place tree answer.Begun report h = cc
 not_called w worker place tree (answer.Played a) report h = cc
 not_called w worker place tree answer.NotNow report h = cc
 
-not_advanced : (w : World) (worker place : ℕ) (tree : Tree) (a : TreeAnswer) (report : ReportValue) {A : Type 0} → (advanced_by w worker place tree a).0 ≡ Finished report → A
+not_advanced : (w : World) (worker place : ℕ) (tree : Tree) (a : TreeAnswer) (report : ReportValue) {A : Type 0}
+    → (advanced_by w worker place tree a).0 ≡ Finished report → A
 not_advanced w worker place tree answer.Begun report h = cc
 not_advanced w worker place tree (answer.Played a) report h = cc
 not_advanced w worker place tree answer.NotNow report h = cc
@@ -150,18 +161,22 @@ finishing : (w : World) (worker : ℕ) (m : Move) (report : ReportValue) → (do
 finishing w worker (Takes place) report h = cc
 finishing w worker (Delivers place) report h = cc
 finishing w worker (Calls place token c) report h =
-    not_called w worker place (after (after w.tree (Begin token c)) (Go token)) (answer_to (after w.tree (Begin token c)) (Go token)) report h
+    not_called w worker place (after (after w.tree (Begin token c)) (Go token)) (answer_to (after w.tree (Begin token c)) (Go token)) report
+    h
 finishing w worker (Advances place) report h =
-    not_advanced w worker place (after w.tree (Finish (participant_at w.participants place).token)) (answer_to w.tree (Finish (participant_at w.participants place).token)) report h
+    not_advanced w worker place (after w.tree (Finish (participant_at w.participants place).token))
+    (answer_to w.tree (Finish (participant_at w.participants place).token)) report h
 finishing w worker (Closes token) report h = by (report_in w.limit (next_job w)) h
   where
     by : (o : Option ReportValue) → (closed_as w worker token (next_job w) o).0 ≡ Finished report → o ≡ Some report
     by None e = cc
     by (Some r) e = let k : r ≡ report = cc in ap Some k
 finishing w worker (Ends token) report h =
-    not_forced w (after (after w.tree (Begin token call.Force)) (Go token)) (answer_to (after w.tree (Begin token call.Force)) (Go token)) report h
+    not_forced w (after (after w.tree (Begin token call.Force)) (Go token)) (answer_to (after w.tree (Begin token call.Force)) (Go token))
+    report h
 
-finished_from : (w : World) (x : JobStep) (report : ReportValue) → (step_of w x).0 ≡ Finished report → report_in w.limit (next_job w) ≡ Some report
+finished_from : (w : World) (x : JobStep) (report : ReportValue) → (step_of w x).0 ≡ Finished report
+    → report_in w.limit (next_job w) ≡ Some report
 finished_from w x report h = by (move_of w (worker_of x)) h
   where
     if_so : (m : Move) (b : Bool) → (if b then done_by w (worker_of x) m else (NotNow, w)).0 ≡ Finished report
@@ -174,7 +189,8 @@ finished_from w x report h = by (move_of w (worker_of x)) h
     by (Some m) e = if_so m (kind_of x == kind_for m) e
 
 -- a report in some superstep is that of the job
-reports : (p : Program) (limit n : ℕ) (report : ReportValue) → report_in limit (so_far p limit n) ≡ Some report → report_of p limit ≡ Some report
+reports : (p : Program) (limit n : ℕ) (report : ReportValue) → report_in limit (so_far p limit n) ≡ Some report
+    → report_of p limit ≡ Some report
 reports p limit n report h = by (status limit (so_far p limit n)) refl
   where
     by : (o : Option Status) → status limit (so_far p limit n) ≡ o → report_of p limit ≡ Some report
@@ -185,14 +201,17 @@ finishes : (p : Program) (limit : ℕ) (w : World) (x : JobStep) (report : Repor
     → report_of p limit ≡ Some report
 finishes p limit w x report is h =
     reports p limit (suc is.job.0) report
-    (ap (report_in limit) (sym (one_more p limit w is)) ∙ (ap (λ (n : ℕ). report_in n (next_job w)) (sym is.limited) ∙ finished_from w x report h))
+    (ap (report_in limit) (sym (one_more p limit w is))
+    ∙ (ap (λ (n : ℕ). report_in n (next_job w)) (sym is.limited) ∙ finished_from w x report h))
 
 pub finished_tells_the_job : FinishedTellsTheJob
 finished_tells_the_job p parents limit xs x report h =
-    finishes p limit (reached (initial_world p parents limit) xs) x report (run_is_of p limit (initial_world p parents limit) xs (initial_is_of p parents limit)) h
+    finishes p limit (reached (initial_world p parents limit) xs) x report
+    (run_is_of p limit (initial_world p parents limit) xs (initial_is_of p parents limit)) h
 
 -- wherever it is among the answers
-listed : (p : Program) (limit : ℕ) (w : World) (xs : List JobStep) (k : ℕ) (report : ReportValue) → IsOf p limit w → k < length (answers w xs)
+listed : (p : Program) (limit : ℕ) (w : World) (xs : List JobStep) (k : ℕ) (report : ReportValue) → IsOf p limit w
+    → k < length (answers w xs)
     → slice_index_or (answers w xs) k (Finished report) ≡ Finished report → report_of p limit ≡ Some report
 listed p limit w [] k report is h e = absurd (omega arith)
 listed p limit w (x ∷ xs) zero report is h e = finishes p limit w x report is e
@@ -202,7 +221,8 @@ listed p limit w (x ∷ xs) (suc k) report is h e =
 pub answers_report : (p : Program) (parents : List ℕ) (limit : ℕ) (xs : List JobStep) (reported : List AnswerValue) (report : ReportValue)
     → reported ≡ answers (initial_world p parents limit) xs → Contains reported (Finished report) → report_of p limit ≡ Some report
 answers_report p parents limit xs reported report e h =
-    let here : Contains (answers (initial_world p parents limit) xs) (Finished report) = subst (λ (xs : List AnswerValue). Contains xs (Finished report)) e h in
+    let here : Contains (answers (initial_world p parents limit) xs) (Finished report) =
+    subst (λ (xs : List AnswerValue). Contains xs (Finished report)) e h in
     listed p limit (initial_world p parents limit) xs here.0 report (initial_is_of p parents limit) here.1 here.2
 
 pub initial_job : (p : Program) (parents : List ℕ) (limit : ℕ) → (initial_world p parents limit).job ≡ initial p

@@ -25,7 +25,8 @@ no_participant_beyond [] place h = refl
 no_participant_beyond (g ∷ gs) zero h = absurd (omega arith)
 no_participant_beyond (g ∷ gs) (suc place) h = no_participant_beyond gs place (omega arith)
 
-stage_allowed : (w : World) (g : ParticipantValue) (place : ℕ) (due : Bool) (stage : Stage) → place < length w.participants → w.mode ≡ mode.Runs
+stage_allowed : (w : World) (g : ParticipantValue) (place : ℕ) (due : Bool) (stage : Stage) → place < length w.participants
+    → w.mode ≡ mode.Runs
     → (participant_at w.participants place).stage ≡ stage → Allowed w (by_stage g place due stage)
 stage_allowed w g place due Waits h m at = tt
 stage_allowed w g place due Taken h m at = (h, at, m)
@@ -51,8 +52,12 @@ hand_allowed w None m = by (nat_lt w.taken (length w.participants)) (is_some (st
 hand_allowed w (Some place) m = by (nat_lt place (length w.participants)) refl
   where
     by : (b : Bool) → nat_lt place (length w.participants) ≡ b → Allowed w (by_hand w (Some place))
-    by true e = stage_allowed w (participant_at w.participants place) place _ (participant_at w.participants place).stage (ltb-true place (length w.participants) e) m refl
-    by false e = subst (λ (g : ParticipantValue). Allowed w (by_participant w g place)) (sym (no_participant_beyond w.participants place (ltb-false place (length w.participants) e))) tt
+    by true e =
+        stage_allowed w (participant_at w.participants place) place _ (participant_at w.participants place).stage
+        (ltb-true place (length w.participants) e) m refl
+    by false e =
+        subst (λ (g : ParticipantValue). Allowed w (by_participant w g place))
+        (sym (no_participant_beyond w.participants place (ltb-false place (length w.participants) e))) tt
 
 pub move_allowed : (w : World) (worker : ℕ) → Allowed w (move_of w worker)
 move_allowed w worker = by (nat_lt worker 64)
@@ -84,16 +89,19 @@ asked_allowed w kind (Some n) m a e = by (kind == kind_for n) e
     by true e = let is : n ≡ m = cc in subst (IsAllowed w) is a
     by false e = cc
 
-taken_step : (w : World) (x : JobStep) (o : Option Move) (m : Move) → Some m ≡ asked (kind_of x) o → done_by w (worker_of x) m ≡ if_asked w x o
+taken_step : (w : World) (x : JobStep) (o : Option Move) (m : Move) → Some m ≡ asked (kind_of x) o
+    → done_by w (worker_of x) m ≡ if_asked w x o
 taken_step w x None m e = absurd cc
 taken_step w x (Some n) m e = by (kind_of x == kind_for n) e
   where
-    by : (b : Bool) → Some m ≡ (if b then Some n else None) → done_by w (worker_of x) m ≡ (if b then done_by w (worker_of x) n else (NotNow, w))
+    by : (b : Bool) → Some m ≡ (if b then Some n else None)
+        → done_by w (worker_of x) m ≡ (if b then done_by w (worker_of x) n else (NotNow, w))
     by true e = let is : n ≡ m = cc in ap (done_by w (worker_of x)) (sym is)
     by false e = absurd cc
 
 -- the move that a step takes is what the step does
-pub step_taken : (w : World) (x : JobStep) (kind worker : ℕ) (o : Option Move) (m : Move) → kind ≡ kind_of x → worker ≡ worker_of x → o ≡ move_of w worker
+pub step_taken : (w : World) (x : JobStep) (kind worker : ℕ) (o : Option Move) (m : Move) → kind ≡ kind_of x → worker ≡ worker_of x
+    → o ≡ move_of w worker
     → Some m ≡ asked kind o → done_by w worker m ≡ step_of w x
 step_taken w x kind worker o m k who next e =
     ap (λ (n : ℕ). done_by w n m) who

@@ -44,12 +44,14 @@ both : (a b : Bool) → (a && b) ≡ true → (a ≡ true) × (b ≡ true)
 both true b h = (refl, h)
 both false b h = cc
 
-pub all_delivered : (gs : List ParticipantValue) (place : ℕ) → all_over gs ≡ true → place < length gs → is_delivered (participant_at gs place).stage ≡ true
+pub all_delivered : (gs : List ParticipantValue) (place : ℕ) → all_over gs ≡ true → place < length gs
+    → is_delivered (participant_at gs place).stage ≡ true
 all_delivered [] place h l = absurd (omega arith)
 all_delivered (g ∷ gs) zero h l = over_delivered g.stage (both (is_over g.stage) (all_over gs) h).0
 all_delivered (g ∷ gs) (suc place) h l = all_delivered gs place (both (is_over g.stage) (all_over gs) h).1 (omega arith)
 
-later_path : (p : List ℕ) (gs : List ParticipantValue) (place : ℕ) → AllByRecursion (λ q. path_lt p q ≡ true) (map participant_path gs) → place < length gs
+later_path : (p : List ℕ) (gs : List ParticipantValue) (place : ℕ) → AllByRecursion (λ q. path_lt p q ≡ true) (map participant_path gs)
+    → place < length gs
     → path_lt p (participant_at gs place).path ≡ true
 later_path p [] place a l = absurd (omega arith)
 later_path p (g ∷ gs) zero a l = a.0
@@ -80,31 +82,45 @@ living_paths p arrays n (g ∷ gs) (t ∷ ts) e r notes =
     let s : Segment = segment_of p.plans t arrays n in
     let mine = notes 0 (omega arith) in
     let found : deed_in (segments p arrays n (t ∷ ts)) g.path ≡ segment_of p.plans t arrays n =
-    ap (λ (b : Bool). if b then segment_of p.plans t arrays n else deed_in (segments p arrays n ts) g.path) ((bytes_eq-Decides t.path g.path).1 (sym here)) in
+    ap (λ (b : Bool). if b then segment_of p.plans t arrays n else deed_in (segments p arrays n ts) g.path)
+    ((bytes_eq-Decides t.path g.path).1 (sym here)) in
     let synced : (if g.synced then g.path ∷ [] else []) ≡ synced_path (t.path, segment_of p.plans t arrays n) =
     ap (λ (b : Bool). if b then g.path ∷ [] else []) (mine.synced ∙ ap has_synced found)
     ∙ ap (λ (q : List ℕ). if has_synced (segment_of p.plans t arrays n) then q ∷ [] else []) here in
     let children : map participant_path (map child_participant g.children) ≡ spawned_paths (segment_of p.plans t arrays n) =
     children_paths g.children ∙ mine.children ∙ ap spawned_paths found in
     let later : AllByRecursion (λ q. path_lt t.path q ≡ true) (map participant_path gs) =
-    subst (λ (qs : List (List ℕ)). AllByRecursion (λ q. path_lt t.path q ≡ true) qs) (sym rest) (rising_all t.path (map (λ (u : Task). u.path) ts) r) in
+    subst (λ (qs : List (List ℕ)). AllByRecursion (λ q. path_lt t.path q ≡ true) qs) (sym rest)
+    (rising_all t.path (map (λ (u : Task). u.path) ts) r) in
     let more = living_paths p arrays n gs ts rest (rising_rest t.path (map (λ (u : Task). u.path) ts) r)
     (λ place l. passed place l (notes (suc place) (omega arith)) (not_itself t.path (participant_at gs place).path (later_path t.path gs place later l))) in
     map-append participant_path (own_participant g ++ map child_participant g.children) (living_participants gs)
-    ∙ ap (λ (qs : List (List ℕ)). qs ++ map participant_path (living_participants gs)) (map-append participant_path (own_participant g) (map child_participant g.children))
-    ∙ ap (λ (qs : List (List ℕ)). (qs ++ map participant_path (map child_participant g.children)) ++ map participant_path (living_participants gs)) (own_paths g ∙ synced)
-    ∙ ap (λ (qs : List (List ℕ)). (synced_path (t.path, segment_of p.plans t arrays n) ++ qs) ++ map participant_path (living_participants gs)) children
-    ∙ ap (λ (qs : List (List ℕ)). (synced_path (t.path, segment_of p.plans t arrays n) ++ spawned_paths (segment_of p.plans t arrays n)) ++ qs) more
+    ∙ ap (λ (qs : List (List ℕ)). qs ++ map participant_path (living_participants gs))
+    (map-append participant_path (own_participant g) (map child_participant g.children))
+    ∙ ap
+    (λ (qs : List (List ℕ)). (qs ++ map participant_path (map child_participant g.children))
+    ++ map participant_path (living_participants gs))
+    (own_paths g ∙ synced)
+    ∙ ap
+    (λ (qs : List (List ℕ)). (synced_path (t.path, segment_of p.plans t arrays n) ++ qs) ++ map participant_path (living_participants gs))
+    children
+    ∙ ap
+    (λ (qs : List (List ℕ)). (synced_path (t.path, segment_of p.plans t arrays n) ++ spawned_paths (segment_of p.plans t arrays n)) ++ qs)
+    more
   where
-    passed : (place : ℕ) → place < length gs → Notes (segments p arrays n (t ∷ ts)) (participant_at gs place) → bytes_eq t.path (participant_at gs place).path ≡ false
+    passed : (place : ℕ) → place < length gs → Notes (segments p arrays n (t ∷ ts)) (participant_at gs place)
+        → bytes_eq t.path (participant_at gs place).path ≡ false
         → Notes (segments p arrays n ts) (participant_at gs place)
     passed place l h no_match =
-        let same : deed_in (segments p arrays n (t ∷ ts)) (participant_at gs place).path ≡ deed_in (segments p arrays n ts) (participant_at gs place).path =
-        ap (λ (b : Bool). if b then segment_of p.plans t arrays n else deed_in (segments p arrays n ts) (participant_at gs place).path) no_match in
+        let same : deed_in (segments p arrays n (t ∷ ts)) (participant_at gs place).path
+        ≡ deed_in (segments p arrays n ts) (participant_at gs place).path =
+        ap (λ (b : Bool). if b then segment_of p.plans t arrays n else deed_in (segments p arrays n ts) (participant_at gs place).path)
+        no_match in
         record { synced = h.synced ∙ ap has_synced same; children = h.children ∙ ap spawned_paths same }
 
 -- so are the next participants
-pub next_paths : (gs : List ParticipantValue) (qs : List (List ℕ)) → map participant_path (living_participants gs) ≡ qs → map participant_path (next_participants gs) ≡ in_path_order (λ (q : List ℕ). q) qs
+pub next_paths : (gs : List ParticipantValue) (qs : List (List ℕ)) → map participant_path (living_participants gs) ≡ qs
+    → map participant_path (next_participants gs) ≡ in_path_order (λ (q : List ℕ). q) qs
 next_paths gs qs e =
     put_all_mapped participant_path (λ (q : List ℕ). q) participant_path (λ g. refl) (living_participants gs) []
     ∙ ap (in_path_order (λ (q : List ℕ). q)) e
@@ -113,11 +129,13 @@ next_paths gs qs e =
 abbrev Fresh : ParticipantValue → Type 0
 Fresh g = g.stage ≡ Waits
 
-put_fresh : (g : ParticipantValue) (gs : List ParticipantValue) → Fresh g → AllByRecursion Fresh gs → AllByRecursion Fresh (put_in participant_path g gs)
+put_fresh : (g : ParticipantValue) (gs : List ParticipantValue) → Fresh g → AllByRecursion Fresh gs
+    → AllByRecursion Fresh (put_in participant_path g gs)
 put_fresh g [] h a = (h, tt)
 put_fresh g (x ∷ gs) h a = by (path_lt x.path g.path) (put_fresh g gs h a.1)
   where
-    by : (b : Bool) → AllByRecursion Fresh (put_in participant_path g gs) → AllByRecursion Fresh (if b then x ∷ put_in participant_path g gs else g ∷ x ∷ gs)
+    by : (b : Bool) → AllByRecursion Fresh (put_in participant_path g gs)
+        → AllByRecursion Fresh (if b then x ∷ put_in participant_path g gs else g ∷ x ∷ gs)
     by true more = (a.0, more)
     by false more = (h, a)
 
@@ -150,8 +168,10 @@ fresh_at [] place a l = absurd (omega arith)
 fresh_at (g ∷ gs) zero a l = a.0
 fresh_at (g ∷ gs) (suc place) a l = fresh_at gs place a.1 (omega arith)
 
-pub next_wait : (gs : List ParticipantValue) (place : ℕ) → place < length (next_participants gs) → (participant_at (next_participants gs) place).stage ≡ Waits
+pub next_wait : (gs : List ParticipantValue) (place : ℕ) → place < length (next_participants gs)
+    → (participant_at (next_participants gs) place).stage ≡ Waits
 next_wait gs place l = fresh_at (next_participants gs) place (all_fresh_put (living_participants gs) (living_fresh gs)) l
 
-pub next_fresh : (gs : List ParticipantValue) (place : ℕ) → place < length (next_participants gs) → is_delivered (participant_at (next_participants gs) place).stage ≡ false
+pub next_fresh : (gs : List ParticipantValue) (place : ℕ) → place < length (next_participants gs)
+    → is_delivered (participant_at (next_participants gs) place).stage ≡ false
 next_fresh gs place l = ap is_delivered (next_wait gs place l)

@@ -51,7 +51,8 @@ is_played answer.NotNow = false
 go_refused : (s : Tree) (token : ℕ) → is_played (answer_to s (Go token)) ≡ false → after s (Go token) ≡ s
 go_refused s token h = by (may_go s token) h
   where
-    by : (b : Bool) → is_played (if b then answer.Played (turn_at s token).answer else answer.NotNow) ≡ false → (if b then played s token (turn_at s token) else s) ≡ s
+    by : (b : Bool) → is_played (if b then answer.Played (turn_at s token).answer else answer.NotNow) ≡ false
+        → (if b then played s token (turn_at s token) else s) ≡ s
     by true k = not_both true refl k
     by false k = refl
 
@@ -70,7 +71,8 @@ first_of false b h = h
 -- a call that has begun has a step to take
 goes_then : (s : Tree) (token : ℕ) (c : Call) → IsCore s → may_begin s token c ≡ true → may_go (begun s token c) token ≡ true
 goes_then s token c core h =
-    let known : nat_lt token (length s.views) ≡ true = first_of (nat_lt token (length s.views)) (is_idle (call_at s.calls token) && may_call (length s.parents) c _) h in
+    let known : nat_lt token (length s.views) ≡ true =
+    first_of (nat_lt token (length s.views)) (is_idle (call_at s.calls token) && may_call (length s.parents) c _) h in
     let there : token < length s.calls = (let a = ltb-true token (length s.views) known in let b = core.long in omega arith) in
     let now : call_at (begun s token c).calls token ≡ Begun c = get_or-set_same s.calls token (Begun c) Idle there in
     ap (λ (b : Bool). b && is_active (call_at (begun s token c).calls token)) known ∙ ap is_active now
@@ -83,7 +85,8 @@ call_refused s token c core h = by (may_begin s token c) refl h
         → after (if b then begun s token c else s) (Go token) ≡ s
     by true e k =
         let went : is_played (answer_to (begun s token c) (Go token)) ≡ true =
-        ap (λ (b : Bool). is_played (if b then answer.Played (turn_at (begun s token c) token).answer else answer.NotNow)) (goes_then s token c core e) in
+        ap (λ (b : Bool). is_played (if b then answer.Played (turn_at (begun s token c) token).answer else answer.NotNow))
+        (goes_then s token c core e) in
         not_both (is_played (answer_to (begun s token c) (Go token))) went k
     by false e k = go_refused s token k
 
@@ -115,24 +118,33 @@ move_refused w worker (Takes place) core h = cc
 move_refused w worker (Delivers place) core h = cc
 move_refused w worker (Calls place token c) core h =
     let tree : Tree = after (after w.tree (Begin token c)) (Go token) in
-    let r = called_refused w worker place (after (after w.tree (Begin token c)) (Go token)) (answer_to (after w.tree (Begin token c)) (Go token)) h in
+    let r =
+    called_refused w worker place (after (after w.tree (Begin token c)) (Go token)) (answer_to (after w.tree (Begin token c)) (Go token))
+    h in
     r.1 ∙ same_tree w (after (after w.tree (Begin token c)) (Go token)) (call_refused w.tree token c core r.0)
 move_refused w worker (Advances place) core h =
-    let r = advanced_refused w worker place (after w.tree (Finish (participant_at w.participants place).token)) (answer_to w.tree (Finish (participant_at w.participants place).token)) h in
-    r.1 ∙ same_tree w (after w.tree (Finish (participant_at w.participants place).token)) (finish_refused w.tree (participant_at w.participants place).token r.0)
+    let r =
+    advanced_refused w worker place (after w.tree (Finish (participant_at w.participants place).token))
+    (answer_to w.tree (Finish (participant_at w.participants place).token)) h in
+    r.1
+    ∙ same_tree w (after w.tree (Finish (participant_at w.participants place).token))
+    (finish_refused w.tree (participant_at w.participants place).token r.0)
 move_refused w worker (Closes token) core h = by (report_in w.limit (next_job w)) h
   where
     by : (o : Option ReportValue) → (closed_as w worker token (next_job w) o).0 ≡ NotNow → (closed_as w worker token (next_job w) o).1 ≡ w
     by None k = cc
     by (Some r) k = cc
 move_refused w worker (Ends token) core h =
-    let r = ended_refused w (after (after w.tree (Begin token call.Force)) (Go token)) (answer_to (after w.tree (Begin token call.Force)) (Go token)) h in
+    let r =
+    ended_refused w (after (after w.tree (Begin token call.Force)) (Go token))
+    (answer_to (after w.tree (Begin token call.Force)) (Go token)) h in
     r.1 ∙ same_tree w (after (after w.tree (Begin token call.Force)) (Go token)) (call_refused w.tree token call.Force core r.0)
 
 step_refused : (w : World) (x : JobStep) → IsCore w.tree → answer_of w x ≡ NotNow → world_after w x ≡ w
 step_refused w x core h = by (move_of w (worker_of x)) h
   where
-    if_so : (m : Move) (b : Bool) → (if b then done_by w (worker_of x) m else (NotNow, w)).0 ≡ NotNow → (if b then done_by w (worker_of x) m else (NotNow, w)).1 ≡ w
+    if_so : (m : Move) (b : Bool) → (if b then done_by w (worker_of x) m else (NotNow, w)).0 ≡ NotNow
+        → (if b then done_by w (worker_of x) m else (NotNow, w)).1 ≡ w
     if_so m true k = move_refused w (worker_of x) m core k
     if_so m false k = refl
 
@@ -153,7 +165,8 @@ joined_core s home core =
 
 starts_core : (w : World) (paths : List (List ℕ)) → IsCore w.tree → IsCore (with_starts w paths).tree
 starts_core w [] core = core
-starts_core w (path ∷ paths) core = starts_core (with_start w path) paths (joined_core w.tree (leaf_at w.leaves (length w.participants)) core)
+starts_core w (path ∷ paths) core =
+    starts_core (with_start w path) paths (joined_core w.tree (leaf_at w.leaves (length w.participants)) core)
 
 child_core : (w : World) (place : ℕ) (path free : List ℕ) → IsCore w.tree → IsCore (child_from w place path free).tree
 child_core w place path [] core = token_core w.tree core
@@ -168,7 +181,8 @@ called_core w worker place tree answer.Begun core = core
 called_core w worker place tree (answer.Played a) core = core
 called_core w worker place tree answer.NotNow core = core
 
-advanced_core : (w : World) (worker place : ℕ) (tree : Tree) (a : TreeAnswer) → IsCore tree → IsCore (advanced_by w worker place tree a).1.tree
+advanced_core : (w : World) (worker place : ℕ) (tree : Tree) (a : TreeAnswer) → IsCore tree
+    → IsCore (advanced_by w worker place tree a).1.tree
 advanced_core w worker place tree answer.Begun core = core
 advanced_core w worker place tree (answer.Played a) core = core
 advanced_core w worker place tree answer.NotNow core = core
@@ -181,12 +195,14 @@ ended_core w tree answer.NotNow core = core
 move_core : (w : World) (worker : ℕ) (m : Move) → IsAllowed w m → IsCore w.tree → IsCore (done_by w worker m).1.tree
 move_core w worker (Takes place) is core = core
 move_core w worker (Delivers place) is core =
-    children_core (noted w place (has_synced (deed_of w (participant_at w.participants place).path))) place (spawned_paths (deed_of w (participant_at w.participants place).path)) core
+    children_core (noted w place (has_synced (deed_of w (participant_at w.participants place).path))) place
+    (spawned_paths (deed_of w (participant_at w.participants place).path)) core
 move_core w worker (Calls place token c) is core =
     called_core w worker place (after (after w.tree (Begin token c)) (Go token)) (answer_to (after w.tree (Begin token c)) (Go token))
     (core_after (after w.tree (Begin token c)) (Go token) (core_after w.tree (Begin token c) core is.0.1) tt)
 move_core w worker (Advances place) is core =
-    advanced_core w worker place (after w.tree (Finish (participant_at w.participants place).token)) (answer_to w.tree (Finish (participant_at w.participants place).token))
+    advanced_core w worker place (after w.tree (Finish (participant_at w.participants place).token))
+    (answer_to w.tree (Finish (participant_at w.participants place).token))
     (core_after w.tree (Finish (participant_at w.participants place).token) core tt)
 move_core w worker (Closes token) is core = by (report_in w.limit (next_job w))
   where

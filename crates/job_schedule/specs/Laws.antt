@@ -37,7 +37,8 @@ pub record IsClosing (w : World) (x : JobStep) : Type 0 where
 -- The same holds when the job is finished. Only a job that is over as it begins may be closed by any worker; that takes no superstep.
 pub record IsFinishing (w : World) (x : JobStep) : Type 0 where
   pub by : x ≡ Close (worker_of x)
-  pub from : (is_some (status w.limit w.job) ≡ true) ⊎ (((token : ℕ) × (w.mode ≡ mode.Advanced (worker_of x) token)) × (all_over w.participants ≡ true))
+  pub from : (is_some (status w.limit w.job) ≡ true)
+      ⊎ (((token : ℕ) × (w.mode ≡ mode.Advanced (worker_of x) token)) × (all_over w.participants ≡ true))
   pub step : (world_after w x).job ≡ next_job w
 
 abbrev pub RoundsAreClosedOnce : Type 0
@@ -88,7 +89,8 @@ pub record IsNoted (w : World) (g : ParticipantValue) : Type 0 where
 
 pub record IsStanding (w : World) : Type 0 where
   pub paths : map participant_path w.participants ≡ live_paths w.job
-  pub noted : (place : ℕ) → place < length w.participants → is_delivered (participant_at w.participants place).stage ≡ true → IsNoted w (participant_at w.participants place)
+  pub noted : (place : ℕ) → place < length w.participants → is_delivered (participant_at w.participants place).stage ≡ true
+      → IsNoted w (participant_at w.participants place)
 
 abbrev pub ParticipantsAreTheLiveTasks : Type 0
 ParticipantsAreTheLiveTasks =

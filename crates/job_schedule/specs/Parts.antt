@@ -81,11 +81,13 @@ pub record IsWanted (r : RoundValue) (path : List ℕ) : Type 0 where
 abbrev pub IsAllowed : World → Move → Type 0
 IsAllowed w (Takes place) = (place < length w.participants) × (place ≡ w.taken)
 IsAllowed w (Delivers place) = (place < length w.participants) × ((participant_at w.participants place).stage ≡ Taken) × (w.mode ≡ Runs)
-IsAllowed w (Calls place token c) = ((place < length w.participants) × IsCall c) × (is_delivered (participant_at w.participants place).stage ≡ true)
+IsAllowed w (Calls place token c) =
+    ((place < length w.participants) × IsCall c) × (is_delivered (participant_at w.participants place).stage ≡ true)
 IsAllowed w (Advances place) = (place < length w.participants) × (is_delivered (participant_at w.participants place).stage ≡ true)
 IsAllowed w (Closes token) = status w.limit w.job ≡ None → all_over w.participants ≡ true
 IsAllowed w (Ends token) = Unit {0}
 
 -- steps of workers lead here from the beginning of a job, within some limit and on some tree
 abbrev pub IsReached : World → Type 0
-IsReached w = (program : Program) × (limit : ℕ) × (parents : List ℕ) × (xs : List JobStep) × (w ≡ reached (initial_world program parents limit) xs)
+IsReached w =
+    (program : Program) × (limit : ℕ) × (parents : List ℕ) × (xs : List JobStep) × (w ≡ reached (initial_world program parents limit) xs)

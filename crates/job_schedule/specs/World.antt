@@ -133,7 +133,9 @@ with_hand w worker hand = record w { hands = slice_set w.hands worker hand }
 
 -- A worker takes a task.
 abbrev pub took : World → ℕ → ℕ → World
-took w worker place = with_hand (record (with_participant w place (at_stage (participant_at w.participants place) Taken)) { taken = suc place }) worker (Some place)
+took w worker place =
+    with_hand (record (with_participant w place (at_stage (participant_at w.participants place) Taken)) { taken = suc place }) worker
+    (Some place)
 
 -- What the live task of this path does in this superstep.
 abbrev pub no_deed : Segment
@@ -148,11 +150,15 @@ deed_of w path = deed_in (segments w.program w.job.arrays w.job.step w.job.live)
 
 -- A spawned task has a token: a free one, else a new one.
 abbrev pub with_child : ParticipantValue → List ℕ → List ℕ → ℕ → ParticipantValue
-with_child g leaves path token = record g { children = g.children ++ record { path = path; token = token; home = preferred leaves g.home path } ∷ [] }
+with_child g leaves path token =
+    record g { children = g.children ++ record { path = path; token = token; home = preferred leaves g.home path } ∷ [] }
 
 abbrev pub child_from : World → ℕ → List ℕ → List ℕ → World
 child_from w place path [] =
-    record (with_participant w place (with_child (participant_at w.participants place) w.leaves path (length w.tree.views))) { tree = with_token w.tree }
+    record (with_participant w place (with_child (participant_at w.participants place) w.leaves path (length w.tree.views))) {
+      tree =
+          with_token w.tree;
+    }
 child_from w place path (token ∷ free) =
     record (with_participant w place (with_child (participant_at w.participants place) w.leaves path token)) { free = free }
 
@@ -162,7 +168,8 @@ with_children w place (path ∷ paths) = with_children (child_from w place path 
 
 -- A worker hands in the segment of its task: whether it synced and what it spawned is known from then on.
 abbrev pub noted : World → ℕ → Bool → World
-noted w place synced = with_participant w place record (at_stage (participant_at w.participants place) Polling) { synced = synced; children = [] }
+noted w place synced =
+    with_participant w place record (at_stage (participant_at w.participants place) Polling) { synced = synced; children = [] }
 
 abbrev pub handed_in : World → ℕ → Segment → World
 handed_in w place s = with_children (noted w place (has_synced s)) place (spawned_paths s)
@@ -176,7 +183,8 @@ stepped w worker place tree g = record (with_participant w place g) { tree = tre
 
 abbrev pub called_by : World → ℕ → ℕ → Tree → TreeAnswer → AnswerValue × World
 called_by w worker place tree answer.Begun = (NotNow, record w { tree = tree })
-called_by w worker place tree (answer.Played a) = (Stepped a, stepped w worker place tree (answered (participant_at w.participants place) a))
+called_by w worker place tree (answer.Played a) =
+    (Stepped a, stepped w worker place tree (answered (participant_at w.participants place) a))
 called_by w worker place tree answer.NotNow = (NotNow, record w { tree = tree })
 
 abbrev pub called : World → ℕ → ℕ → ℕ → Tree → AnswerValue × World
@@ -184,10 +192,11 @@ called w worker place token tree = called_by w worker place (after tree (Go toke
 
 -- The root advances: that task is over, and its worker is to close the round.
 abbrev pub has_advanced : World → ℕ → ℕ → Tree → World
-has_advanced w worker place tree = record (with_hand (with_participant w place (at_stage (participant_at w.participants place) Over)) worker None) {
-  tree = tree;
-  mode = mode.Advanced worker (participant_at w.participants place).token;
-}
+has_advanced w worker place tree =
+    record (with_hand (with_participant w place (at_stage (participant_at w.participants place) Over)) worker None) {
+      tree = tree;
+      mode = mode.Advanced worker (participant_at w.participants place).token;
+    }
 
 abbrev pub advanced_by : World → ℕ → ℕ → Tree → TreeAnswer → AnswerValue × World
 advanced_by w worker place tree answer.Begun = (NotNow, record w { tree = tree })

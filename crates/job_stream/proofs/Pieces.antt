@@ -31,7 +31,9 @@ use Rattle.job_stream.specs.Running.{IsRunOf, IsGivenAfter, job_reading}
 -- ---- each state of a job's run is the job's
 
 module _ (p : Program) (limit : ℕ) (history : List (List (Entry job.Task))) (le : length history ≤ limit)
-    (entered : (n : ℕ) → n < length history → IsEntered job_frame (JobMay p.plans) (gm.so_far (says_by job_frame 4096 history) p.arrays (starts p) limit n) (get_or history n [])) where
+    (entered : (n : ℕ) → n < length history
+    → IsEntered job_frame (JobMay p.plans) (gm.so_far (says_by job_frame 4096 history) p.arrays (starts p) limit n)
+    (get_or history n [])) where
   abbrev n : ℕ
   n = length history
 
@@ -44,9 +46,13 @@ module _ (p : Program) (limit : ℕ) (history : List (List (Entry job.Task))) (l
   same_within : (s : Status) → gm.status n (by_history n n) ≡ Some s → (m : ℕ) → m ≤ n → by_history limit m ≡ so_far p limit m
   same_within s e m lm =
       let st = by_history n n in
-      let run : HasRun job_frame (JobMay p.plans) 4096 p.arrays (starts p) n (record { prints = st.prints; records = st.records; arrays = st.arrays; status = s }) (living_after s st.live) = record {
+      let run : HasRun job_frame (JobMay p.plans) 4096 p.arrays (starts p) n
+      (record { prints = st.prints; records = st.records; arrays = st.arrays; status = s }) (living_after s st.live) =
+      record {
         history = history;
-        entered = λ k lt. subst (λ (x : State). IsEntered job_frame (JobMay p.plans) x (get_or history k [])) (sym (shorter k (omega (arith, lt)))) (entered k lt);
+        entered =
+            λ k lt. subst (λ (x : State). IsEntered job_frame (JobMay p.plans) x (get_or history k []))
+            (sym (shorter k (omega (arith, lt)))) (entered k lt);
         ended = e;
         report = ap (gm.report_with st) e;
         at_end = refl;
@@ -69,7 +75,8 @@ abbrev Reached : JobValue → ℕ → List (List ℕ × List ℤ) → List job.T
 Reached j most arrays tasks limit given st = IsReached job_frame (JobMay (plans j.bodies)) most arrays tasks limit given st
 
 -- a state that was reached, and what was printed and recorded since the last was given away
-piece_at : (j : JobValue) (limit given : ℕ) (st : State) (l : LinesValue) → Reached j 4096 j.arrays (starts (program_of j)) limit given st → st.fault ≡ None
+piece_at : (j : JobValue) (limit given : ℕ) (st : State) (l : LinesValue) → Reached j 4096 j.arrays (starts (program_of j)) limit given st
+    → st.fault ≡ None
     → l.first ≡ given → l.next ≡ st.step → l.prints ≡ st.prints → l.records ≡ st.records → l.next ≤ limit → IsPiece (program_of j) limit l
 piece_at j limit given st l h calm first next prints records le =
     let p = program_of j in
@@ -90,24 +97,29 @@ piece_at j limit given st l h calm first next prints records le =
     }
 
 -- the start of the first superstep of a log that went on
-first_same : (a b : SuperstepStartValue JobProgram TaskValue) (since more : List (SuperstepStartValue JobProgram TaskValue)) (log earlier : List (SuperstepStartValue JobProgram TaskValue))
+first_same : (a b : SuperstepStartValue JobProgram TaskValue) (since more : List (SuperstepStartValue JobProgram TaskValue))
+    (log earlier : List (SuperstepStartValue JobProgram TaskValue))
     → WasBefore earlier log → earlier ≡ since ++ a ∷ [] → log ≡ more ++ b ∷ [] → b ≡ a
 first_same a b since more log earlier w e f =
     last_same job_reading more (w.since ++ since) b a
-    (sym f ∙ w.is ∙ ap (λ (l : List (SuperstepStartValue JobProgram TaskValue)). w.since ++ l) e ∙ sym (append_assoc w.since since (a ∷ [])))
+    (sym f ∙ w.is ∙ ap (λ (l : List (SuperstepStartValue JobProgram TaskValue)). w.since ++ l) e
+    ∙ sym (append_assoc w.since since (a ∷ [])))
 
-pub given_piece : (j : JobValue) (limit : ℕ) (log : List (SuperstepStartValue JobProgram TaskValue)) (l : LinesValue) → IsRunOf j limit log → IsGivenAfter job_reading log l → l.next ≤ limit
+pub given_piece : (j : JobValue) (limit : ℕ) (log : List (SuperstepStartValue JobProgram TaskValue)) (l : LinesValue) → IsRunOf j limit log
+    → IsGivenAfter job_reading log l → l.next ≤ limit
     → IsPiece (program_of j) limit l
 given_piece j limit log l r h le =
     let v = h.run in
     let c = h.given.run in
     let b = c.after.begun in
     let same : b.first ≡ r.first = first_same r.first b.first r.since b.since v.log log h.since r.begun b.is in
-    let is_job : v.program.job.now ≡ j = ap (λ q. q.job.now) b.program ∙ ap (λ (o : SuperstepStartValue JobProgram TaskValue). o.program.job.now) same ∙ r.job in
+    let is_job : v.program.job.now ≡ j =
+    ap (λ q. q.job.now) b.program ∙ ap (λ (o : SuperstepStartValue JobProgram TaskValue). o.program.job.now) same ∙ r.job in
     let most : v.most ≡ 4096 = b.most ∙ ap (λ (o : SuperstepStartValue JobProgram TaskValue). o.most) same ∙ r.most in
     let to : v.limit ≡ limit = b.limit ∙ ap (λ (o : SuperstepStartValue JobProgram TaskValue). o.limit) same ∙ r.limit_is in
     let arrays : b.first.arrays ≡ j.arrays = ap (λ (o : SuperstepStartValue JobProgram TaskValue). o.arrays) same ∙ r.arrays in
-    let tasks : map (task_of (plans j.bodies)) (live_of b.first) ≡ starts (program_of j) = ap (λ (o : SuperstepStartValue JobProgram TaskValue). map (task_of (plans j.bodies)) (live_of o)) same ∙ r.tasks in
+    let tasks : map (task_of (plans j.bodies)) (live_of b.first) ≡ starts (program_of j) =
+    ap (λ (o : SuperstepStartValue JobProgram TaskValue). map (task_of (plans j.bodies)) (live_of o)) same ∙ r.tasks in
     let st = state_with v c.live in
     let reached : Reached j 4096 j.arrays (starts (program_of j)) limit v.given st =
     subst (λ (ts : List job.Task). Reached j 4096 j.arrays ts limit v.given st) tasks
@@ -120,13 +132,17 @@ given_piece j limit log l r h le =
 -- ---- what a run leaves
 
 abbrev RunOn : JobValue → ℕ → List (List ℕ × List ℤ) → List job.Task → ℕ → ℕ → ReportValue → List job.Task → Type 0
-RunOn j most arrays tasks limit given outcome living = HasRunOn job_frame (JobMay (plans j.bodies)) most arrays tasks limit given outcome living
+RunOn j most arrays tasks limit given outcome living =
+    HasRunOn job_frame (JobMay (plans j.bodies)) most arrays tasks limit given outcome living
 
-rest_of_run : (j : JobValue) (limit given : ℕ) (outcome : ReportValue) (living : List job.Task) → RunOn j 4096 j.arrays (starts (program_of j)) limit given outcome living
+rest_of_run : (j : JobValue) (limit given : ℕ) (outcome : ReportValue) (living : List job.Task)
+    → RunOn j 4096 j.arrays (starts (program_of j)) limit given outcome living
     → IsRest (program_of j) limit given outcome
 rest_of_run j limit given outcome living h =
     let p = program_of j in
-    let early = so_far_same job_frame (JobMay p.plans) 4096 (job.segment_of p.plans) (λ t arrays step g q. q) p.arrays (starts p) limit (starts_begin p) h.whole living h.run given h.within in
+    let early =
+    so_far_same job_frame (JobMay p.plans) 4096 (job.segment_of p.plans) (λ t arrays step g q. q) p.arrays (starts p) limit (starts_begin p)
+    h.whole living h.run given h.within in
     record {
       whole = h.whole;
       report = job_report p limit h.whole living h.run;
@@ -136,8 +152,10 @@ rest_of_run j limit given outcome living h =
       status = ap (λ (x : ReportValue). x.status) h.rest;
     }
 
-pub left_rest : (j : JobValue) (limit given : ℕ) (earlier log : List (SuperstepStartValue JobProgram TaskValue)) (outcome : ReportValue) (living : List TaskValue)
-    → IsRunOf j limit earlier → WasBefore earlier log → HasLeft job_reading log given outcome living → IsRest (program_of j) limit given outcome
+pub left_rest : (j : JobValue) (limit given : ℕ) (earlier log : List (SuperstepStartValue JobProgram TaskValue)) (outcome : ReportValue)
+    (living : List TaskValue)
+    → IsRunOf j limit earlier → WasBefore earlier log → HasLeft job_reading log given outcome living
+    → IsRest (program_of j) limit given outcome
 left_rest j limit given earlier log outcome living r w h =
     let same : h.first ≡ r.first = first_same r.first h.first r.since h.since log earlier w r.begun h.begun in
     let o = h.first in
@@ -145,7 +163,8 @@ left_rest j limit given earlier log outcome living r w h =
     let most : o.most ≡ 4096 = ap (λ (x : SuperstepStartValue JobProgram TaskValue). x.most) same ∙ r.most in
     let to : o.limit ≡ limit = ap (λ (x : SuperstepStartValue JobProgram TaskValue). x.limit) same ∙ r.limit_is in
     let arrays : o.arrays ≡ j.arrays = ap (λ (x : SuperstepStartValue JobProgram TaskValue). x.arrays) same ∙ r.arrays in
-    let tasks : map (task_of (plans j.bodies)) (live_of o) ≡ starts (program_of j) = ap (λ (x : SuperstepStartValue JobProgram TaskValue). map (task_of (plans j.bodies)) (live_of x)) same ∙ r.tasks in
+    let tasks : map (task_of (plans j.bodies)) (live_of o) ≡ starts (program_of j) =
+    ap (λ (x : SuperstepStartValue JobProgram TaskValue). map (task_of (plans j.bodies)) (live_of x)) same ∙ r.tasks in
     let live = map (task_of (plans j.bodies)) living in
     rest_of_run j limit given outcome live
     (subst (λ (ts : List job.Task). RunOn j 4096 j.arrays ts limit given outcome live) tasks

@@ -29,7 +29,8 @@ pub record WentOn (r s : JobRunValue) : Type 0 where
 abbrev pub emptied : JobRunValue → JobRunValue
 emptied s = record s { run = record s.run { prints = []; records = [] } }
 
-pub written_on : (j : JobValue) (limit n : ℕ) (r s : JobRunValue) → IsWritten j limit n r → WentOn r s → IsWritten j limit (n + 1) (emptied s)
+pub written_on : (j : JobValue) (limit n : ℕ) (r s : JobRunValue) → IsWritten j limit n r → WentOn r s
+    → IsWritten j limit (n + 1) (emptied s)
 written_on j limit n r s w o =
     let p = program_of s.job in
     let after = o.next n w.prints w.records w.after in
@@ -55,18 +56,25 @@ module _ (j : JobValue) (limit n : ℕ) (r : JobRunValue) (w : IsWritten j limit
 
   records_are : w.records ≡ (so_far (program_of j) limit n).records
   records_are =
-      sym (append-nil w.records) ∙ ap (λ (xs : List PhaseRecord). w.records ++ xs) (sym w.none.1) ∙ ap (λ (x : State). x.records) w.after.state
+      sym (append-nil w.records) ∙ ap (λ (xs : List PhaseRecord). w.records ++ xs) (sym w.none.1)
+      ∙ ap (λ (x : State). x.records) w.after.state
       ∙ ap (λ (x : State). x.records) (state_is n)
 
   -- the lines of the next superstep
-  pub piece_of : (s : JobRunValue) → WentOn r s → IsPiece (program_of j) limit (record { first = n; next = n + 1; prints = s.run.prints; records = s.run.records })
+  pub piece_of : (s : JobRunValue) → WentOn r s
+      → IsPiece (program_of j) limit (record { first = n; next = n + 1; prints = s.run.prints; records = s.run.records })
   piece_of s o =
       let after = o.next n w.prints w.records w.after in
-      let now : state_after s (n + 1) ≡ so_far (program_of j) limit (n + 1) = λ i. so_far (program_of ((o.job ∙ w.job) i)) ((o.limit ∙ w.limit_is) i) (n + 1) in
+      let now : state_after s (n + 1) ≡ so_far (program_of j) limit (n + 1) =
+      λ i. so_far (program_of ((o.job ∙ w.job) i)) ((o.limit ∙ w.limit_is) i) (n + 1) in
       record {
         order = omega arith;
-        prints = ap (λ (x : State). x.prints) (sym now) ∙ sym (ap (λ (x : State). x.prints) after.state) ∙ ap (λ (xs : List PrintValue). xs ++ s.run.prints) prints_are;
-        records = ap (λ (x : State). x.records) (sym now) ∙ sym (ap (λ (x : State). x.records) after.state) ∙ ap (λ (xs : List PhaseRecord). xs ++ s.run.records) records_are;
+        prints =
+            ap (λ (x : State). x.prints) (sym now) ∙ sym (ap (λ (x : State). x.prints) after.state)
+            ∙ ap (λ (xs : List PrintValue). xs ++ s.run.prints) prints_are;
+        records =
+            ap (λ (x : State). x.records) (sym now) ∙ sym (ap (λ (x : State). x.records) after.state)
+            ∙ ap (λ (xs : List PhaseRecord). xs ++ s.run.records) records_are;
       }
 
   -- how the run has ended
@@ -81,7 +89,8 @@ module _ (j : JobValue) (limit n : ℕ) (r : JobRunValue) (w : IsWritten j limit
     whole = record { prints = w.prints ++ r.run.prints; records = w.records ++ r.run.records; arrays = r.run.arrays; status = end };
     report =
         sym (λ i. report_of (program_of (w.job i)) (w.limit_is i))
-        ∙ so_far_reported (job_says (plans r.job.bodies)) r.job.arrays (starts (program_of r.job)) (task_of (plans r.job.bodies)) end w.after e;
+        ∙ so_far_reported (job_says (plans r.job.bodies)) r.job.arrays (starts (program_of r.job)) (task_of (plans r.job.bodies)) end
+        w.after e;
     prints = ap (λ (xs : List PrintValue). xs ++ r.run.prints) prints_are;
     records = ap (λ (xs : List PhaseRecord). xs ++ r.run.records) records_are;
     arrays = refl;
@@ -89,7 +98,8 @@ module _ (j : JobValue) (limit n : ℕ) (r : JobRunValue) (w : IsWritten j limit
   }
 
   -- the same of the report that the run leaves
-  pub rest_of_report : is_some (status limit (so_far (program_of j) limit n)) ≡ true → (report : ReportValue) → IfSome (ended r.run) (λ end. report ≡ left_by r.run end)
+  pub rest_of_report : is_some (status limit (so_far (program_of j) limit n)) ≡ true → (report : ReportValue)
+      → IfSome (ended r.run) (λ end. report ≡ left_by r.run end)
       → IsRest (program_of j) limit n report
   rest_of_report some report reported = by (ended r.run) refl
     where

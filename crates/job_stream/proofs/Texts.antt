@@ -37,7 +37,8 @@ front_append : (n : ℕ) (ps qs : List PrintValue) → front_of n qs ≡ [] → 
 front_append n [] qs e = e
 front_append n (p ∷ ps) qs e = by (p.step == n) (front_append n ps qs e)
   where
-    by : (b : Bool) → front_of n (ps ++ qs) ≡ front_of n ps → (if b then p ∷ front_of n (ps ++ qs) else []) ≡ (if b then p ∷ front_of n ps else [])
+    by : (b : Bool) → front_of n (ps ++ qs) ≡ front_of n ps
+        → (if b then p ∷ front_of n (ps ++ qs) else []) ≡ (if b then p ∷ front_of n ps else [])
     by true more = ap (λ xs. p ∷ xs) more
     by false more = refl
 
@@ -45,7 +46,8 @@ rest_append : (n : ℕ) (ps qs : List PrintValue) → rest_of n qs ≡ qs → re
 rest_append n [] qs e = e
 rest_append n (p ∷ ps) qs e = by (p.step == n) (rest_append n ps qs e)
   where
-    by : (b : Bool) → rest_of n (ps ++ qs) ≡ rest_of n ps ++ qs → (if b then rest_of n (ps ++ qs) else p ∷ (ps ++ qs)) ≡ (if b then rest_of n ps else p ∷ ps) ++ qs
+    by : (b : Bool) → rest_of n (ps ++ qs) ≡ rest_of n ps ++ qs
+        → (if b then rest_of n (ps ++ qs) else p ∷ (ps ++ qs)) ≡ (if b then rest_of n ps else p ∷ ps) ++ qs
     by true more = more
     by false more = refl
 
@@ -53,11 +55,13 @@ rest_within : (n last : ℕ) (ps : List PrintValue) → AreWithin n last ps → 
 rest_within n last [] h = tt
 rest_within n last (p ∷ ps) h = by (p.step == n) refl (λ e. rest_within n last ps (subst (λ k. AreWithin k last ps) e h.2))
   where
-    by : (b : Bool) → (p.step == n) ≡ b → (p.step ≡ n → AreWithin (suc n) last (rest_of n ps)) → AreWithin (suc n) last (if b then rest_of n ps else p ∷ ps)
+    by : (b : Bool) → (p.step == n) ≡ b → (p.step ≡ n → AreWithin (suc n) last (rest_of n ps))
+        → AreWithin (suc n) last (if b then rest_of n ps else p ∷ ps)
     by true e more = let s : p.step ≡ n = grind arith in more s
     by false e more = let le = h.0 in let lt : suc n ≤ p.step = grind arith in (lt, h.1, h.2)
 
-pub steps_later : (n last : ℕ) (ps qs : List PrintValue) (rs ss : List PhaseRecord) → AreFrom n rs → AreWithin n (n + length rs) ps → AreWithin (n + length rs) last qs
+pub steps_later : (n last : ℕ) (ps qs : List PrintValue) (rs ss : List PhaseRecord) → AreFrom n rs → AreWithin n (n + length rs) ps
+    → AreWithin (n + length rs) last qs
     → steps_text (ps ++ qs) (rs ++ ss) ≡ steps_text ps rs ++ steps_text qs ss
 steps_later n last [] qs [] ss f w l = refl
 steps_later n last (p ∷ ps) qs [] ss f w l = let a : n ≤ p.step = w.0 in let b : p.step < n + 0 = w.1 in absurd (omega (arith, a, b))
@@ -66,9 +70,13 @@ steps_later n last ps qs (r ∷ rs) ss f w l =
     let lt : n < n + suc (length rs) = omega arith in
     let none = front_none n (n + suc (length rs)) last qs lt l in
     let rest = rest_none n (n + suc (length rs)) last qs lt l in
-    let within : AreWithin (suc n) (suc n + length rs) (rest_of n ps) = subst (λ k. AreWithin (suc n) k (rest_of n ps)) up (rest_within n (n + suc (length rs)) ps w) in
+    let within : AreWithin (suc n) (suc n + length rs) (rest_of n ps) =
+    subst (λ k. AreWithin (suc n) k (rest_of n ps)) up (rest_within n (n + suc (length rs)) ps w) in
     let more = steps_later (suc n) last (rest_of n ps) qs rs ss f.1 within (subst (λ k. AreWithin k last qs) up l) in
-    subst (λ k. flat_map print_line (front_of k (ps ++ qs)) ++ record_line r ++ steps_text (rest_of k (ps ++ qs)) (rs ++ ss) ≡ (flat_map print_line (front_of k ps) ++ record_line r ++ steps_text (rest_of k ps) rs) ++ steps_text qs ss) (sym f.0)
+    subst
+    (λ k. flat_map print_line (front_of k (ps ++ qs)) ++ record_line r ++ steps_text (rest_of k (ps ++ qs)) (rs ++ ss)
+    ≡ (flat_map print_line (front_of k ps) ++ record_line r ++ steps_text (rest_of k ps) rs) ++ steps_text qs ss)
+    (sym f.0)
     ((λ i. flat_map print_line (front_append n ps qs none i) ++ record_line r ++ steps_text (rest_append n ps qs rest i) (rs ++ ss))
     ∙ ap (λ (t : List ℕ). flat_map print_line (front_of n ps) ++ record_line r ++ t) more
     ∙ sym (append_assoc (flat_map print_line (front_of n ps) ++ record_line r) (steps_text (rest_of n ps) rs) (steps_text qs ss)))
@@ -89,7 +97,8 @@ all_mapped step path (v ∷ vs) = (refl, all_mapped step path vs)
 
 all_printed : (step : ℕ) (ss : List (List ℕ × Segment)) → AllAt step (prints_of step ss)
 all_printed step [] = tt
-all_printed step (s ∷ ss) = all_append step (map (print_of step s.0) s.1.prints) (prints_of step ss) (all_mapped step s.0 s.1.prints) (all_printed step ss)
+all_printed step (s ∷ ss) =
+    all_append step (map (print_of step s.0) s.1.prints) (prints_of step ss) (all_mapped step s.0 s.1.prints) (all_printed step ss)
 
 within_at : (first step : ℕ) (ps : List PrintValue) → first ≤ step → AllAt step ps → AreWithin first (step + 1) ps
 within_at first step [] le a = tt
@@ -100,7 +109,8 @@ within_at first step (p ∷ ps) le a =
     let same : p.step ≤ step = omega arith in
     (low, high, within_at p.step step ps same a.1)
 
-within_more : (first step : ℕ) (ps qs : List PrintValue) → first ≤ step → AreWithin first step ps → AllAt step qs → AreWithin first (step + 1) (ps ++ qs)
+within_more : (first step : ℕ) (ps qs : List PrintValue) → first ≤ step → AreWithin first step ps → AllAt step qs
+    → AreWithin first (step + 1) (ps ++ qs)
 within_more first step [] qs le w a = within_at first step qs le a
 within_more first step (p ∷ ps) qs le w a =
     let below : p.step < step = w.1 in
@@ -127,29 +137,36 @@ record Later (a st : State) : Type 0 where
   pub up : a.step ≤ st.step
   pub within : AreWithin a.step st.step prints
 
-ordered_more : (p : Program) (st : State) → IsOrdered st → (o : Option (ℕ × List ℕ)) → IsOrdered (closed st (segments p st.arrays st.step st.live) o)
+ordered_more : (p : Program) (st : State) → IsOrdered st → (o : Option (ℕ × List ℕ))
+    → IsOrdered (closed st (segments p st.arrays st.step st.live) o)
 ordered_more p st h (Some f) = record { records = h.records; taken = h.taken; prints = h.prints }
 ordered_more p st h None =
     let ss = segments p st.arrays st.step st.live in
     let taken : length st.records ≡ st.step = h.taken in
     let phase : (record_of st.step ss).phase ≡ 0 + length st.records = omega arith in
-    let count : length (st.records ++ record_of st.step ss ∷ []) ≡ length st.records + 1 = length-append st.records (record_of st.step ss ∷ []) in
+    let count : length (st.records ++ record_of st.step ss ∷ []) ≡ length st.records + 1 =
+    length-append st.records (record_of st.step ss ∷ []) in
     record {
       records = from_more 0 st.records (record_of st.step ss) h.records phase;
       taken = count ∙ ap (λ (k : ℕ). k + 1) taken;
       prints = within_more 0 st.step st.prints (prints_of st.step ss) (omega arith) h.prints (all_printed st.step ss);
     }
 
-later_more : (p : Program) (a st : State) → Later a st → (o : Option (ℕ × List ℕ)) → Later a (closed st (segments p st.arrays st.step st.live) o)
-later_more p a st h (Some f) = record { prints = h.prints; records = h.records; is_prints = h.is_prints; is_records = h.is_records; up = h.up; within = h.within }
+later_more : (p : Program) (a st : State) → Later a st → (o : Option (ℕ × List ℕ))
+    → Later a (closed st (segments p st.arrays st.step st.live) o)
+later_more p a st h (Some f) =
+    record { prints = h.prints; records = h.records; is_prints = h.is_prints; is_records = h.is_records; up = h.up; within = h.within }
 later_more p a st h None =
     let ss = segments p st.arrays st.step st.live in
     let up = h.up in
     record {
       prints = h.prints ++ prints_of st.step ss;
       records = h.records ++ record_of st.step ss ∷ [];
-      is_prints = ap (λ (ps : List PrintValue). ps ++ prints_of st.step ss) h.is_prints ∙ append_assoc a.prints h.prints (prints_of st.step ss);
-      is_records = ap (λ (rs : List PhaseRecord). rs ++ record_of st.step ss ∷ []) h.is_records ∙ append_assoc a.records h.records (record_of st.step ss ∷ []);
+      is_prints =
+          ap (λ (ps : List PrintValue). ps ++ prints_of st.step ss) h.is_prints ∙ append_assoc a.prints h.prints (prints_of st.step ss);
+      is_records =
+          ap (λ (rs : List PhaseRecord). rs ++ record_of st.step ss ∷ []) h.is_records
+          ∙ append_assoc a.records h.records (record_of st.step ss ∷ []);
       up = omega (arith, up);
       within = within_more a.step st.step h.prints (prints_of st.step ss) up h.within (all_printed st.step ss);
     }
@@ -170,7 +187,14 @@ later_from p limit a zero =
     let e : a ≡ zero + a = omega arith in
     let st = so_far p limit a in
     subst (λ (n : ℕ). Later st (so_far p limit n)) e
-    (record { prints = []; records = []; is_prints = sym (append-nil st.prints); is_records = sym (append-nil st.records); up = omega arith; within = tt })
+    (record {
+      prints = [];
+      records = [];
+      is_prints = sym (append-nil st.prints);
+      is_records = sym (append-nil st.records);
+      up = omega arith;
+      within = tt;
+    })
 later_from p limit a (suc k) =
     let e : suc (k + a) ≡ suc k + a = omega arith in
     subst (λ (n : ℕ). Later (so_far p limit a) (so_far p limit n)) e (by (status limit st) (later_from p limit a k))
@@ -205,20 +229,24 @@ lines_later p limit a b le qs ss ep er =
     let same : h.prints ≡ qs = cancel x.prints h.prints qs (sym h.is_prints ∙ ep) in
     let count : x.step ≡ 0 + length x.records = let t = o.taken in omega (arith, t) in
     let front : AreWithin 0 (0 + length x.records) x.prints = subst (λ (k : ℕ). AreWithin 0 k x.prints) count o.prints in
-    let back : AreWithin (0 + length x.records) y.step qs = subst (λ (k : ℕ). AreWithin k y.step qs) count (subst (λ (ps : List PrintValue). AreWithin x.step y.step ps) same h.within) in
+    let back : AreWithin (0 + length x.records) y.step qs =
+    subst (λ (k : ℕ). AreWithin k y.step qs) count (subst (λ (ps : List PrintValue). AreWithin x.step y.step ps) same h.within) in
     (λ i. steps_text (ep i) (er i)) ∙ steps_later 0 y.step x.prints qs x.records ss o.records front back
 
 -- past the limit nothing more is taken
 capped : (p : Program) (limit n : ℕ) → (m : ℕ) × ((m ≤ limit) × (so_far p limit n ≡ so_far p limit m))
 capped p limit n = by (nat_le n limit) refl (status limit (so_far p limit limit)) refl
   where
-    by : (b : Bool) → nat_le n limit ≡ b → (o : Option Status) → status limit (so_far p limit limit) ≡ o → (m : ℕ) × ((m ≤ limit) × (so_far p limit n ≡ so_far p limit m))
+    by : (b : Bool) → nat_le n limit ≡ b → (o : Option Status) → status limit (so_far p limit limit) ≡ o
+        → (m : ℕ) × ((m ≤ limit) × (so_far p limit n ≡ so_far p limit m))
     by true e o q = let le : n ≤ limit = grind (arith, nat_tests) in (n, (le, refl))
     by false e None q = absurd (ends_in_time (job_says p.plans) p.arrays (starts p) limit q)
     by false e (Some s) q =
         let lt : limit < n = grind (arith, nat_tests) in
-        let back : (n - limit) + limit ≡ n = omega (arith, lt) in
-        (limit, (omega arith, ap (so_far p limit) (sym back) ∙ ended_stays (job_says p.plans) p.arrays (starts p) limit limit (n - limit) s q))
+        let back : (n - limit) + limit ≡ n = omega (arith, lt) in (
+          limit,
+          (omega arith, ap (so_far p limit) (sym back) ∙ ended_stays (job_says p.plans) p.arrays (starts p) limit limit (n - limit) s q),
+        )
 
 -- what comes after the lines of some supersteps in the text of what the job leaves
 pub record Rest (p : Program) (limit n : ℕ) : Type 0 where
@@ -254,7 +282,8 @@ some_rest p limit n = by (status limit (so_far p limit limit)) refl
         }
 
 -- the text of what isn't given away comes after the lines of what is
-pub rest_text : (p : Program) (limit n : ℕ) (rest : ReportValue) (h : IsRest p limit n rest) → report_text h.whole ≡ lines_of p limit n ++ report_text rest
+pub rest_text : (p : Program) (limit n : ℕ) (rest : ReportValue) (h : IsRest p limit n rest)
+    → report_text h.whole ≡ lines_of p limit n ++ report_text rest
 rest_text p limit n rest h = by (status limit (so_far p limit limit)) h.report
   where
     last : State
@@ -274,7 +303,8 @@ rest_text p limit n rest h = by (status limit (so_far p limit limit)) h.report
         let arrays = flat_map array_line rest.arrays in
         let end = status_line rest.status in
         ap report_text (sym same)
-        ∙ (λ i. (lines i ++ flat_map array_line ((ap (λ (r : ReportValue). r.arrays) same ∙ h.arrays) i)) ++ status_line ((ap (λ (r : ReportValue). r.status) same ∙ h.status) i))
+        ∙ (λ i. (lines i ++ flat_map array_line ((ap (λ (r : ReportValue). r.arrays) same ∙ h.arrays) i))
+        ++ status_line ((ap (λ (r : ReportValue). r.status) same ∙ h.status) i))
         ∙ ap (λ (t : List ℕ). t ++ end) (append_assoc first middle arrays)
         ∙ append_assoc first (middle ++ arrays) end
         ∙ ap (λ (st : State). steps_text st.prints st.records ++ ((middle ++ arrays) ++ end)) (sym c.1.1)

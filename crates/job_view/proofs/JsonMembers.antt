@@ -22,7 +22,8 @@ rest_tokens arrays = members_tokens (members (map array_member arrays))
 
 -- one array more
 pub next_member : (xs : List (List ℕ × List ℤ)) (i : ℕ) (a : List ℕ × List ℤ) (out new all : List Token) → Some a ≡ slice_get xs i
-    → new ≡ out ++ key a.0 ∷ json_tokens (list integer a.1) → out ++ rest_tokens (drop i xs) ≡ all → new ++ rest_tokens (drop (i + 1) xs) ≡ all
+    → new ≡ out ++ key a.0 ∷ json_tokens (list integer a.1) → out ++ rest_tokens (drop i xs) ≡ all
+    → new ++ rest_tokens (drop (i + 1) xs) ≡ all
 next_member xs i a out new all g e h =
     ap (λ (ts : List Token). ts ++ rest_tokens (drop (i + 1) xs)) e
     ∙ append_assoc out (key a.0 ∷ json_tokens (list integer a.1)) (rest_tokens (drop (i + 1) xs))

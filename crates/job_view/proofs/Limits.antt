@@ -26,7 +26,8 @@ module _ {T : Type 0} where
           ap (λ (c : Bool). if c then Some (Limit st.step) else None) (p ∙ sym q)
 
   -- a superstep counts for at most one
-  one_more : (path : T → List ℕ) (st : State T) (ss : List (List ℕ × Segment T)) (f : Option (ℕ × List ℕ)) → (closed path st ss f).step ≤ st.step + 1
+  one_more : (path : T → List ℕ) (st : State T) (ss : List (List ℕ × Segment T)) (f : Option (ℕ × List ℕ))
+      → (closed path st ss f).step ≤ st.step + 1
   one_more path st ss (Some f) = omega arith
   one_more path st ss None = omega arith
 
@@ -48,7 +49,9 @@ module _ {T : Type 0} (w : Says T) (arrays : List (List ℕ × List ℤ)) (tasks
       let both : status less (so_far w arrays tasks less n) ≡ status limit st = ap (status less) h.state ∙ status_same less limit st x y in
       record {
         state = λ i. unless_ended (both i) (h.state i) (superstep w (h.state i));
-        step = at_most (status limit st) st (superstep w st) n low (one_more w.path st (segments w st.arrays st.step st.live) (fault_in w.path w.most st.arrays (segments w st.arrays st.step st.live)));
+        step =
+            at_most (status limit st) st (superstep w st) n low
+            (one_more w.path st (segments w st.arrays st.step st.live) (fault_in w.path w.most st.arrays (segments w st.arrays st.step st.live)));
       }
 
   pub same_within : (limit less n : ℕ) → less ≤ limit → n ≤ less → AreSame limit less n

@@ -48,7 +48,8 @@ passed : (b : Bool) (v : List ℤ) (rest : Option (List ℤ)) → None ≡ (if b
 passed true v rest e = absurd cc
 passed false v rest e = refl
 
-met : (b : Bool) (v cells : List ℤ) (rest : Option (List ℤ)) → Some cells ≡ (if b then Some v else None) → Some cells ≡ (if b then Some v else rest)
+met : (b : Bool) (v cells : List ℤ) (rest : Option (List ℤ)) → Some cells ≡ (if b then Some v else None)
+    → Some cells ≡ (if b then Some v else rest)
 met true v cells rest e = e
 met false v cells rest e = absurd cc
 
@@ -64,7 +65,8 @@ named_on name xs i all g h = ap (λ (k : ℕ). named name (drop k xs)) (add-one 
     on (y ∷ ys) (suc n) e = on ys n e
 
 -- or it is
-pub named_here : (name : List ℕ) (xs : Arrays) (i : ℕ) (cells : List ℤ) (all : Option (List ℤ)) → Some cells ≡ cells_if name (slice_get xs i)
+pub named_here : (name : List ℕ) (xs : Arrays) (i : ℕ) (cells : List ℤ) (all : Option (List ℤ))
+    → Some cells ≡ cells_if name (slice_get xs i)
     → named name (drop i xs) ≡ all → Some cells ≡ all
 named_here name xs i cells all g h = at xs i g ∙ h
   where
@@ -75,7 +77,8 @@ named_here name xs i cells all g h = at xs i g ∙ h
     at (y ∷ ys) (suc n) e = at ys n e
 
 -- three lists after one another, the last if there was memory
-pub three_on : {T E : Type 0} (old one two new a b c : List View) (r : Result T E) → one ≡ old ++ a → two ≡ one ++ b → OnOk r (new ≡ two ++ c)
+pub three_on : {T E : Type 0} (old one two new a b c : List View) (r : Result T E) → one ≡ old ++ a → two ≡ one ++ b
+    → OnOk r (new ≡ two ++ c)
     → OnOk r (new ≡ old ++ (a ++ (b ++ c)))
 three_on old one two new a b c (Ok x) f g h =
     h ∙ ap (λ (xs : List View). xs ++ c) (g ∙ ap (λ (xs : List View). xs ++ b) f)

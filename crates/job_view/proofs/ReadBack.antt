@@ -87,6 +87,11 @@ each-report-is-read-back r h =
     let b = depth-list print_json 2 depth-print r.prints in
     let c = depth-arrays r.arrays in
     let d = depth-status r.status in
-    document-print (json_of r)
-    (numbers-list superstep_json IsShortRecord numbers-record r.records h.records, (numbers-list print_json IsShortPrint numbers-print r.prints h.prints, (numbers-arrays r.arrays h.arrays, (numbers-status r.status h.status, tt))))
+    document-print (json_of r) (
+      numbers-list superstep_json IsShortRecord numbers-record r.records h.records,
+      (
+        numbers-list print_json IsShortPrint numbers-print r.prints h.prints,
+        (numbers-arrays r.arrays h.arrays, (numbers-status r.status h.status, tt)),
+      ),
+    )
     (omega arith)

@@ -79,7 +79,8 @@ missing_views arrays (n ∷ w ∷ ws) = unless_found n (named n arrays) ++ missi
 -- first each array as the job leaves it, then each name over supersteps, and then the names with a width that no array has
 abbrev pub views_by : List (List ℕ) → List (List ℕ) → List (List ℤ) → ReportValue → List View
 views_by widths names rows r =
-    map (array_view widths) r.arrays ++ (time_views widths (every_of (length r.records)) r.arrays names rows ++ missing_views r.arrays widths)
+    map (array_view widths) r.arrays
+    ++ (time_views widths (every_of (length r.records)) r.arrays names rows ++ missing_views r.arrays widths)
 
 abbrev pub views : LookValue → List (List ℤ) → ReportValue → List View
 views look rows r = views_by (words_in look.widths) (words_in look.over_time) rows r

@@ -47,7 +47,8 @@ abbrev pub status_json : Status → Json
 status_json (Ended steps) = object (members ((codes "end", string (codes "ended")) ∷ (codes "steps", natural steps) ∷ []))
 status_json (Fault code step path) =
     object (members (
-    (codes "end", string (codes "fault")) ∷ (codes "code", natural code) ∷ (codes "step", natural step) ∷ (codes "path", list natural path) ∷ []
+    (codes "end", string (codes "fault")) ∷ (codes "code", natural code) ∷ (codes "step", natural step) ∷ (codes "path", list natural path)
+    ∷ []
     ))
 status_json (Limit steps) = object (members ((codes "end", string (codes "limit")) ∷ (codes "steps", natural steps) ∷ []))
 
@@ -55,7 +56,8 @@ status_json (Limit steps) = object (members ((codes "end", string (codes "limit"
 abbrev pub json_of : ReportValue → Json
 json_of r =
     object (members (
-    (codes "supersteps", list superstep_json r.records) ∷ (codes "prints", list print_json r.prints) ∷ (codes "arrays", arrays_json r.arrays)
+    (codes "supersteps", list superstep_json r.records) ∷ (codes "prints", list print_json r.prints)
+    ∷ (codes "arrays", arrays_json r.arrays)
     ∷ (codes "status", status_json r.status) ∷ []
     ))
 

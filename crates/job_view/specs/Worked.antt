@@ -29,7 +29,8 @@ pub record LooksAreWorkedOut : Type 0 where
       ∷ record { name = codes "d"; cells = 0; values = []; form = Missing }
       ∷ record { name = codes "c"; cells = 0; values = []; form = Missing } ∷ []
   -- a name without a width, which no array has
-  pub unpaired : missing_views report.arrays (codes "b" ∷ codes "2" ∷ codes "c" ∷ []) ≡ record { name = codes "c"; cells = 0; values = []; form = Missing } ∷ []
+  pub unpaired : missing_views report.arrays (codes "b" ∷ codes "2" ∷ codes "c" ∷ [])
+      ≡ record { name = codes "c"; cells = 0; values = []; form = Missing } ∷ []
   pub widest : width_in (codes "b") (words_in (codes "a=1,b=4096")) ≡ Some 4096
   pub too_wide : width_in (codes "b") (words_in (codes "b=4097")) ≡ None
   pub no_width : width_in (codes "b") (words_in (codes "b=0")) ≡ None

@@ -9,7 +9,8 @@ use Rattle.job_view.specs.ReportJson.{json_text}
 abbrev pub two_supersteps : Status → ReportValue
 two_supersteps status = record {
   prints =
-      record { step = 1; path = 0 ∷ []; value = pos 9223372036854775807 } ∷ record { step = 1; path = 1 ∷ 65535 ∷ []; value = negsuc 9 } ∷ [];
+      record { step = 1; path = 0 ∷ []; value = pos 9223372036854775807 } ∷ record { step = 1; path = 1 ∷ 65535 ∷ []; value = negsuc 9 }
+      ∷ [];
   records = record { phase = 0; parties = 2; left = 0; spawned = 1 } ∷ record { phase = 1; parties = 3; left = 3; spawned = 0 } ∷ [];
   arrays = (codes "b", pos 20 ∷ negsuc 0 ∷ []) ∷ (codes "a", []) ∷ [];
   status = status;
@@ -29,7 +30,9 @@ pub record ReportsAreWorkedOut : Type 0 where
   -- a report as those that are read back
   pub short : HasShortNumbers (two_supersteps (Fault 2 2 (1 ∷ 65535 ∷ [])))
   pub ended : json_text (two_supersteps (Ended 2)) ≡ front ++ codes "\"status\":{\"end\":\"ended\",\"steps\":2}}\n"
-  pub faulted : json_text (two_supersteps (Fault 2 2 (1 ∷ 65535 ∷ []))) ≡ front ++ codes "\"status\":{\"end\":\"fault\",\"code\":2,\"step\":2,\"path\":[1,65535]}}\n"
-  pub crowded : json_text (two_supersteps (Fault 7 2 [])) ≡ front ++ codes "\"status\":{\"end\":\"fault\",\"code\":7,\"step\":2,\"path\":[]}}\n"
+  pub faulted : json_text (two_supersteps (Fault 2 2 (1 ∷ 65535 ∷ [])))
+      ≡ front ++ codes "\"status\":{\"end\":\"fault\",\"code\":2,\"step\":2,\"path\":[1,65535]}}\n"
+  pub crowded : json_text (two_supersteps (Fault 7 2 []))
+      ≡ front ++ codes "\"status\":{\"end\":\"fault\",\"code\":7,\"step\":2,\"path\":[]}}\n"
   pub limited : json_text (two_supersteps (Limit 2)) ≡ front ++ codes "\"status\":{\"end\":\"limit\",\"steps\":2}}\n"
   pub idle : json_text nothing ≡ codes "{\"supersteps\":[],\"prints\":[],\"arrays\":{},\"status\":{\"end\":\"ended\",\"steps\":0}}\n"

@@ -55,23 +55,31 @@ index-grows ls more index.Step e = refl
 cell-grows : (s : Names) (more : List Word) (c : Cell) → AllBelow s (mentions.in_index c.index) → cell_word (wider s more) c ≡ cell_word s c
 cell-grows s more c e = ap (λ (x : Word). name_at s.arrays c.array ++ 91 ∷ (x ++ 93 ∷ [])) (index-grows s.locals more c.index e)
 
-operand-grows : (s : Names) (more : List Word) (o : Operand) → AllBelow s (mentions.in_operand o) → operand_word (wider s more) o ≡ operand_word s o
+operand-grows : (s : Names) (more : List Word) (o : Operand) → AllBelow s (mentions.in_operand o)
+    → operand_word (wider s more) o ≡ operand_word s o
 operand-grows s more (operand.Plain i) e = index-grows s.locals more i e
 operand-grows s more (operand.Cell c) e = cell-grows s more c e
 
 expr-grows : (s : Names) (more : List Word) (x : Expr) → AllBelow s (mentions.in_expr x) → expr_words (wider s more) x ≡ expr_words s x
 expr-grows s more (One a) e = ap (λ (t : Word). t ∷ []) (operand-grows s more a e)
 expr-grows s more (Two a op b) e =
-    ap (λ (t : Word). t ∷ operator_word op ∷ operand_word (wider s more) b ∷ []) (operand-grows s more a (all-left _ (mentions.in_operand a) (mentions.in_operand b) e))
-    ∙ ap (λ (t : Word). operand_word s a ∷ operator_word op ∷ t ∷ []) (operand-grows s more b (all-right _ (mentions.in_operand a) (mentions.in_operand b) e))
+    ap (λ (t : Word). t ∷ operator_word op ∷ operand_word (wider s more) b ∷ [])
+    (operand-grows s more a (all-left _ (mentions.in_operand a) (mentions.in_operand b) e))
+    ∙ ap (λ (t : Word). operand_word s a ∷ operator_word op ∷ t ∷ [])
+    (operand-grows s more b (all-right _ (mentions.in_operand a) (mentions.in_operand b) e))
 
-action-grows : (s : Names) (more : List Word) (a : Action) → AllBelow s (mentions.in_action a) → action_words (wider s more) a ≡ action_words s a
+action-grows : (s : Names) (more : List Word) (a : Action) → AllBelow s (mentions.in_action a)
+    → action_words (wider s more) a ≡ action_words s a
 action-grows s more (action.Let i x) e =
-    ap (λ (t : Word). codes "let" ∷ t ∷ codes "=" ∷ expr_words (wider s more) x) (name-grows s.locals more i (ltb-true i (length s.locals) (and-left (nat_lt i (length s.locals)) true (all-left (λ (k : ℕ). nat_lt k (length s.locals)) (i ∷ []) (mentions.in_expr x) e))))
-    ∙ ap (λ (t : Words). codes "let" ∷ name_at s.locals i ∷ codes "=" ∷ t) (expr-grows s more x (all-right _ (i ∷ []) (mentions.in_expr x) e))
+    ap (λ (t : Word). codes "let" ∷ t ∷ codes "=" ∷ expr_words (wider s more) x)
+    (name-grows s.locals more i (ltb-true i (length s.locals) (and-left (nat_lt i (length s.locals)) true (all-left (λ (k : ℕ). nat_lt k (length s.locals)) (i ∷ []) (mentions.in_expr x) e))))
+    ∙ ap (λ (t : Words). codes "let" ∷ name_at s.locals i ∷ codes "=" ∷ t)
+    (expr-grows s more x (all-right _ (i ∷ []) (mentions.in_expr x) e))
 action-grows s more (action.Put kind c x) e =
-    ap (λ (t : Word). kind_word kind ∷ t ∷ codes "=" ∷ expr_words (wider s more) x) (cell-grows s more c (all-left _ (mentions.in_index c.index) (mentions.in_expr x) e))
-    ∙ ap (λ (t : Words). kind_word kind ∷ cell_word s c ∷ codes "=" ∷ t) (expr-grows s more x (all-right _ (mentions.in_index c.index) (mentions.in_expr x) e))
+    ap (λ (t : Word). kind_word kind ∷ t ∷ codes "=" ∷ expr_words (wider s more) x)
+    (cell-grows s more c (all-left _ (mentions.in_index c.index) (mentions.in_expr x) e))
+    ∙ ap (λ (t : Words). kind_word kind ∷ cell_word s c ∷ codes "=" ∷ t)
+    (expr-grows s more x (all-right _ (mentions.in_index c.index) (mentions.in_expr x) e))
 action-grows s more (action.Print x) e = ap (λ (t : Words). codes "print" ∷ t) (expr-grows s more x e)
 action-grows s more (action.Spawn b x) e = ap (λ (t : Words). codes "spawn" ∷ name_at s.bodies b ∷ t) (expr-grows s more x e)
 action-grows s more action.Sync e = refl
@@ -97,7 +105,8 @@ below-grows ls more (i ∷ is) e =
 -- and its names stay there
 pub fits-grows : (s : Names) (more : List Word) (l : Line) → line_fits s l ≡ true → line_fits (wider s more) l ≡ true
 fits-grows s more l e =
-    and-true _ _ (and-left _ _ e) (below-grows s.locals more (mentions.in_line l) (and-right (line_names (length s.arrays) (length s.bodies) l) _ e))
+    and-true _ _ (and-left _ _ e)
+    (below-grows s.locals more (mentions.in_line l) (and-right (line_names (length s.arrays) (length s.bodies) l) _ e))
 
 -- mentions only add locals at the end
 pub noted-grows : (ls ws : List Word) → (more : List Word) × (noted ls ws ≡ ls ++ more)

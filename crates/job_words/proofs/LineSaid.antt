@@ -96,13 +96,15 @@ present-at : (names : List Word) (w : Word) (o : Option ℕ) → place_from 0 na
 present-at names w None h a = let no = among-none 0 names w h in absurd cc
 present-at names w (Some i) h a = place-said names w i h
 
-pub body-said : (bodies : List Word) (w : Word) (b : ℕ) → is_among bodies w ≡ true → body_at bodies w ≡ Ok b → (name_at bodies b ≡ w) × (b < length bodies)
+pub body-said : (bodies : List Word) (w : Word) (b : ℕ) → is_among bodies w ≡ true → body_at bodies w ≡ Ok b
+    → (name_at bodies b ≡ w) × (b < length bodies)
 body-said bodies w b a e =
     let m = made-ok (λ (u : Unit {0}). unwrap_or (place_from 0 bodies w) 0) (named w) b e in
     let p = present-at bodies w (place_from 0 bodies w) refl a in
     subst (λ (x : ℕ). (name_at bodies x ≡ w) × (x < length bodies)) m.2 p
 
-alone-said : (s : Names) (k : Word) (x l : Line) (ws : Words) → k ∷ [] ≡ line_words s x → line_fits s x ≡ true → alone x ws ≡ Ok l → LineSaid s (k ∷ ws) l
+alone-said : (s : Names) (k : Word) (x l : Line) (ws : Words) → k ∷ [] ≡ line_words s x → line_fits s x ≡ true → alone x ws ≡ Ok l
+    → LineSaid s (k ∷ ws) l
 alone-said s k x l [] w f e = let same : x ≡ l = cc in subst (LineSaid s (k ∷ [])) same (w, f)
 alone-said s k x l (v ∷ ws) w f e = absurd cc
 
@@ -119,7 +121,8 @@ let-said s (w ∷ v ∷ ws) l e =
     subst (LineSaid s (codes "let" ∷ w ∷ v ∷ ws)) m.2 (
       ap (λ (t : Word). codes "let" ∷ t ∷ v ∷ ws) (sym d.0) ∙ ap (λ (t : Word). codes "let" ∷ name_at s.locals m.0.0.1 ∷ t ∷ ws) q
           ∙ ap (λ (t : Words). codes "let" ∷ name_at s.locals m.0.0.1 ∷ codes "=" ∷ t) x.0,
-      and-true _ _ x.1 (all-both _ (m.0.0.1 ∷ []) (mentions.in_expr m.0.1) (and-true _ true (below-true m.0.0.1 (length s.locals) d.1) refl) x.2),
+      and-true _ _ x.1
+          (all-both _ (m.0.0.1 ∷ []) (mentions.in_expr m.0.1) (and-true _ true (below-true m.0.0.1 (length s.locals) d.1) refl) x.2),
     )
 
 put-said : (s : Names) (kind : PutKind) (ws : Words) (l : Line) → put_of s kind ws ≡ Ok l → LineSaid s (kind_word kind ∷ ws) l
@@ -169,7 +172,8 @@ behind-said : (s : Names) (fits : Bool) (k : Keyword) (ws : Words) (l : Line) �
 unfolding line_behind
 behind-said s fits Let ws l p e = let-said s ws l e
 behind-said s fits (Put kind) ws l p e = put-said s kind ws l e
-behind-said s fits Print ws l p e = test-said s (codes "print") (λ x. line.Do (action.Print x)) ws l (λ x. refl) (λ x a b. and-true _ _ a b) e
+behind-said s fits Print ws l p e =
+    test-said s (codes "print") (λ x. line.Do (action.Print x)) ws l (λ x. refl) (λ x a b. and-true _ _ a b) e
 behind-said s fits Spawn ws l p e = spawn-said s ws l p e
 behind-said s fits Sync ws l p e = alone-said s (codes "sync") (line.Do action.Sync) l ws refl refl e
 behind-said s fits Stop ws l p e = alone-said s (codes "stop") (line.Do action.Stop) l ws refl refl e

@@ -120,12 +120,17 @@ abbrev pub IndexSaid : List Word → Word → Index → Type 0
 IndexSaid locals w i = (w ≡ index_word locals i) × (list_all (λ k. nat_lt k (length locals)) (mentions.in_index i) ≡ true)
 
 index-cases : (locals : List Word) (w : Word) (i : Index) (a b c : Bool) → bytes_eq w (codes "arg") ≡ b → bytes_eq w (codes "step") ≡ c
-    → (if a then made index.Number (numbered w) else if b then Ok index.Arg else if c then Ok index.Step else made index.Local (declared_at locals w)) ≡ Ok i → IndexSaid locals w i
+    → (if a then made index.Number (numbered w) else if b then Ok index.Arg else if c then Ok index.Step
+    else made index.Local (declared_at locals w))
+    ≡ Ok i
+    → IndexSaid locals w i
 index-cases locals w i true b c f g e =
     let m = made-ok index.Number (numbered w) i e in
     subst (IndexSaid locals w) m.2 (number-said w m.0 m.1, refl)
-index-cases locals w i false true c f g e = let same : index.Arg ≡ i = cc in subst (IndexSaid locals w) same (same-word w (codes "arg") f, refl)
-index-cases locals w i false false true f g e = let same : index.Step ≡ i = cc in subst (IndexSaid locals w) same (same-word w (codes "step") g, refl)
+index-cases locals w i false true c f g e = let same : index.Arg ≡ i = cc in
+    subst (IndexSaid locals w) same (same-word w (codes "arg") f, refl)
+index-cases locals w i false false true f g e = let same : index.Step ≡ i = cc in
+    subst (IndexSaid locals w) same (same-word w (codes "step") g, refl)
 index-cases locals w i false false false f g e =
     let m = made-ok index.Local (declared_at locals w) i e in
     let d = declared-said locals w m.0 m.1 in
@@ -163,7 +168,9 @@ index-part-said (c ∷ cs) q e = index-part-case (nat_eq c 91) (nat_eq c 93) c c
 
 parts-case : (a b : Bool) (c : ℕ) (cs : Word) (p : Word × Word) → nat_eq c 91 ≡ a
     → ((q : Word × Word) → cell_parts cs ≡ Some q → cs ≡ q.0 ++ 91 ∷ (q.1 ++ 93 ∷ []))
-    → (if a then option_map (λ (i : Word). ([], i)) (index_part cs) else if b then None else option_map (λ (q : Word × Word). (c ∷ q.0, q.1)) (cell_parts cs)) ≡ Some p
+    → (if a then option_map (λ (i : Word). ([], i)) (index_part cs) else if b then None
+    else option_map (λ (q : Word × Word). (c ∷ q.0, q.1)) (cell_parts cs))
+    ≡ Some p
     → c ∷ cs ≡ p.0 ++ 91 ∷ (p.1 ++ 93 ∷ [])
 parts-case true b c cs p h rec e =
     let m = mapped-some {B = Word × Word} (λ (i : Word). ([], i)) (index_part cs) p e in
@@ -182,7 +189,8 @@ parts-said (c ∷ cs) p e = parts-case (nat_eq c 91) (nat_eq c 93) c cs p refl (
 -- how a cell was said, and that its array and local are there
 abbrev pub CellSaid : Names → Word → Cell → Type 0
 CellSaid s w c =
-    (w ≡ cell_word s c) × (nat_lt c.array (length s.arrays) ≡ true) × (list_all (λ k. nat_lt k (length s.locals)) (mentions.in_index c.index) ≡ true)
+    (w ≡ cell_word s c) × (nat_lt c.array (length s.arrays) ≡ true)
+    × (list_all (λ k. nat_lt k (length s.locals)) (mentions.in_index c.index) ≡ true)
 
 cell-from-said : (s : Names) (o : Option (Word × Word)) (w : Word) (c : Cell) → cell_parts w ≡ o → cell_from s o ≡ Ok c → CellSaid s w c
 cell-from-said s None w c h e = absurd cc
@@ -192,7 +200,8 @@ cell-from-said s (Some p) w c h e =
     let a = declared-said s.arrays p.0 m.0.0 b.0 in
     let i = index-said s.locals p.1 m.0.1 b.1 in
     let word : w ≡ name_at s.arrays m.0.0 ++ 91 ∷ (index_word s.locals m.0.1 ++ 93 ∷ []) =
-    parts-said w p h ∙ ap (λ (x : Word). x ++ 91 ∷ (p.1 ++ 93 ∷ [])) (sym a.0) ∙ ap (λ (x : Word). name_at s.arrays m.0.0 ++ 91 ∷ (x ++ 93 ∷ [])) i.0 in
+    parts-said w p h ∙ ap (λ (x : Word). x ++ 91 ∷ (p.1 ++ 93 ∷ [])) (sym a.0)
+    ∙ ap (λ (x : Word). name_at s.arrays m.0.0 ++ 91 ∷ (x ++ 93 ∷ [])) i.0 in
     subst (CellSaid s w) m.2 (word, below-true m.0.0 (length s.arrays) a.1, i.1)
 
 pub cell-said : (s : Names) (w : Word) (c : Cell) → cell_of s w ≡ Ok c → CellSaid s w c
@@ -257,7 +266,8 @@ expr-said s (a ∷ op ∷ b ∷ []) e h =
     let o = operator-said op m.0.0.1 inner.1 in
     let y = operand-said s b m.0.1 outer.1 in
     subst (ExprSaid s (a ∷ op ∷ b ∷ [])) m.2 (
-      ap (λ (t : Word). t ∷ op ∷ b ∷ []) x.0 ∙ ap (λ (t : Word). operand_word s m.0.0.0 ∷ t ∷ b ∷ []) o ∙ ap (λ (t : Word). operand_word s m.0.0.0 ∷ operator_word m.0.0.1 ∷ t ∷ []) y.0,
+      ap (λ (t : Word). t ∷ op ∷ b ∷ []) x.0 ∙ ap (λ (t : Word). operand_word s m.0.0.0 ∷ t ∷ b ∷ []) o
+          ∙ ap (λ (t : Word). operand_word s m.0.0.0 ∷ operator_word m.0.0.1 ∷ t ∷ []) y.0,
       and-true _ _ x.1 y.1,
       all-both _ (mentions.in_operand m.0.0.0) (mentions.in_operand m.0.1) x.2 y.2,
     )

@@ -88,7 +88,8 @@ number-plain (negsuc n) h = let small : suc n < 2 ^ 64 = omega (arith, ints, h) 
 pub number-written : (n : ℤ) → FitsSigned w64 n → numbered (signed_decimal n) ≡ Ok n
 number-written n h = ap or_bad_number (numbers_law.0 n h)
 
-number-index : (locals : List Word) (w : Word) (a : Bool) → begins_number w ≡ a → a ≡ true → index_of locals w ≡ made index.Number (numbered w)
+number-index : (locals : List Word) (w : Word) (a : Bool) → begins_number w ≡ a → a ≡ true
+    → index_of locals w ≡ made index.Number (numbered w)
 unfolding index_of
 number-index locals w a h x = rw (h ∙ x) refl
 
@@ -99,9 +100,11 @@ IndexIs locals (index.Local i) = i < length locals
 IndexIs locals index.Arg = Unit {0}
 IndexIs locals index.Step = Unit {0}
 
-pub index-written : (locals : List Word) (i : Index) → are_names locals ≡ true → IndexIs locals i → index_of locals (index_word locals i) ≡ Ok i
+pub index-written : (locals : List Word) (i : Index) → are_names locals ≡ true → IndexIs locals i
+    → index_of locals (index_word locals i) ≡ Ok i
 index-written locals (index.Number n) e h =
-    number-index locals (signed_decimal n) (begins_number (signed_decimal n)) refl (number-begins n h) ∙ ap (made index.Number) (number-written n h)
+    number-index locals (signed_decimal n) (begins_number (signed_decimal n)) refl (number-begins n h)
+    ∙ ap (made index.Number) (number-written n h)
 index-written locals (index.Local i) e h = local-written locals i e h
 index-written locals index.Arg e h = arg-written locals
 index-written locals index.Step e h = step-written locals
@@ -157,6 +160,7 @@ ExprIs s (Two a op b) = OperandIs s a × OperandIs s b
 pub expr-written : (s : Names) (e : Expr) → AreGood s → ExprIs s e → expr_of s (expr_words s e) ≡ Ok e
 expr-written s (One a) g h = ap (made One) (operand-written s a g h)
 expr-written s (Two a op b) g h =
-    ap (λ (r : Result Operand Code). made two (both (both r (operator_of (operator_word op))) (operand_of s (operand_word s b)))) (operand-written s a g h.0)
+    ap (λ (r : Result Operand Code). made two (both (both r (operator_of (operator_word op))) (operand_of s (operand_word s b))))
+    (operand-written s a g h.0)
     ∙ ap (λ (r : Result Operator Code). made two (both (both (Ok a) r) (operand_of s (operand_word s b)))) (operator-written op)
     ∙ ap (λ (r : Result Operand Code). made two (both (Ok (a, op)) r)) (operand-written s b g h.1)

@@ -48,9 +48,11 @@ or-right false b e = e
 
 -- a name that may be used has no fault
 pub named-free : (w : Word) → is_free w ≡ true → named w ≡ Ok tt
-named-free w e = name-cases (is_reserved w) (is_name w) (not-true (is_reserved w) (and-right (is_name w) _ e)) (and-left _ (not (is_reserved w)) e)
+named-free w e =
+    name-cases (is_reserved w) (is_name w) (not-true (is_reserved w) (and-right (is_name w) _ e)) (and-left _ (not (is_reserved w)) e)
   where
-    name-cases : (a b : Bool) → a ≡ false → b ≡ true → ◌≡◌ {A = Result (Unit {0}) Code} (if a then Err Reserved else if b then Ok tt else Err BadName) (Ok tt)
+    name-cases : (a b : Bool) → a ≡ false → b ≡ true
+        → ◌≡◌ {A = Result (Unit {0}) Code} (if a then Err Reserved else if b then Ok tt else Err BadName) (Ok tt)
     name-cases true b h g = absurd cc
     name-cases false true h g = refl
     name-cases false false h g = absurd cc
@@ -111,16 +113,19 @@ names-free (n ∷ ns) (suc i) e h = names-free ns i (and-right (is_free n && not
 pub declared-written : (ns : List Word) (i : ℕ) → are_names ns ≡ true → i < length ns → declared_at ns (name_at ns i) ≡ Ok i
 declared-written ns i e h =
     let place : place_from 0 ns (name_at ns i) ≡ Some i = place-name 0 ns i e h ∙ ap (λ (x : ℕ). Some x) (omega arith) in
-    ap (λ (r : Result (Unit {0}) Code). made (λ p. p.1) (both r (or_unknown (place_from 0 ns (name_at ns i))))) (named-free (name_at ns i) (names-free ns i e h))
+    ap (λ (r : Result (Unit {0}) Code). made (λ p. p.1) (both r (or_unknown (place_from 0 ns (name_at ns i)))))
+    (named-free (name_at ns i) (names-free ns i e h))
     ∙ ap (λ (o : Option ℕ). made (λ p. p.1) (both (Ok tt) (or_unknown o))) place
 
-index-from : (locals : List Word) (w : Word) (a b c : Bool) → begins_number w ≡ a → bytes_eq w (codes "arg") ≡ b → bytes_eq w (codes "step") ≡ c → a ≡ false → b ≡ false → c ≡ false
+index-from : (locals : List Word) (w : Word) (a b c : Bool) → begins_number w ≡ a → bytes_eq w (codes "arg") ≡ b
+    → bytes_eq w (codes "step") ≡ c → a ≡ false → b ≡ false → c ≡ false
     → index_of locals w ≡ made index.Local (declared_at locals w)
 unfolding index_of
 index-from locals w a b c h g f x y z = rw (h ∙ x, g ∙ y, f ∙ z) refl
 
 -- the word of a local says it
-pub local-written : (ns : List Word) (i : ℕ) → are_names ns ≡ true → i < length ns → index_of ns (index_word ns (index.Local i)) ≡ Ok (index.Local i)
+pub local-written : (ns : List Word) (i : ℕ) → are_names ns ≡ true → i < length ns
+    → index_of ns (index_word ns (index.Local i)) ≡ Ok (index.Local i)
 local-written ns i e h =
     let w : Word = name_at ns i in
     let free : is_free w ≡ true = names-free ns i e h in

@@ -56,7 +56,8 @@ as_read (line.EndWhile e n) = line.EndIf
 
 body-written : (bodies : List Word) (b : ℕ) → are_names bodies ≡ true → b < length bodies → body_at bodies (name_at bodies b) ≡ Ok b
 body-written bodies b e h =
-    ap (λ (r : Result (Unit {0}) Code). made (λ _. unwrap_or (place_from 0 bodies (name_at bodies b)) 0) r) (named-free (name_at bodies b) (names-free bodies b e h))
+    ap (λ (r : Result (Unit {0}) Code). made (λ _. unwrap_or (place_from 0 bodies (name_at bodies b)) 0) r)
+    (named-free (name_at bodies b) (names-free bodies b e h))
     ∙ ap (λ (o : Option ℕ). Ok (unwrap_or o 0)) (place-name 0 bodies b e h ∙ ap (λ (x : ℕ). Some x) (zero-add b))
 
 put-written : (s : Names) (kind : PutKind) (c : Cell) (e : Expr) → AreGood s → CellIs s c × ExprIs s e
@@ -65,10 +66,12 @@ put-written s kind c e g h =
     ap (λ (r : Result Cell Code). made (put_line kind) (both (both r (Ok tt)) (expr_of s (expr_words s e)))) (cell-written s c g h.0)
     ∙ ap (λ (r : Result Expr Code). made (put_line kind) (both (Ok (c, tt)) r)) (expr-written s e g h.1)
 
-action-written : (s : Names) (fits : Bool) (a : Action) → AreGood s → ActionIs s a → line_of s fits (line_words s (line.Do a)) ≡ Ok (line.Do a)
+action-written : (s : Names) (fits : Bool) (a : Action) → AreGood s → ActionIs s a
+    → line_of s fits (line_words s (line.Do a)) ≡ Ok (line.Do a)
 unfolding line_behind keyword_of
 action-written s fits (action.Let i e) g h =
-    ap (λ (r : Result ℕ Code). made let_line (both (both (Ok tt) r) (expr_of s (expr_words s e)))) (declared-written s.locals i g.locals h.0)
+    ap (λ (r : Result ℕ Code). made let_line (both (both (Ok tt) r) (expr_of s (expr_words s e))))
+    (declared-written s.locals i g.locals h.0)
     ∙ ap (λ (r : Result Expr Code). made let_line (both (Ok (tt, i)) r)) (expr-written s e g h.1)
 action-written s fits (action.Put Set c e) g h = put-written s Set c e g h
 action-written s fits (action.Put Add c e) g h = put-written s Add c e g h

@@ -21,7 +21,8 @@ record_taken a b c d e f r p q s t end =
     (took_parts a b c _ (codes " parties ") (decimal r.parties) p q) s) t) end
 
 pub print_taken : (a b c d e : Outlet) (p : PrintValue) → Took a b (codes "print " ++ decimal p.step)
-    → Took b c (codes " " ++ path_text p.path) → Took c d (codes " " ++ signed_decimal p.value) → Took d e (codes "\n") → Took a e (print_line p)
+    → Took b c (codes " " ++ path_text p.path) → Took c d (codes " " ++ signed_decimal p.value) → Took d e (codes "\n")
+    → Took a e (print_line p)
 print_taken a b c d e p q r s end =
     took_then a d e _ (codes "\n")
     (took_parts a c d _ (codes " ") (signed_decimal p.value) (took_parts a b c _ (codes " ") (path_text p.path) q r) s) end
@@ -59,7 +60,8 @@ others_next step p ps all e s =
     ap (λ (qs : List PrintValue). rest_of step qs) e ∙ if_true (p.step == step) (rest_of step ps) (p ∷ ps) b
 
 -- one superstep more
-pub steps_next : (prints left : List PrintValue) (r : PhaseRecord) (rs all : List PhaseRecord) → all ≡ r ∷ rs → left ≡ rest_of r.phase prints
+pub steps_next : (prints left : List PrintValue) (r : PhaseRecord) (rs all : List PhaseRecord) → all ≡ r ∷ rs
+    → left ≡ rest_of r.phase prints
     → steps_text prints all ≡ flat_map print_line (front_of r.phase prints) ++ record_line r ++ steps_text left rs
 steps_next prints left r rs all e l =
     ap (λ (qs : List PhaseRecord). steps_text prints qs) e

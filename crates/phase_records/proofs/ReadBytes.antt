@@ -24,17 +24,20 @@ pub more_left : (old new : Option (List ℕ)) (xs : List ℕ) (capacity most : �
     → IfSome new (λ bytes. capacity < length bytes) → IfSome old (λ bytes. most < length bytes)
 more_left None new xs capacity most c l h = tt
 more_left (Some o) None xs capacity most c l h = absurd c
-more_left (Some o) (Some n) xs capacity most c l h = let e : length o ≡ length xs + length n = ap length c ∙ length-append xs n in omega arith
+more_left (Some o) (Some n) xs capacity most c l h = let e : length o ≡ length xs + length n = ap length c ∙ length-append xs n in
+    omega arith
 
 -- and no more than this many, as no more than that are still to come
 pub no_more_left : (old new : Option (List ℕ)) (xs : List ℕ) (capacity most : ℕ) → Consumes old new xs → length xs + capacity ≤ most
     → IfSome new (λ bytes. length bytes ≤ capacity) → IfSome old (λ bytes. length bytes ≤ most)
 no_more_left None new xs capacity most c l h = tt
 no_more_left (Some o) None xs capacity most c l h = absurd c
-no_more_left (Some o) (Some n) xs capacity most c l h = let e : length o ≡ length xs + length n = ap length c ∙ length-append xs n in omega arith
+no_more_left (Some o) (Some n) xs capacity most c l h = let e : length o ≡ length xs + length n = ap length c ∙ length-append xs n in
+    omega arith
 
 -- there are more than this many, as more came
-pub more_came : (old new : Option (List ℕ)) (xs : List ℕ) (most : ℕ) → Consumes old new xs → most < length xs → IfSome old (λ bytes. most < length bytes)
+pub more_came : (old new : Option (List ℕ)) (xs : List ℕ) (most : ℕ) → Consumes old new xs → most < length xs
+    → IfSome old (λ bytes. most < length bytes)
 more_came None new xs most c l = tt
 more_came (Some o) None xs most c l = absurd c
 more_came (Some o) (Some n) xs most c l = let e : length o ≡ length xs + length n = ap length c ∙ length-append xs n in omega arith

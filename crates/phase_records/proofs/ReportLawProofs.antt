@@ -29,7 +29,8 @@ rest_within : (n last : ℕ) (ps : List PrintValue) → AreWithin n last ps → 
 rest_within n last [] h = tt
 rest_within n last (p ∷ ps) h = by (p.step == n) refl (λ e. rest_within n last ps (subst (λ k. AreWithin k last ps) e h.2))
   where
-    by : (b : Bool) → (p.step == n) ≡ b → (p.step ≡ n → AreWithin (suc n) last (rest_of n ps)) → AreWithin (suc n) last (if b then rest_of n ps else p ∷ ps)
+    by : (b : Bool) → (p.step == n) ≡ b → (p.step ≡ n → AreWithin (suc n) last (rest_of n ps))
+        → AreWithin (suc n) last (if b then rest_of n ps else p ∷ ps)
     by true e more = let s : p.step ≡ n = grind arith in more s
     by false e more = let le = h.0 in let lt : suc n ≤ p.step = grind arith in (lt, h.1, h.2)
 

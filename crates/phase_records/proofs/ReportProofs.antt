@@ -46,7 +46,8 @@ arrays_next xs i a g =
     ∙ ap (λ (k : ℕ). array_line a ++ flat_map array_line (drop k xs)) (sym (add-one i))
 
 -- and where there is none
-pub arrays_end : (xs : List (List ℕ × List ℤ)) (i : ℕ) → None ≡ slice_get xs i → flat_map array_line (drop i xs) ≡ flat_map array_line (drop (i + 1) xs)
+pub arrays_end : (xs : List (List ℕ × List ℤ)) (i : ℕ) → None ≡ slice_get xs i
+    → flat_map array_line (drop i xs) ≡ flat_map array_line (drop (i + 1) xs)
 arrays_end xs i g =
     ap (λ (ys : List (List ℕ × List ℤ)). flat_map array_line ys) (sym (drop_past xs i (sym g)))
     ∙ ap (λ (k : ℕ). flat_map array_line (drop k xs)) (sym (add-one i))

@@ -154,7 +154,9 @@ waits o new bytes n h f c w = record { same = n; way = by o.failed refl }
       whole = sym w;
       out = subst (λ (k : Option (List ℕ)). Appends o.held k []) (sym h) (Appends-none o.held);
     })
-    by true e = inr (inr (record { was = e; is = f ∙ e; failures = c; kept = subst (λ (k : Option (List ℕ)). Keeps o.held k) (sym h) (kept_none o.held) }))
+    by true e =
+        inr
+        (inr (record { was = e; is = f ∙ e; failures = c; kept = subst (λ (k : Option (List ℕ)). Keeps o.held k) (sym h) (kept_none o.held) }))
 
 -- bytes that may wait
 pub may_wait : (o new : Outlet) (bytes : List ℕ) (b : Bool) → new.name ≡ o.name → new.held ≡ o.held → new.failed ≡ o.failed

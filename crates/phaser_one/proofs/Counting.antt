@@ -86,7 +86,8 @@ bit_sum : (a b : Bool) → a ≡ true → bit (not b) + bit (a && b) ≡ 1
 bit_sum a true e = rw e refl
 bit_sum a false e = rw e refl
 
-pub absent_of_one : (phase : ℕ) (ms : List Member) → OneOwner ms → count_by (λ m. not (has_arrived phase m)) ms + arrived_of phase 0 ms ≡ length ms
+pub absent_of_one : (phase : ℕ) (ms : List Member) → OneOwner ms
+    → count_by (λ m. not (has_arrived phase m)) ms + arrived_of phase 0 ms ≡ length ms
 absent_of_one phase [] h = refl
 absent_of_one phase (m ∷ ms) h =
     let absent = count_cons (λ x. not (has_arrived phase x)) m ms in
@@ -125,14 +126,16 @@ not_all phase m a ms c h = ⊎_elim
 pub everyone_is : (phase m a left : ℕ) (ms : List Member) → Counts phase m a ms → left + a ≡ m → everyone_arrived phase ms ≡ nat_eq left 0
 everyone_is phase m a left ms c h = ⊎_elim
     (λ (e : nat_eq left 0 ≡ true). let none : left ≡ 0 = eqb-true left 0 e in all_come phase m a ms c (omega arith) ∙ sym e)
-    (λ (e : nat_eq left 0 ≡ false). let some : left ≢ 0 = λ z. (let yes' : nat_eq left 0 ≡ true = eq-eqb left 0 z in cc) in not_all phase m a ms c (omega arith) ∙ sym e)
+    (λ (e : nat_eq left 0 ≡ false). let some : left ≢ 0 = λ z. (let yes' : nat_eq left 0 ≡ true = eq-eqb left 0 z in cc) in
+    not_all phase m a ms c (omega arith) ∙ sym e)
     (either (nat_eq left 0))
 
 -- the members that a word represents
 pub counts_in : (phase a n : ℕ) → Counts phase (a + n) a (members_in phase a n)
 counts_in phase a n = record {
   own = λ u.
-      let whole = count_append (is_owned u) (replicate a (record { owner = 0; mark = Some phase })) (replicate n (record { owner = 0; mark = None })) in
+      let whole =
+      count_append (is_owned u) (replicate a (record { owner = 0; mark = Some phase })) (replicate n (record { owner = 0; mark = None })) in
       let come = count_replicate (is_owned u) a (record { owner = 0; mark = Some phase }) in
       let absent = count_replicate (is_owned u) n (record { owner = 0; mark = None }) in
       let first = times_bit a (eqb 0 u) in
@@ -141,7 +144,8 @@ counts_in phase a n = record {
       omega arith;
   come = λ u.
       let test : Member → Bool = λ x. is_owned u x && has_arrived phase x in
-      let whole = count_append test (replicate a (record { owner = 0; mark = Some phase })) (replicate n (record { owner = 0; mark = None })) in
+      let whole =
+      count_append test (replicate a (record { owner = 0; mark = Some phase })) (replicate n (record { owner = 0; mark = None })) in
       let come = count_replicate test a (record { owner = 0; mark = Some phase }) in
       let absent = count_replicate test n (record { owner = 0; mark = None }) in
       let here = bit_and_true (eqb 0 u) (nat_eq phase phase) (eq-eqb phase phase refl) in
@@ -153,7 +157,8 @@ counts_in phase a n = record {
 }
 
 -- a flat phaser that is alike to a word's has its counts
-pub alike_counts : (f : Flat) (w : Fields) → w.unarrived ≤ w.parties → IsAlike f (flat_of w) → Counts w.phase w.parties (w.parties - w.unarrived) f.members
+pub alike_counts : (f : Flat) (w : Fields) → w.unarrived ≤ w.parties → IsAlike f (flat_of w)
+    → Counts w.phase w.parties (w.parties - w.unarrived) f.members
 alike_counts f w h a =
     let c = counts_in w.phase (w.parties - w.unarrived) w.unarrived in
     let sum : w.parties - w.unarrived + w.unarrived ≡ w.parties = omega arith in
@@ -216,7 +221,8 @@ dropped_counts phase m a ms c h =
     }
 
 -- in the next phase nobody has arrived
-pub next_counts : (phase m a : ℕ) (ms : List Member) → Counts phase m a ms → everyone_arrived phase ms ≡ true → Counts (next_phase_of phase) m 0 ms
+pub next_counts : (phase m a : ℕ) (ms : List Member) → Counts phase m a ms → everyone_arrived phase ms ≡ true
+    → Counts (next_phase_of phase) m 0 ms
 next_counts phase m a ms c e = record {
   own = c.own;
   come = λ u. none_arrived phase (next_phase_of phase) ms (next_differs phase) e u ∙ picked_none (eqb 0 u);

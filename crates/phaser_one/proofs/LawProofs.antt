@@ -34,7 +34,8 @@ picked_phase : (b : Bool) (f g : Flat) → g.phase ≡ f.phase → (cond b f g).
 picked_phase true f g h = refl
 picked_phase false f g h = h
 
-picked_ended : (b : Bool) (f g : Flat) → f.due ≡ false → (g.due ≡ true → g.ended ≡ f.ended) → (cond b f g).due ≡ true → (cond b f g).ended ≡ f.ended
+picked_ended : (b : Bool) (f g : Flat) → f.due ≡ false → (g.due ≡ true → g.ended ≡ f.ended) → (cond b f g).due ≡ true
+    → (cond b f g).ended ≡ f.ended
 picked_ended true f g q h e = refl
 picked_ended false f g q h e = h e
 
@@ -78,14 +79,17 @@ called_ended : (call : Call) (f : Flat) → f.due ≡ false → (called call f).
 called_ended call f q = picked_ended (is_refused (answer call f)) f (taken_by (step_of call) f) q (step_ended call f q)
 
 called_sound : (call : Call) (f : Flat) → f.due ≡ false → IsSound (called call f)
-called_sound call f q = picked_sound (is_refused (answer call f)) f (taken_by (step_of call) f) (quiet_sound f q) (taken_sound (step_of call) f (quiet_sound f q))
+called_sound call f q =
+    picked_sound (is_refused (answer call f)) f (taken_by (step_of call) f) (quiet_sound f q)
+    (taken_sound (step_of call) f (quiet_sound f q))
 
 -- who has arrived in one phase hasn't in another
 mark_elsewhere : (p q : ℕ) (mark : Option ℕ) → p ≢ q → is_marked p mark ≡ true → not (is_marked q mark) ≡ true
 mark_elsewhere p q None n e = no_contradiction e
 mark_elsewhere p q (Some r) n e = let same : r ≡ p = eqb-true r p e in let other = ne_eqb r q (λ z. n (sym same ∙ z)) in rw other refl
 
-pub none_elsewhere : (p q : ℕ) (ms : List Member) → p ≢ q → everyone_arrived p ms ≡ true → count_by (λ m. not (has_arrived q m)) ms ≡ length ms
+pub none_elsewhere : (p q : ℕ) (ms : List Member) → p ≢ q → everyone_arrived p ms ≡ true
+    → count_by (λ m. not (has_arrived q m)) ms ≡ length ms
 none_elsewhere p q [] n e = refl
 none_elsewhere p q (m ∷ ms) n e =
     let both = both_true (has_arrived p m) (everyone_arrived p ms) e in
@@ -95,16 +99,22 @@ none_elsewhere p q (m ∷ ms) n e =
     omega arith
 
 -- what an advance that is due does
-advanced : (plan : CountPlan) (call : Call) (f g : Flat) → called call f ≡ g → g.due ≡ true → g.ended ≡ false → g.phase ≡ f.phase → everyone_arrived g.phase g.members ≡ true → Advances plan call f
+advanced : (plan : CountPlan) (call : Call) (f g : Flat) → called call f ≡ g → g.due ≡ true → g.ended ≡ false → g.phase ≡ f.phase
+    → everyone_arrived g.phase g.members ≡ true → Advances plan call f
 advanced plan call f g is due open' phase everyone =
     let ends : Bool = count_ends plan g.phase (registered g) in
     let next : Flat = taken (flat.Advance ends) g in
-    let same : after plan call f ≡ next = ap (settled plan) is ∙ ap (λ (b : Bool). cond b (flat_step (flat.Advance ends) g) g) due ∙ open_step (flat.Advance ends) g open' in
-    let absent : count_by (λ m. not (has_arrived (next_phase_of g.phase) m)) g.members ≡ length g.members = none_elsewhere g.phase (next_phase_of g.phase) g.members (next_differs g.phase) everyone in
+    let same : after plan call f ≡ next =
+    ap (settled plan) is ∙ ap (λ (b : Bool). cond b (flat_step (flat.Advance ends) g) g) due ∙ open_step (flat.Advance ends) g open' in
+    let absent : count_by (λ m. not (has_arrived (next_phase_of g.phase) m)) g.members ≡ length g.members =
+    none_elsewhere g.phase (next_phase_of g.phase) g.members (next_differs g.phase) everyone in
     record {
-      everyone = ap (λ (h : Flat). everyone_arrived f.phase h.members) is ∙ ap (λ (p : ℕ). everyone_arrived p g.members) (sym phase) ∙ everyone;
+      everyone =
+          ap (λ (h : Flat). everyone_arrived f.phase h.members) is ∙ ap (λ (p : ℕ). everyone_arrived p g.members) (sym phase) ∙ everyone;
       next = ap (λ (h : Flat). h.phase) same ∙ ap next_phase_of phase;
-      end = ap (λ (h : Flat). h.ended) same ∙ ap (λ (p : ℕ). count_ends plan p (registered g)) phase ∙ ap (λ (h : Flat). count_ends plan f.phase (registered h)) (sym is);
+      end =
+          ap (λ (h : Flat). h.ended) same ∙ ap (λ (p : ℕ). count_ends plan p (registered g)) phase
+          ∙ ap (λ (h : Flat). count_ends plan f.phase (registered h)) (sym is);
       everybody_stays = ap registered same ∙ ap registered (sym is);
       nobody_has_arrived = ap unarrived same ∙ absent ∙ ap registered (sym is);
     }
@@ -112,7 +122,8 @@ advanced plan call f g is due open' phase everyone =
 stayed : (plan : CountPlan) (call : Call) (f : Flat) → (called call f).due ≡ false → Stays plan call f
 stayed plan call f e =
     let g : Flat = called call f in
-    let same : after plan call f ≡ g = ap (λ (b : Bool). cond b (flat_step (flat.Advance (count_ends plan g.phase (registered g))) g) g) e in
+    let same : after plan call f ≡ g =
+    ap (λ (b : Bool). cond b (flat_step (flat.Advance (count_ends plan g.phase (registered g))) g) g) e in
     record { phase = ap (λ (h : Flat). h.phase) same ∙ called_phase call f; due = ap (λ (h : Flat). h.due) same ∙ e }
 
 pub moves_by_one : PhaseMovesByOne
@@ -136,7 +147,8 @@ bit_le : (b : Bool) → bit b ≤ 1
 bit_le true = omega arith
 bit_le false = omega arith
 
-marked_absent : (o p : ℕ) (ms : List Member) → count_by (λ m. not (has_arrived p m)) ms ≤ count_by (λ m. not (has_arrived p m)) (mark_one o p ms) + 1
+marked_absent : (o p : ℕ) (ms : List Member)
+    → count_by (λ m. not (has_arrived p m)) ms ≤ count_by (λ m. not (has_arrived p m)) (mark_one o p ms) + 1
 marked_absent o p [] = omega arith
 marked_absent o p (m ∷ ms) = ⊎_elim
     (λ (e : is_awaited o p m ≡ true).
@@ -152,7 +164,8 @@ marked_absent o p (m ∷ ms) = ⊎_elim
     rw e (omega arith))
     (either (is_awaited o p m))
 
-dropped_absent : (o p : ℕ) (ms : List Member) → count_by (λ m. not (has_arrived p m)) ms ≤ count_by (λ m. not (has_arrived p m)) (drop_one o p ms) + 1
+dropped_absent : (o p : ℕ) (ms : List Member)
+    → count_by (λ m. not (has_arrived p m)) ms ≤ count_by (λ m. not (has_arrived p m)) (drop_one o p ms) + 1
 dropped_absent o p [] = omega arith
 dropped_absent o p (m ∷ ms) = ⊎_elim
     (λ (e : is_awaited o p m ≡ true).
@@ -203,7 +216,8 @@ advances_here plan call f q e = ⊎_elim
     (either f.ended)
 
 -- the advance, as the words before and after a call show it
-pub advance_reported : (plan : CountPlan) (call : Call) (f : Flat) (w v : Fields) → v.unarrived ≤ v.parties → IsAlike f (flat_of w) → IsAlike (after plan call f) (flat_of v)
+pub advance_reported : (plan : CountPlan) (call : Call) (f : Flat) (w v : Fields) → v.unarrived ≤ v.parties → IsAlike f (flat_of w)
+    → IsAlike (after plan call f) (flat_of v)
     → cond {A = Option Advance} (nat_eq w.phase v.phase) None (Some (record { phase = w.phase; parties = v.parties })) ≡ advance_of call f
 advance_reported plan call f w v h a b = ⊎_elim
     (λ (e : (called call f).due ≡ true).
@@ -211,7 +225,9 @@ advance_reported plan call f w v h a b = ⊎_elim
     let next : v.phase ≡ next_phase_of w.phase = sym b.phase ∙ moved.next ∙ ap next_phase_of a.phase in
     let other : nat_eq w.phase v.phase ≡ false = ne_eqb w.phase v.phase (λ same. next_differs w.phase (same ∙ next)) in
     let count : v.parties ≡ registered (called call f) = sym (registered_is (after plan call f) v h b) ∙ moved.everybody_stays in
-    rw (other, e) (ap (λ (p : ℕ). Some (record { phase = p; parties = v.parties })) (sym a.phase) ∙ ap (λ (n : ℕ). Some (record { phase = f.phase; parties = n })) count))
+    rw (other, e)
+    (ap (λ (p : ℕ). Some (record { phase = p; parties = v.parties })) (sym a.phase)
+    ∙ ap (λ (n : ℕ). Some (record { phase = f.phase; parties = n })) count))
     (λ (e : (called call f).due ≡ false).
     let stays = stayed plan call f e in
     let same : nat_eq w.phase v.phase ≡ true = eq-eqb w.phase v.phase (sym a.phase ∙ sym stays.phase ∙ b.phase) in

@@ -48,25 +48,30 @@ count_ends_so : (plan : CountPlan) (phase count : ℕ) → (count < plan.least) 
 count_ends_so plan phase count (inl less) = rw (is_below count plan.least less) refl
 count_ends_so plan phase count (inr same) = right_true (nat_lt count plan.least) (is_at plan.at phase) (is_named plan.at phase same)
 
-end_ends_why : (plan : EndPlan) (phase : ℕ) (empty : Bool) → end_ends plan phase empty ≡ true → ((empty ≡ true) × (plan.when_empty ≡ true)) ⊎ (plan.at ≡ Some phase)
+end_ends_why : (plan : EndPlan) (phase : ℕ) (empty : Bool) → end_ends plan phase empty ≡ true
+    → ((empty ≡ true) × (plan.when_empty ≡ true)) ⊎ (plan.at ≡ Some phase)
 end_ends_why plan phase empty is =
-    elim (either_true (empty && plan.when_empty) (is_at plan.at phase) is) as (λ _. ((empty ≡ true) × (plan.when_empty ≡ true)) ⊎ (plan.at ≡ Some phase)) [
+    elim (either_true (empty && plan.when_empty) (is_at plan.at phase) is) as
+    (λ _. ((empty ≡ true) × (plan.when_empty ≡ true)) ⊎ (plan.at ≡ Some phase)) [
       | inl e ↦ inl (both empty plan.when_empty e)
       | inr e ↦ inr (named plan.at phase e)
     ]
 
-end_ends_so : (plan : EndPlan) (phase : ℕ) (empty : Bool) → ((empty ≡ true) × (plan.when_empty ≡ true)) ⊎ (plan.at ≡ Some phase) → end_ends plan phase empty ≡ true
+end_ends_so : (plan : EndPlan) (phase : ℕ) (empty : Bool) → ((empty ≡ true) × (plan.when_empty ≡ true)) ⊎ (plan.at ≡ Some phase)
+    → end_ends plan phase empty ≡ true
 end_ends_so plan phase empty (inl two) = rw (two.0, two.1) refl
 end_ends_so plan phase empty (inr same) = right_true (empty && plan.when_empty) (is_at plan.at phase) (is_named plan.at phase same)
 
-counted_ends_why : (plan : EndPlan) (phase count : ℕ) → end_ends_at plan phase count ≡ true → ((count ≡ 0) × (plan.when_empty ≡ true)) ⊎ (plan.at ≡ Some phase)
+counted_ends_why : (plan : EndPlan) (phase count : ℕ) → end_ends_at plan phase count ≡ true
+    → ((count ≡ 0) × (plan.when_empty ≡ true)) ⊎ (plan.at ≡ Some phase)
 counted_ends_why plan phase count is =
     elim (end_ends_why plan phase (count == 0) is) as (λ _. ((count ≡ 0) × (plan.when_empty ≡ true)) ⊎ (plan.at ≡ Some phase)) [
       | inl two ↦ inl (nobody count two.0, two.1)
       | inr same ↦ inr same
     ]
 
-counted_so : (plan : EndPlan) (phase count : ℕ) → ((count ≡ 0) × (plan.when_empty ≡ true)) ⊎ (plan.at ≡ Some phase) → end_ends_at plan phase count ≡ true
+counted_so : (plan : EndPlan) (phase count : ℕ) → ((count ≡ 0) × (plan.when_empty ≡ true)) ⊎ (plan.at ≡ Some phase)
+    → end_ends_at plan phase count ≡ true
 counted_so plan phase count (inl two) = end_ends_so plan phase (count == 0) (inl (ap (λ (n : ℕ). n == 0) two.0, two.1))
 counted_so plan phase count (inr same) = end_ends_so plan phase (count == 0) (inr same)
 

@@ -47,7 +47,8 @@ asks_no_plan p q call f d h =
     undue p q (called call f) (picked_due (is_refused (answer call f)) f (taken_by (step_of call) f) d (quiet_step call f d h))
 
 -- a reply that is no number is a refusal, but for waiting
-refused_else : (b c : Bool) (x y : ℤ) (e : OneFault) → is_number (cond {A = Reply} b (Number x) (cond {A = Reply} c (Refused e) (Number y))) ≡ false
+refused_else : (b c : Bool) (x y : ℤ) (e : OneFault)
+    → is_number (cond {A = Reply} b (Number x) (cond {A = Reply} c (Refused e) (Number y))) ≡ false
     → is_refused (cond {A = Reply} b (Number x) (cond {A = Reply} c (Refused e) (Number y))) ≡ true
 refused_else true c x y e h = no_contradiction (sym h)
 refused_else false true x y e h = refl
@@ -64,10 +65,14 @@ pub awaits_leave : (plan : CountPlan) (phase : ℤ) (f : Flat) → f.due ≡ fal
 awaits_leave plan phase f d = ap (settled plan) (picked_same (is_refused (answer (Await phase) f)) f) ∙ unchanged plan true f f d refl
 
 pub refusals_leave : RefusalsLeaveAll
-refusals_leave plan Register f d h = left_alone plan Register f d (refused_else f.ended (nat_lt 65535 (registered f + 1)) (shown f) (pos f.phase) Full h)
-refusals_leave plan (Bulk (pos n)) f d h = left_alone plan (Bulk (pos n)) f d (refused_else f.ended (nat_lt 65535 (registered f + n)) (shown f) (pos f.phase) Full h)
+refusals_leave plan Register f d h =
+    left_alone plan Register f d (refused_else f.ended (nat_lt 65535 (registered f + 1)) (shown f) (pos f.phase) Full h)
+refusals_leave plan (Bulk (pos n)) f d h =
+    left_alone plan (Bulk (pos n)) f d (refused_else f.ended (nat_lt 65535 (registered f + n)) (shown f) (pos f.phase) Full h)
 refusals_leave plan (Bulk (negsuc n)) f d h = left_alone plan (Bulk (negsuc n)) f d refl
-refusals_leave plan Arrive f d h = left_alone plan Arrive f d (refused_else f.ended (nat_eq (unarrived f) 0) (shown f) (pos f.phase) NobodyUnarrived h)
-refusals_leave plan Leave f d h = left_alone plan Leave f d (refused_else f.ended (nat_eq (unarrived f) 0) (shown f) (pos f.phase) NobodyUnarrived h)
+refusals_leave plan Arrive f d h =
+    left_alone plan Arrive f d (refused_else f.ended (nat_eq (unarrived f) 0) (shown f) (pos f.phase) NobodyUnarrived h)
+refusals_leave plan Leave f d h =
+    left_alone plan Leave f d (refused_else f.ended (nat_eq (unarrived f) 0) (shown f) (pos f.phase) NobodyUnarrived h)
 refusals_leave plan (Await p) f d h = awaits_leave plan p f d
 refusals_leave plan Force f d h = no_contradiction (sym h)

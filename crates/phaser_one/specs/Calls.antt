@@ -30,7 +30,8 @@ someone_in f =
     else if unarrived f == 0 then Refused NobodyUnarrived
     else Number (pos f.phase)
 
--- what waiting for the end of a phase answers: a negative number as it is, then the phase shown once ended, then another phase than the current one is over
+-- what waiting for the end of a phase answers: a negative number as it is, then the phase shown once ended, then another phase than the
+-- current one is over
 abbrev pub passed : ℤ → Flat → Reply
 passed (negsuc n) f = Number (negsuc n)
 passed (pos phase) f =

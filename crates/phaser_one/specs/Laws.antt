@@ -45,7 +45,8 @@ pub record IsCounted (w : Fields) : Type 0 where
 abbrev pub WordsAreSeen : Type 0
 WordsAreSeen = (w : Fields) → w.unarrived ≤ w.parties → IsCounted w
 
--- Waiting for the end of a phase is over at once for a negative number, after the end, and for another phase than the current one; else it goes on.
+-- Waiting for the end of a phase is over at once for a negative number, after the end, and for another phase than the current one; else it
+-- goes on.
 pub record AwaitTells (f : Flat) : Type 0 where
   pub negative : (n : ℕ) → answer (Await (negsuc n)) f ≡ Number (negsuc n)
   pub ended : f.ended ≡ true → (phase : ℕ) → answer (Await (pos phase)) f ≡ Number (shown_of f.phase true)
@@ -88,7 +89,8 @@ is_arrival _ = false
 
 -- Only arrivals and departures ask the plan: any other call leaves the same by each.
 abbrev pub OnlyArrivalsAskThePlan : Type 0
-OnlyArrivalsAskThePlan = (p q : CountPlan) (call : Call) (f : Flat) → f.due ≡ false → is_arrival call ≡ false → after p call f ≡ after q call f
+OnlyArrivalsAskThePlan =
+    (p q : CountPlan) (call : Call) (f : Flat) → f.due ≡ false → is_arrival call ≡ false → after p call f ≡ after q call f
 
 -- whether a reply is a phase
 abbrev pub is_number : Reply → Bool

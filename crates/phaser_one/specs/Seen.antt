@@ -20,13 +20,15 @@ pub record Single (F : Type 0) : Type 0 where
 
 -- members of one owner: those that have arrived in the phase, and those that haven't
 abbrev pub members_in : ℕ → ℕ → ℕ → List Member
-members_in phase arrived unarrived = replicate arrived (record { owner = 0; mark = Some phase }) ++ replicate unarrived (record { owner = 0; mark = None })
+members_in phase arrived unarrived =
+    replicate arrived (record { owner = 0; mark = Some phase }) ++ replicate unarrived (record { owner = 0; mark = None })
 
 -- the flat phaser of a word, in which no advance is due
 abbrev pub flat_of : Fields → Flat
 flat_of w = record { phase = w.phase; ended = w.ended; due = false; members = members_in w.phase (w.parties - w.unarrived) w.unarrived }
 
--- A call does to every flat phaser that is alike to the old word's what leaves one that is alike to the new word's, and answers what the call answers there.
+-- A call does to every flat phaser that is alike to the old word's what leaves one that is alike to the new word's, and answers what the
+-- call answers there.
 abbrev pub Follows : CountPlan → Call → Fields → Fields → Reply → Type 0
 Follows plan call old new reply = (f : Flat) → IsAlike f (flat_of old) → IsAlike (after plan call f) (flat_of new) × (reply ≡ answer call f)
 

@@ -11,7 +11,10 @@ none parties e = ap most_unarrived e
 
 with_parties : (w : Fields) → w.phase < 2147483648 → 0 < w.parties → w.parties < 65536 → IsLegal w ↔ (w.unarrived ≤ w.parties)
 with_parties w early some_parties few = (
-  λ legal. (let most : w.unarrived ≤ most_unarrived w.parties = legal.unarrived in let e = some w.parties some_parties in omega (arith, most, e)),
+  λ legal.
+      (let most : w.unarrived ≤ most_unarrived w.parties = legal.unarrived in
+      let e = some w.parties some_parties in
+      omega (arith, most, e)),
   λ counted. record {
     phase = omega (arith, early);
     parties = omega (arith, few);
@@ -21,7 +24,8 @@ with_parties w early some_parties few = (
 
 empty : (w : Fields) → w.phase < 2147483648 → w.parties ≡ 0 → IsLegal w ↔ (w.unarrived < 3)
 empty w early no_parties = (
-  λ legal. (let most : w.unarrived ≤ most_unarrived w.parties = legal.unarrived in let e = none w.parties no_parties in omega (arith, most, e)),
+  λ legal.
+      (let most : w.unarrived ≤ most_unarrived w.parties = legal.unarrived in let e = none w.parties no_parties in omega (arith, most, e)),
   λ mark. record {
     phase = omega (arith, early);
     parties = omega (arith, no_parties);

@@ -32,7 +32,8 @@ tried_first crew door = record {
   door_made = ([], refl, tt);
 }
 
-pub tried_more : {old crew new door went after : Holding} → HaveTried old crew door went → HaveTried crew new went after → HaveTried old new door after
+pub tried_more : {old crew new door went after : Holding} → HaveTried old crew door went → HaveTried crew new went after
+    → HaveTried old new door after
 tried_more x y = record {
   crew_tree = y.crew_tree ∙ x.crew_tree;
   door_tree = y.door_tree ∙ x.door_tree;
@@ -55,8 +56,10 @@ spent_tried x = record {
 }
 
 -- the phase that is answered is that of the members
-pub joined_phase : {tries n phase : ℕ} {old new door crew : Holding} → BringsAtLast tries old new door n (admitted.Joined crew phase) → BringsAtLast tries old new door n (admitted.Joined crew crew.view.phase)
-joined_phase {tries} {n} {phase} {old} {new} {door} {crew} x = subst (λ (p : ℕ). BringsAtLast tries old new door n (admitted.Joined crew p)) x.last.joins.3 x
+pub joined_phase : {tries n phase : ℕ} {old new door crew : Holding} → BringsAtLast tries old new door n (admitted.Joined crew phase)
+    → BringsAtLast tries old new door n (admitted.Joined crew crew.view.phase)
+joined_phase {tries} {n} {phase} {old} {new} {door} {crew} x =
+    subst (λ (p : ℕ). BringsAtLast tries old new door n (admitted.Joined crew p)) x.last.joins.3 x
 
 -- a member that has not arrived is unarrived after a look too
 pub unarrived_still : {v u : View} → IsLooked v u → v.arrived < v.size → u.arrived ≡ u.size → ⊥

@@ -1,7 +1,8 @@
 -- A loop that appends something for each item of a list to another.
 use Rattle.std.proofs.Common.{◌≡◌, zero, suc, ℕ, ◌<◌, List, [], ◌∷◌, ◌++◌, length, All, sym, ◌∙◌, ap, subst, append_assoc, arith}
 
-pub moved : {A : Type 0} (done more rest others all : List A) (x : A) → rest ≡ x ∷ others → more ≡ done ++ (x ∷ []) → done ++ rest ≡ all → more ++ others ≡ all
+pub moved : {A : Type 0} (done more rest others all : List A) (x : A) → rest ≡ x ∷ others → more ≡ done ++ (x ∷ []) → done ++ rest ≡ all
+    → more ++ others ≡ all
 moved done more rest others all x r m e = ap (λ z. z ++ others) m ∙ (append_assoc done (x ∷ []) others ∙ (ap (λ z. done ++ z) (sym r) ∙ e))
 
 -- the first item, and the others

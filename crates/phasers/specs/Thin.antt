@@ -62,8 +62,8 @@ awaited_of (Ok phase) = awaited.Passed phase
 awaited_of (Err (unmet.Here phase)) = awaited.Here phase
 awaited_of (Err (unmet.Ended shown)) = awaited.Ended shown
 
--- The words that a closed tree leaves: they tally with its first token, which has no members, and with others. They are those to which steps on the tree have
--- led, and its first token has made none but those that it had made before.
+-- The words that a closed tree leaves: they tally with its first token, which has no members, and with others. They are those to which
+-- steps on the tree have led, and its first token has made none but those that it had made before.
 pub record LeavesWords (first : Holding) (words : List Fields) : Type 0 where
   pub none : first.view.size ≡ 0
   pub tally : TallyWithOthers first.tree.key.shape words (first.view ∷ [])
@@ -154,4 +154,5 @@ pub record LeavesNext (old : Holding) (answer : ArrivedAtLast) : Type 0 where
 
 -- what a party answers of which a member leaves: at once, or in the next phase if all members had arrived
 abbrev pub Leaves : Holding → ArrivedAtLast → Type 0
-Leaves old answer = Departs old answer ⊎ ((mid : Holding) × (phase : ℕ) × Departs old (counted.AlreadyArrived mid phase) × LeavesNext mid answer)
+Leaves old answer =
+    Departs old answer ⊎ ((mid : Holding) × (phase : ℕ) × Departs old (counted.AlreadyArrived mid phase) × LeavesNext mid answer)

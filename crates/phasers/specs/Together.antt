@@ -50,12 +50,14 @@ group_registered (own_joined.Full guest count) = registered.Full guest count
 group_registered (own_joined.Ended guest shown) = registered.Ended guest shown
 group_registered (own_joined.PartlyEnded parties shown) = registered.PartlyEnded parties shown
 
--- Why some members have not joined at the leaves: memory ran out, a leaf was to have more than it has room for, there are more counts than leaves, or a leaf has stopped.
+-- Why some members have not joined at the leaves: memory ran out, a leaf was to have more than it has room for, there are more counts than
+-- leaves, or a leaf has stopped.
 abbrev pub JoinsNot : {A : Type 0} → ℕ → Named → ℕ → List ℕ → Unjoined A → Type 0
 JoinsNot tries n phase counts (Memory fault) = Unit {0}
 JoinsNot tries n phase counts (Full tier members) = IsFirstFull (leaves_of n.key.shape) counts tier members
 JoinsNot tries n phase counts (NoLeaf leaves) = (leaves ≡ length (leaves_of n.key.shape)) × (leaves < length counts)
-JoinsNot tries n phase counts (Stopped parties tier answer) = HaveRoom counts × StopsAt tries n phase (leaves_of n.key.shape) counts parties.items tier (group_registered answer)
+JoinsNot tries n phase counts (Stopped parties tier answer) =
+    HaveRoom counts × StopsAt tries n phase (leaves_of n.key.shape) counts parties.items tier (group_registered answer)
 
 -- A guest that has just read the root, off which only other tokens were split, and parties at the leaves, all unarrived in its phase.
 pub record BeginsIn (n : Named) (counts : List ℕ) (guest : Holding) (parties : List GroupHeld) : Type 0 where
@@ -72,4 +74,5 @@ BeginsNotIn tries n counts fault = (guest : Holding) × IsSat n guest × JoinsNo
 
 -- The last `n` of the members are split off, and leave all together.
 abbrev pub LeavesSome : {A : Type 0} → ℕ → ℕ → GroupHeld → GroupHeld → PartiesLeft A → Type 0
-LeavesSome tries n old new answer = (others : GroupHeld) × SplitAt (length old.tokens - n) old new others × LeavesAllAtLast tries others (group_left answer)
+LeavesSome tries n old new answer =
+    (others : GroupHeld) × SplitAt (length old.tokens - n) old new others × LeavesAllAtLast tries others (group_left answer)

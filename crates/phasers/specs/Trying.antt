@@ -39,7 +39,8 @@ abbrev pub TriesToMeet : {A : Type 0} → Holding → ℕ → Met A → Type 0
 TriesToMeet old tries (met.Passed party phase) = MeetsBy old party tries (polled.Passed phase)
 TriesToMeet old tries (met.Waiting party) = MeetsBy old party tries polled.Waiting
 TriesToMeet old tries (met.Here party phase) = MeetsBy old party tries (polled.Here phase)
-TriesToMeet old tries (met.Ended party shown) = Arrives Arrival old tries (arrived.Ended party shown) ⊎ MeetsBy old party tries (polled.Ended shown)
+TriesToMeet old tries (met.Ended party shown) =
+    Arrives Arrival old tries (arrived.Ended party shown) ⊎ MeetsBy old party tries (polled.Ended shown)
 TriesToMeet old tries (met.Busy party) = Arrives Arrival old tries (arrived.Busy party)
 TriesToMeet old tries (met.Owing owed) = Arrives Arrival old tries (arrived.Owing owed)
 

@@ -28,16 +28,20 @@ module _ {S T : Type 0} (r : Reading S T) (arrays : List (List ℕ × List ℤ))
       }
 
       no : new ≡ fresh_part old.first [] → IsPartOf r arrays live step new
-      no e = subst (IsPartOf r arrays live step) (sym e) (record { olds = []; back = drop old.first live; live_from = refl; reported = refl })
+      no e =
+          subst (IsPartOf r arrays live step) (sym e) (record { olds = []; back = drop old.first live; live_from = refl; reported = refl })
 
   -- whichever way a run of them ended
-  pub run_is_part : {X E : Type 0} (answer : Result X E) (old new : PartValue S) → IsPartOf r arrays live step old → old.done ≡ false → new.first ≡ old.first
-      → OnOk answer (new.done ≡ true) → OnOk answer (HasRun r arrays step old.tasks new) → OnOk answer (length new.tasks ≡ length old.tasks) → OnErr answer (new ≡ fresh_part old.first [])
+  pub run_is_part : {X E : Type 0} (answer : Result X E) (old new : PartValue S) → IsPartOf r arrays live step old → old.done ≡ false
+      → new.first ≡ old.first
+      → OnOk answer (new.done ≡ true) → OnOk answer (HasRun r arrays step old.tasks new) → OnOk answer (length new.tasks ≡ length old.tasks)
+      → OnErr answer (new ≡ fresh_part old.first [])
       → IsPartOf r arrays live step new
   run_is_part (Ok x) old new h n first done ran count lost = ran_is_part old new h n first (inl (done, ran, count))
   run_is_part (Err e) old new h n first done ran count lost = ran_is_part old new h n first (inr lost)
 
-  pub own_get : (parts : List (Option (PartValue S))) (k : ℕ) (part : PartValue S) → AreOwn r arrays live step parts → slice_get parts k ≡ Some (Some part) → IsPartOf r arrays live step part
+  pub own_get : (parts : List (Option (PartValue S))) (k : ℕ) (part : PartValue S) → AreOwn r arrays live step parts
+      → slice_get parts k ≡ Some (Some part) → IsPartOf r arrays live step part
   own_get [] k part own e = cc
   own_get (s ∷ ss) zero part own e = subst (IsOwn r arrays live step) (unwrapped e) own.0
     where
@@ -49,14 +53,16 @@ module _ {S T : Type 0} (r : Reading S T) (arrays : List (List ℕ × List ℤ))
       unwrapped e = ap value e
   own_get (s ∷ ss) (suc k) part own e = own_get ss k part own.1 e
 
-  pub own_set : (parts : List (Option (PartValue S))) (k : ℕ) (s : Option (PartValue S)) → AreOwn r arrays live step parts → IsOwn r arrays live step s → AreOwn r arrays live step (slice_set parts k s)
+  pub own_set : (parts : List (Option (PartValue S))) (k : ℕ) (s : Option (PartValue S)) → AreOwn r arrays live step parts
+      → IsOwn r arrays live step s → AreOwn r arrays live step (slice_set parts k s)
   own_set [] k s own h = tt
   own_set (x ∷ ss) zero s own h = (h, own.1)
   own_set (x ∷ ss) (suc k) s own h = (own.0, own_set ss k s own.1 h)
 
 module _ {S T : Type 0} (r : Reading S T) (arrays : List (List ℕ × List ℤ)) (step : ℕ) where
   -- stretches that haven't run are of their own tasks
-  fresh_from : (at : ℕ) (ss : List (Option (PartValue S))) (live : List S) → drop at live ≡ tasks_in ss → AreFresh at ss → AreOwn r arrays live step ss
+  fresh_from : (at : ℕ) (ss : List (Option (PartValue S))) (live : List S) → drop at live ≡ tasks_in ss → AreFresh at ss
+      → AreOwn r arrays live step ss
   fresh_from at [] live e h = tt
   fresh_from at (None ∷ ss) live e h = absurd h
   fresh_from at (Some part ∷ ss) live e h = (
@@ -64,7 +70,9 @@ module _ {S T : Type 0} (r : Reading S T) (arrays : List (List ℕ × List ℤ))
       olds = part.tasks;
       back = tasks_in ss;
       live_from = ap (λ (k : ℕ). drop k live) (ap (λ (p : PartValue S). p.first) h.0) ∙ e;
-      reported = subst (λ b. HasDone r arrays step b part.tasks part) (sym (ap (λ (p : PartValue S). p.done) h.0)) (h.0 ∙ ap (λ (k : ℕ). fresh_part k part.tasks) (sym (ap (λ (p : PartValue S). p.first) h.0)));
+      reported =
+          subst (λ b. HasDone r arrays step b part.tasks part) (sym (ap (λ (p : PartValue S). p.done) h.0))
+          (h.0 ∙ ap (λ (k : ℕ). fresh_part k part.tasks) (sym (ap (λ (p : PartValue S). p.first) h.0)));
     },
     fresh_from (at + length part.tasks) ss live (drop_more live part.tasks (tasks_in ss) at (length part.tasks) e refl) h.1,
   )
@@ -95,7 +103,8 @@ module _ {S : Type 0} where
   some_there [] k s e n = cc
   some_there (x ∷ ss) k s e n = cc
 
-  pub there_inside : (parts : List (Option (PartValue S))) (k : ℕ) (s : Option (PartValue S)) → slice_get parts k ≡ Some s → k < length parts
+  pub there_inside : (parts : List (Option (PartValue S))) (k : ℕ) (s : Option (PartValue S)) → slice_get parts k ≡ Some s
+      → k < length parts
   there_inside [] k s e = cc
   there_inside (x ∷ ss) zero s e = omega arith
   there_inside (x ∷ ss) (suc k) s e = let l = there_inside ss k s e in omega (arith, l)

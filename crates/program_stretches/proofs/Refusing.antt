@@ -20,26 +20,30 @@ gone : {S : Type 0} {o : Option (Option (PartValue S))} → is_there o ≡ true 
 gone h k = not_both h (ap is_there k)
 
 module _ {Q S : Type 0} where
-  by_step : (fault : AcceptStretchFault) (v : StretchesValue Q S) (s : StretchValue Q S) → Refuses fault v s → s.step ≢ v.step → fault ≡ WrongStep
+  by_step : (fault : AcceptStretchFault) (v : StretchesValue Q S) (s : StretchValue Q S) → Refuses fault v s → s.step ≢ v.step
+      → fault ≡ WrongStep
   by_step WrongStep v s h k = refl
   by_step Unfinished v s h k = absurd (k h.0)
   by_step Stranger v s h k = absurd (k h.0)
   by_step Double v s h k = absurd (k h.0)
 
-  unfinished : (fault : AcceptStretchFault) (v : StretchesValue Q S) (s : StretchValue Q S) → Refuses fault v s → s.step ≡ v.step → s.part.done ≡ false → fault ≡ Unfinished
+  unfinished : (fault : AcceptStretchFault) (v : StretchesValue Q S) (s : StretchValue Q S) → Refuses fault v s → s.step ≡ v.step
+      → s.part.done ≡ false → fault ≡ Unfinished
   unfinished WrongStep v s h e k = absurd (h e)
   unfinished Unfinished v s h e k = refl
   unfinished Stranger v s h e k = absurd (not_both h.1 k)
   unfinished Double v s h e k = absurd (not_both h.1 k)
 
-  by_number : (fault : AcceptStretchFault) (v : StretchesValue Q S) (s : StretchValue Q S) → Refuses fault v s → s.step ≡ v.step → s.part.done ≡ true
+  by_number : (fault : AcceptStretchFault) (v : StretchesValue Q S) (s : StretchValue Q S) → Refuses fault v s → s.step ≡ v.step
+      → s.part.done ≡ true
       → slice_get v.parts s.number ≡ None → fault ≡ Stranger
   by_number WrongStep v s h e f k = absurd (h e)
   by_number Unfinished v s h e f k = absurd (not_both f h.1)
   by_number Stranger v s h e f k = refl
   by_number Double v s h e f k = absurd (nowhere h.2 k)
 
-  there : (fault : AcceptStretchFault) (v : StretchesValue Q S) (s : StretchValue Q S) (part : PartValue S) → Refuses fault v s → s.step ≡ v.step → s.part.done ≡ true
+  there : (fault : AcceptStretchFault) (v : StretchesValue Q S) (s : StretchValue Q S) (part : PartValue S) → Refuses fault v s
+      → s.step ≡ v.step → s.part.done ≡ true
       → slice_get v.parts s.number ≡ Some (Some part) → fault ≡ Double
   there WrongStep v s part h e f k = absurd (h e)
   there Unfinished v s part h e f k = absurd (not_both f h.1)

@@ -21,7 +21,8 @@ same_number n = grind arith
 
 module _ {S : Type 0} where
   -- those of all live tasks cover them
-  pub fresh_covers : (end at : ℕ) (ss : List (Option (PartValue S))) → AreFresh at ss → end ≡ at + length (tasks_in ss) → covers false end at ss ≡ true
+  pub fresh_covers : (end at : ℕ) (ss : List (Option (PartValue S))) → AreFresh at ss → end ≡ at + length (tasks_in ss)
+      → covers false end at ss ≡ true
   fresh_covers end at [] h e = ap (λ (n : ℕ). at == n) (let k : end ≡ at = omega (arith, e) in k) ∙ same_number at
   fresh_covers end at (None ∷ ss) h e = absurd h
   fresh_covers end at (Some part ∷ ss) h e =
@@ -69,7 +70,9 @@ module _ {S : Type 0} where
   renewed_same ks ss e = sym (renewed_kept ks) ∙ ap (map renewed) e ∙ renewed_kept ss
 
 -- it is the same whether puts were moved away
-pub reopened_from : {Q S : Type 0} (path : S → List ℕ) (o : Outcome) (step : ℕ) (ks ss : List (Option (PartValue S))) (v : StretchesValue Q S) → map without_puts ks ≡ map without_puts ss
+pub reopened_from : {Q S : Type 0} (path : S → List ℕ) (o : Outcome) (step : ℕ) (ks ss : List (Option (PartValue S)))
+    (v : StretchesValue Q S)
+    → map without_puts ks ≡ map without_puts ss
     → IsReopened path o step ks v → IsReopened path o step ss v
 reopened_from path Landed step ks ss v e h = (
   h.0,

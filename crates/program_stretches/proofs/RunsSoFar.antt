@@ -16,7 +16,8 @@ use Rattle.program_stretches.proofs.Owning.{fresh_own, own_set, some_there}
 use Rattle.program_stretches.proofs.Taken.{reached_next}
 
 -- the starts are those of any run with the same states
-pub same_states : {Q S T : Type 0} (meant : S → T) (log : List (SuperstepStartValue Q S)) (states next : ℕ → State T) → ((n : ℕ) → n < length log → next n ≡ states n) → AllOpen meant log states → AllOpen meant log next
+pub same_states : {Q S T : Type 0} (meant : S → T) (log : List (SuperstepStartValue Q S)) (states next : ℕ → State T)
+    → ((n : ℕ) → n < length log → next n ≡ states n) → AllOpen meant log states → AllOpen meant log next
 same_states meant [] states next same h = tt
 same_states meant (o ∷ older) states next same h = (
   subst (Opens meant o (length older)) (sym (same (length older) (omega arith))) h.0,
@@ -25,7 +26,8 @@ same_states meant (o ∷ older) states next same h = (
 
 module _ {Q S T : Type 0} (m : Q → Reading S T) where
   -- before the first superstep
-  pub run_begun : (v : StretchesValue Q S) (o : SuperstepStartValue Q S) → v.log ≡ o ∷ [] → v.program ≡ o.program → v.most ≡ o.most → v.limit ≡ o.limit → v.arrays ≡ o.arrays → v.parts ≡ o.parts → AreFresh 0 o.parts
+  pub run_begun : (v : StretchesValue Q S) (o : SuperstepStartValue Q S) → v.log ≡ o ∷ [] → v.program ≡ o.program → v.most ≡ o.most
+      → v.limit ≡ o.limit → v.arrays ≡ o.arrays → v.parts ≡ o.parts → AreFresh 0 o.parts
       → map (m v.program).path (live_of o) ≡ children [] 0 (length (live_of o)) → v.count ≡ length (live_of o) → length (live_of o) ≤ v.most
       → v.step ≡ 0 → v.prints ≡ [] → v.records ≡ [] → v.fault ≡ None → v.given ≡ 0 → IsRunSoFar m v
   run_begun v o log program most limit arrays parts fresh paths count few es ep er ef eg =
@@ -41,9 +43,13 @@ module _ {Q S T : Type 0} (m : Q → Reading S T) where
             entered = λ n lt. absurd (omega (arith, lt));
             within = omega (arith, eg);
             count = λ none. sym es;
-            state = λ i. with_earlier (so_far (says_by (m q).frame v.most []) o.arrays live v.limit (eg i)) (record { step = es i; arrays = arrays i; live = live; prints = ep i; records = er i; fault = ef i });
+            state =
+                λ i. with_earlier (so_far (says_by (m q).frame v.most []) o.arrays live v.limit (eg i))
+                (record { step = es i; arrays = arrays i; live = live; prints = ep i; records = er i; fault = ef i });
           };
-          all_open = subst (λ (os : List (SuperstepStartValue Q S)). AllOpen (m q).meant os (states_by (m q) v.most [] o v.limit)) (sym log) (record { step = refl; arrays = refl; live = refl }, tt);
+          all_open =
+              subst (λ (os : List (SuperstepStartValue Q S)). AllOpen (m q).meant os (states_by (m q) v.most [] o v.limit)) (sym log)
+              (record { step = refl; arrays = refl; live = refl }, tt);
           as_long = omega arith;
           count = count ∙ sym l;
           few = omega (arith, l, few);
@@ -61,7 +67,8 @@ module _ {Q S T : Type 0} (m : Q → Reading S T) where
       }
 
   -- what the status says of the live tasks
-  status_same : (limit step : ℕ) (fault : Option (ℕ × List ℕ)) (count : ℕ) (live : List T) → count ≡ length live → status_of limit step fault live ≡ status_for limit step fault count
+  status_same : (limit step : ℕ) (fault : Option (ℕ × List ℕ)) (count : ℕ) (live : List T) → count ≡ length live
+      → status_of limit step fault live ≡ status_for limit step fault count
   status_same limit step (Some f) count live e = refl
   status_same limit step None zero [] e = refl
   status_same limit step None zero (t ∷ live) e = absurd (omega arith)
@@ -80,9 +87,12 @@ module _ {Q S T : Type 0} (m : Q → Reading S T) where
       by (Some f) e = cc
 
   -- one superstep more
-  pub after_next : (v w : StretchesValue Q S) (live next : List T) → ((t : S) → (m v.program).frame.path ((m v.program).meant t) ≡ (m v.program).path t) → (h : IsAfter m v live) → status_in v ≡ None → length v.log ≡ v.step + 1
+  pub after_next : (v w : StretchesValue Q S) (live next : List T)
+      → ((t : S) → (m v.program).frame.path ((m v.program).meant t) ≡ (m v.program).path t) → (h : IsAfter m v live) → status_in v ≡ None
+      → length v.log ≡ v.step + 1
       → IsStep (m v.program).frame (m v.program).may v.most (state_with v live) (state_with w next)
-      → w.log ≡ v.log → w.program ≡ v.program → w.most ≡ v.most → w.limit ≡ v.limit → w.given ≡ v.given → w.count ≡ length next → length next ≤ w.most → IsAfter m w next
+      → w.log ≡ v.log → w.program ≡ v.program → w.most ≡ v.most → w.limit ≡ v.limit → w.given ≡ v.given → w.count ≡ length next
+      → length next ≤ w.most → IsAfter m w next
   after_next v w live next law h run long s log program most limit given count few =
       let first = h.begun.first in
       let r = h.reached in
@@ -92,25 +102,40 @@ module _ {Q S T : Type 0} (m : Q → Reading S T) where
       subst (λ (x : StretchesValue Q S). IsAfter m x next)
       (λ i. record w { log = sym log i; program = sym program i; most = sym most i; limit = sym limit i; given = sym given i })
       (record {
-        begun = record { first = first; since = h.begun.since; is = h.begun.is; program = h.begun.program; most = h.begun.most; limit = h.begun.limit; paths = h.begun.paths };
-        reached = reached_next (m v.program) law v.most first.arrays (map (m v.program).meant (live_of first)) v.limit v.given (state_with v live) (state_with w next) r (status_is v live h.count ∙ run) s;
+        begun =
+            record {
+              first = first;
+              since = h.begun.since;
+              is = h.begun.is;
+              program = h.begun.program;
+              most = h.begun.most;
+              limit = h.begun.limit;
+              paths = h.begun.paths;
+            };
+        reached =
+            reached_next (m v.program) law v.most first.arrays (map (m v.program).meant (live_of first)) v.limit v.given (state_with v live)
+            (state_with w next) r (status_is v live h.count ∙ run) s;
         all_open =
-            same_states (m v.program).meant v.log (states_by (m v.program) v.most r.history first v.limit) (states_by (m v.program) v.most (r.history ++ es ∷ []) first v.limit)
-            (λ n lt. so_far_more (m v.program).frame v.most r.history (es ∷ []) first.arrays (map (m v.program).meant (live_of first)) v.limit n (omega (arith, lt, k, long))) h.all_open;
+            same_states (m v.program).meant v.log (states_by (m v.program) v.most r.history first v.limit)
+            (states_by (m v.program) v.most (r.history ++ es ∷ []) first v.limit)
+            (λ n lt. so_far_more (m v.program).frame v.most r.history (es ∷ []) first.arrays (map (m v.program).meant (live_of first)) v.limit n (omega (arith, lt, k, long)))
+            h.all_open;
         as_long = omega (arith, l, k, long);
         count = count;
         few = subst (λ (n : ℕ). length next ≤ n) most few;
       })
 
   -- the next superstep is opened
-  pub run_opened : (v w : StretchesValue Q S) (o : SuperstepStartValue Q S) → (h : IsAfter m v (map (m v.program).meant (live_of o))) → v.fault ≡ None → length v.log ≡ v.step → AreFresh 0 o.parts → o.program ≡ v.program → o.arrays ≡ v.arrays
+  pub run_opened : (v w : StretchesValue Q S) (o : SuperstepStartValue Q S) → (h : IsAfter m v (map (m v.program).meant (live_of o)))
+      → v.fault ≡ None → length v.log ≡ v.step → AreFresh 0 o.parts → o.program ≡ v.program → o.arrays ≡ v.arrays
       → w ≡ record v { log = o ∷ v.log; parts = o.parts } → IsRunSoFar m w
   run_opened v w o h calm count fresh program arrays is =
       let q = v.program in
       let r = h.reached in
       let k = r.count calm in
       let states = states_by (m q) v.most r.history h.begun.first v.limit in
-      let now : states (length v.log) ≡ with_earlier (states v.given) (state_with v (map (m q).meant (live_of o))) = ap states (count ∙ sym k) ∙ sym r.state in
+      let now : states (length v.log) ≡ with_earlier (states v.given) (state_with v (map (m q).meant (live_of o))) =
+      ap states (count ∙ sym k) ∙ sym r.state in
       let opened : StretchesValue Q S = record v { log = o ∷ v.log; parts = o.parts } in
       subst (IsRunSoFar m) (sym is) (record {
         live = map (m q).meant (live_of o);
@@ -125,7 +150,14 @@ module _ {Q S T : Type 0} (m : Q → Reading S T) where
             paths = h.begun.paths;
           };
           reached = r;
-          all_open = (record { step = ap (λ (x : State T). x.step) now ∙ sym count; arrays = ap (λ (x : State T). x.arrays) now ∙ sym arrays; live = ap (λ (x : State T). x.live) now }, h.all_open);
+          all_open = (
+            record {
+              step = ap (λ (x : State T). x.step) now ∙ sym count;
+              arrays = ap (λ (x : State T). x.arrays) now ∙ sym arrays;
+              live = ap (λ (x : State T). x.live) now;
+            },
+            h.all_open,
+          );
           as_long = omega (arith, k, count);
           count = h.count;
           few = h.few;
@@ -143,7 +175,8 @@ module _ {Q S T : Type 0} (m : Q → Reading S T) where
       })
 
   -- what was printed and recorded is given away
-  pub run_given : (v w : StretchesValue Q S) → IsRunSoFar m v → v.fault ≡ None → w ≡ record v { prints = []; records = []; given = v.step } → IsRunSoFar m w
+  pub run_given : (v w : StretchesValue Q S) → IsRunSoFar m v → v.fault ≡ None → w ≡ record v { prints = []; records = []; given = v.step }
+      → IsRunSoFar m w
   run_given v w h none is =
       let q = v.program in
       let r = h.after.reached in
@@ -157,7 +190,8 @@ module _ {Q S T : Type 0} (m : Q → Reading S T) where
       subst (IsRunSoFar m) (sym is) (record {
         live = h.live;
         after = record {
-          begun = record { first = b.first; since = b.since; is = b.is; program = b.program; most = b.most; limit = b.limit; paths = b.paths };
+          begun =
+              record { first = b.first; since = b.since; is = b.is; program = b.program; most = b.most; limit = b.limit; paths = b.paths };
           reached = record {
             history = r.history;
             entered = r.entered;
@@ -190,20 +224,32 @@ module _ {Q S T : Type 0} (m : Q → Reading S T) where
       last d [] = d
       last d (x ∷ xs) = last x xs
 
-      last_of : (d : SuperstepStartValue Q S) → (xs : List (SuperstepStartValue Q S)) (y : SuperstepStartValue Q S) → last d (xs ++ y ∷ []) ≡ y
+      last_of : (d : SuperstepStartValue Q S) → (xs : List (SuperstepStartValue Q S)) (y : SuperstepStartValue Q S)
+          → last d (xs ++ y ∷ []) ≡ y
       last_of d [] y = refl
       last_of d (x ∷ xs) y = last_of x xs y
 
   -- where there is a stretch, or was one, the superstep is opened
-  pub is_open : (v : StretchesValue Q S) (h : IsRunSoFar m v) (k : ℕ) (s : Option (PartValue S)) → slice_get v.parts k ≡ Some s → IsOpen m v h.live
+  pub is_open : (v : StretchesValue Q S) (h : IsRunSoFar m v) (k : ℕ) (s : Option (PartValue S)) → slice_get v.parts k ≡ Some s
+      → IsOpen m v h.live
   is_open v h k s e = ⊎_elim (λ n. absurd (some_there v.parts k s e n)) (λ o. o) h.opened
 
   -- one stretch is changed
-  pub run_slot : (v : StretchesValue Q S) (k : ℕ) (s : Option (PartValue S)) (h : IsRunSoFar m v) (o : IsOpen m v h.live) → IsOwn (m v.program) v.arrays (live_of o.start) v.step s → IsRunSoFar m (with_slot v k s)
+  pub run_slot : (v : StretchesValue Q S) (k : ℕ) (s : Option (PartValue S)) (h : IsRunSoFar m v) (o : IsOpen m v h.live)
+      → IsOwn (m v.program) v.arrays (live_of o.start) v.step s → IsRunSoFar m (with_slot v k s)
   run_slot v k s h o own = record {
     live = h.live;
     after = record {
-      begun = record { first = h.after.begun.first; since = h.after.begun.since; is = h.after.begun.is; program = h.after.begun.program; most = h.after.begun.most; limit = h.after.begun.limit; paths = h.after.begun.paths };
+      begun =
+          record {
+            first = h.after.begun.first;
+            since = h.after.begun.since;
+            is = h.after.begun.is;
+            program = h.after.begun.program;
+            most = h.after.begun.most;
+            limit = h.after.begun.limit;
+            paths = h.after.begun.paths;
+          };
       reached = h.after.reached;
       all_open = h.after.all_open;
       as_long = h.after.as_long;
@@ -230,7 +276,8 @@ module _ {Q S T : Type 0} (m : Q → Reading S T) where
       first d (x ∷ xs) = x
 
   -- a stretch that comes back is of the live tasks
-  pub own_back : (ready : Q → Type 0) (v : StretchesValue Q S) (h : IsRunSoFar m v) (o : IsOpen m v h.live) (s : StretchValue Q S) (k : IsStretch m ready s) (since : List (SuperstepStartValue Q S))
+  pub own_back : (ready : Q → Type 0) (v : StretchesValue Q S) (h : IsRunSoFar m v) (o : IsOpen m v h.live) (s : StretchValue Q S)
+      (k : IsStretch m ready s) (since : List (SuperstepStartValue Q S))
       → v.log ≡ since ++ s.log → s.step ≡ v.step → IsPartOf (m v.program) v.arrays (live_of o.start) v.step s.part
   own_back ready v h o s k since e step =
       let a = k.count in

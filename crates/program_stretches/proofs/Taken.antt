@@ -34,7 +34,8 @@ use Rattle.program_stretches.specs.declared.fault.Outcome.TheVariants.{Landed, F
 use Rattle.program_stretches.specs.Did.{DidAll, IsStep, IsStepTo, outcome_by, outcome_of}
 
 -- what was printed and recorded before changes nothing of a superstep
-closed_later : {T : Type 0} (s : Says T) (early st : State T) (ss : List (List ℕ × Segment T)) (o : Option (ℕ × List ℕ)) → closed s.path (with_earlier early st) ss o ≡ with_earlier early (closed s.path st ss o)
+closed_later : {T : Type 0} (s : Says T) (early st : State T) (ss : List (List ℕ × Segment T)) (o : Option (ℕ × List ℕ))
+    → closed s.path (with_earlier early st) ss o ≡ with_earlier early (closed s.path st ss o)
 closed_later s early st ss (Some f) = refl
 closed_later s early st ss None = λ i. record {
   step = st.step + 1;
@@ -45,13 +46,15 @@ closed_later s early st ss None = λ i. record {
   fault = None;
 }
 
-pub superstep_later : {T : Type 0} (s : Says T) (early st : State T) → superstep s (with_earlier early st) ≡ with_earlier early (superstep s st)
+pub superstep_later : {T : Type 0} (s : Says T) (early st : State T)
+    → superstep s (with_earlier early st) ≡ with_earlier early (superstep s st)
 superstep_later s early st =
     closed_later s early st (segments s st.arrays st.step st.live) (fault_in s.path s.most st.arrays (segments s st.arrays st.step st.live))
 
 -- a superstep without a fault goes on to the next step
 pub moved : {T : Type 0} (s : Says T) (st next : State T) → superstep s st ≡ next → next.fault ≡ None → next.step ≡ st.step + 1
-moved {T} s st next e none = ap (λ (x : State T). x.step) (sym e) ∙ by (fault_in s.path s.most st.arrays ss) (ap (λ (x : State T). x.fault) e ∙ none)
+moved {T} s st next e none =
+    ap (λ (x : State T). x.step) (sym e) ∙ by (fault_in s.path s.most st.arrays ss) (ap (λ (x : State T). x.fault) e ∙ none)
   where
     ss : List (List ℕ × Segment T)
     ss = segments s st.arrays st.step st.live
@@ -60,7 +63,8 @@ moved {T} s st next e none = ap (λ (x : State T). x.step) (sym e) ∙ by (fault
     by (Some f) h = cc
     by None h = refl
 
-module _ {S T : Type 0} (r : Reading S T) (law : (t : S) → r.frame.path (r.meant t) ≡ r.path t) (most : ℕ) (arrays : List (List ℕ × List ℤ)) (tasks : List T) (limit given : ℕ) where
+module _ {S T : Type 0} (r : Reading S T) (law : (t : S) → r.frame.path (r.meant t) ≡ r.path t) (most : ℕ) (arrays : List (List ℕ × List ℤ))
+    (tasks : List T) (limit given : ℕ) where
   abbrev pub Reached : State T → Type 0
   Reached st = IsReached r.frame r.may most arrays tasks limit given st
 
@@ -79,20 +83,26 @@ module _ {S T : Type 0} (r : Reading S T) (law : (t : S) → r.frame.path (r.mea
       let then_ = so_far_more r.frame most h.history (es ∷ []) arrays tasks limit given h.within in
       let at : so_far (says_by r.frame most more) arrays tasks limit (length h.history) ≡ whole = now ∙ sym h.state in
       let step : st.step ≡ length h.history =
-      ap (λ (x : State T). x.step) h.state ∙ (going_on says arrays tasks limit (length h.history) (ap (status limit) (sym h.state) ∙ run)).step in
+      ap (λ (x : State T). x.step) h.state
+      ∙ (going_on says arrays tasks limit (length h.history) (ap (status limit) (sym h.state) ∙ run)).step in
       let entry : get_or more st.step [] ≡ es = ap (λ (n : ℕ). get_or more n []) step ∙ get_or-append_seam h.history es [] [] in
       let within = h.within in
       record {
         history = more;
-        entered = entered_more r.frame r.may most r.meant r.path law arrays tasks limit h.history es h.entered (subst (λ (x : State T). IsEntered r.frame r.may x es) h.state entered);
+        entered =
+            entered_more r.frame r.may most r.meant r.path law arrays tasks limit h.history es h.entered
+            (subst (λ (x : State T). IsEntered r.frame r.may x es) h.state entered);
         within = omega (arith, k, within);
         count = λ none. let up = moved (says_in r.frame most es) st next s.is none in omega (arith, k, step, up);
         state =
             ap (λ (x : State T). with_earlier x next) then_
             ∙ sym (
             ap (so_far (says_by r.frame most more) arrays tasks limit) k
-            ∙ goes (says_by r.frame most more) arrays tasks (status limit (so_far (says_by r.frame most more) arrays tasks limit (length h.history))) (so_far (says_by r.frame most more) arrays tasks limit (length h.history))
-            (superstep (says_by r.frame most more) (so_far (says_by r.frame most more) arrays tasks limit (length h.history))) (ap (status limit) at ∙ run)
+            ∙ goes (says_by r.frame most more) arrays tasks
+            (status limit (so_far (says_by r.frame most more) arrays tasks limit (length h.history)))
+            (so_far (says_by r.frame most more) arrays tasks limit (length h.history))
+            (superstep (says_by r.frame most more) (so_far (says_by r.frame most more) arrays tasks limit (length h.history)))
+            (ap (status limit) at ∙ run)
             ∙ ap (superstep (says_by r.frame most more)) at
             ∙ superstep_by r.frame most more whole
             ∙ ap (λ (fs : List (Entry T)). superstep (says_in r.frame most fs) whole) entry
@@ -102,7 +112,8 @@ module _ {S T : Type 0} (r : Reading S T) (law : (t : S) → r.frame.path (r.mea
       }
 
   -- a run that has ended
-  abbrev pub has_run : (st : State T) (h : Reached st) (s : Status) → status limit st ≡ Some s → (outcome : ReportValue) → outcome ≡ record { prints = st.prints; records = st.records; arrays = st.arrays; status = s }
+  abbrev pub has_run : (st : State T) (h : Reached st) (s : Status) → status limit st ≡ Some s → (outcome : ReportValue)
+      → outcome ≡ record { prints = st.prints; records = st.records; arrays = st.arrays; status = s }
       → (living : List T) → living_after s st.live ≡ living → HasRunOn r.frame r.may most arrays tasks limit given outcome living
   has_run st h s e outcome is living l =
       let says = says_by r.frame most h.history in
@@ -110,7 +121,8 @@ module _ {S T : Type 0} (r : Reading S T) (law : (t : S) → r.frame.path (r.mea
       let early = so_far says arrays tasks limit given in
       let whole = with_earlier early st in
       let ended : status limit (so_far says arrays tasks limit n) ≡ Some s = ap (status limit) (sym h.state) ∙ e in
-      let last : so_far says arrays tasks limit n ≡ so_far says arrays tasks limit limit = ended_is_last says arrays tasks limit n s ended in
+      let last : so_far says arrays tasks limit n ≡ so_far says arrays tasks limit limit =
+      ended_is_last says arrays tasks limit n s ended in
       record {
         whole = record { prints = whole.prints; records = whole.records; arrays = st.arrays; status = s };
         run = record {
@@ -131,14 +143,18 @@ module _ {S T : Type 0} (r : Reading S T) (law : (t : S) → r.frame.path (r.mea
         let says = says_by r.frame most h.history in
         let formed = formed_by r.frame most r.may arrays tasks limit h.history h.entered in
         ap (λ (x : State T). is_rising (live_paths says x)) h.state
-        ∙ live-paths-rise says (numbers_by r.frame most h.history formed) (stays_by r.frame most h.history formed) arrays tasks limit (length h.history) begin
+        ∙ live-paths-rise says (numbers_by r.frame most h.history formed) (stays_by r.frame most h.history formed) arrays tasks limit
+        (length h.history) begin
 
-    module _ (st : State T) (h : Reached st) (run : status limit st ≡ None) (ts : List S) (live : st.live ≡ map r.meant ts) (few : length ts ≤ most)
-        (fault : Option (ℕ × List ℕ)) (puts : List Put) (us : List S) (ds : List (DeedValue S)) (after : List PrintValue) (d : DidAll r st.arrays st.step fault puts ts us ds after) where
+    module _ (st : State T) (h : Reached st) (run : status limit st ≡ None) (ts : List S) (live : st.live ≡ map r.meant ts)
+        (few : length ts ≤ most)
+        (fault : Option (ℕ × List ℕ)) (puts : List Put) (us : List S) (ds : List (DeedValue S)) (after : List PrintValue)
+        (d : DidAll r st.arrays st.step fault puts ts us ds after) where
       entries_are : AreOf r.frame st.live d.entries
       entries_are = record {
         back = map r.meant d.back;
-        cut = live ∙ ap (map r.meant) d.cut ∙ map-append r.meant d.done d.back ∙ ap (λ (xs : List T). xs ++ map r.meant d.back) (sym d.tasks);
+        cut =
+            live ∙ ap (map r.meant) d.cut ∙ map-append r.meant d.done d.back ∙ ap (λ (xs : List T). xs ++ map r.meant d.back) (sym d.tasks);
         whole = by fault refl;
       }
         where
@@ -161,11 +177,13 @@ module _ {S T : Type 0} (r : Reading S T) (law : (t : S) → r.frame.path (r.mea
       stays : StaysTheSameTask (says_in r.frame most d.entries)
       stays = stays_in r.frame most d.entries (all_formed r.frame r.may st.arrays st.step d.entries d.allowed)
 
-      all_reported : Reported (reads (says_in r.frame most d.entries) r.meant r.path) (segments (says_in r.frame most d.entries) st.arrays st.step st.live) st.step fault puts us ds [] after
+      all_reported : Reported (reads (says_in r.frame most d.entries) r.meant r.path)
+          (segments (says_in r.frame most d.entries) st.arrays st.step st.live) st.step fault puts us ds [] after
       all_reported =
           let p = reads (says_in r.frame most d.entries) r.meant r.path in
           subst (λ ss. Reported p ss st.step fault puts us ds [] after)
-          (deeds_reported p law numbers stays st.arrays st.step ts ∙ ap (segments (says_in r.frame most d.entries) st.arrays st.step) (sym live))
+          (deeds_reported p law numbers stays st.arrays st.step ts
+          ∙ ap (segments (says_in r.frame most d.entries) st.arrays st.step) (sym live))
           (d.reported (says_in r.frame most d.entries) (agrees r.frame most st.arrays st.step d.entries rise))
 
       abbrev Next : State T → Outcome → Type 0
@@ -178,21 +196,27 @@ module _ {S T : Type 0} (r : Reading S T) (law : (t : S) → r.frame.path (r.mea
       abbrev many_there : Option (ℕ × List ℕ)
       many_there = too_many most (next_live r.frame.path ss)
 
-      next : (new : State T) → superstep (says_in r.frame most d.entries) st ≡ new → (out : Outcome) → out ≡ outcome_of (says_in r.frame most d.entries) st → Next new out
+      next : (new : State T) → superstep (says_in r.frame most d.entries) st ≡ new → (out : Outcome)
+          → out ≡ outcome_of (says_in r.frame most d.entries) st → Next new out
       next new e out ends = record { step = record { entries = d.entries; entered = entered; is = e }; ends = ends }
 
       -- a task's fault ends the run
       pub faulted : (x : ℕ × List ℕ) → fault ≡ Some x → Next (ended_by st x) Faulted
       faulted x e =
           let p = reads (says_in r.frame most d.entries) r.meant r.path in
-          let t = subst (λ o. Reported p (segments (says_in r.frame most d.entries) st.arrays st.step st.live) st.step o puts us ds [] after) e all_reported in
-          next (ended_by st x) (by_fault_in p law numbers stays st x t.0) Faulted (λ i. outcome_by (sym t.0 i) many_there (overflow st.arrays ss))
+          let t =
+          subst (λ o. Reported p (segments (says_in r.frame most d.entries) st.arrays st.step st.live) st.step o puts us ds [] after) e
+          all_reported in
+          next (ended_by st x) (by_fault_in p law numbers stays st x t.0) Faulted
+          (λ i. outcome_by (sym t.0 i) many_there (overflow st.arrays ss))
 
       module _ (none : fault ≡ None) where
-        all_done : IsAllDone (reads (says_in r.frame most d.entries) r.meant r.path) (segments (says_in r.frame most d.entries) st.arrays st.step st.live) st.step puts us ds [] after
+        all_done : IsAllDone (reads (says_in r.frame most d.entries) r.meant r.path)
+            (segments (says_in r.frame most d.entries) st.arrays st.step st.live) st.step puts us ds [] after
         all_done =
             let p = reads (says_in r.frame most d.entries) r.meant r.path in
-            subst (λ o. Reported p (segments (says_in r.frame most d.entries) st.arrays st.step st.live) st.step o puts us ds [] after) none all_reported
+            subst (λ o. Reported p (segments (says_in r.frame most d.entries) st.arrays st.step st.live) st.step o puts us ds [] after) none
+            all_reported
 
         -- the numbers fit
         pub record FitsAll : Type 0 where
@@ -229,7 +253,8 @@ module _ {S T : Type 0} (r : Reading S T) (law : (t : S) → r.frame.path (r.mea
           pub is : blame ≡ Some cause
           pub step : Next (ended_by st cause) Overflowed
 
-        pub over : (place : ℕ) (blame : Option (ℕ × List ℕ)) → length (living_with us ds) ≤ most → Some place ≡ over_in st.arrays [] 0 puts → blame ≡ option_map overflow_at (maker r.path us ds place) → Overflows blame
+        pub over : (place : ℕ) (blame : Option (ℕ × List ℕ)) → length (living_with us ds) ≤ most → Some place ≡ over_in st.arrays [] 0 puts
+            → blame ≡ option_map overflow_at (maker r.path us ds place) → Overflows blame
         over place blame le over_there made =
             let p = reads (says_in r.frame most d.entries) r.meant r.path in
             let o = by_over_in p law numbers stays st puts us ds place blame all_done.done all_done.log le over_there made in
@@ -242,7 +267,8 @@ module _ {S T : Type 0} (r : Reading S T) (law : (t : S) → r.frame.path (r.mea
             }
 
         -- or it goes on
-        pub goes_on : (reported_now : PhaseRecord) → length (living_with us ds) ≤ most → reported_now ≡ record_in st.step ds → None ≡ over_in st.arrays [] 0 puts
+        pub goes_on : (reported_now : PhaseRecord) → length (living_with us ds) ≤ most → reported_now ≡ record_in st.step ds
+            → None ≡ over_in st.arrays [] 0 puts
             → Next (record {
               step = st.step + 1;
               arrays = landed puts st.arrays;
@@ -264,4 +290,6 @@ module _ {S T : Type 0} (r : Reading S T) (law : (t : S) → r.frame.path (r.mea
               fault = None;
             }))
             Landed
-            (λ i. outcome_by (sym (none_faults p law numbers stays us ds ss all_done.done) i) (sym (few_reported p law numbers stays st us ds all_done.done le) i) (sym (none_over p law numbers stays st puts all_done.log over_none) i))
+            (λ i. outcome_by (sym (none_faults p law numbers stays us ds ss all_done.done) i)
+            (sym (few_reported p law numbers stays st us ds all_done.done le) i)
+            (sym (none_over p law numbers stays st puts all_done.log over_none) i))

@@ -24,7 +24,9 @@ use Rattle.stretch_parts.specs.Parts.{Reading, HasRun, HasDone, AreOwn, tasks_in
 module _ {T : Type 0} where
   joined_append : (ss rs : List (List ℕ × Segment T)) → joined (map log_of (ss ++ rs)) ≡ joined (map log_of ss) ++ joined (map log_of rs)
   joined_append [] rs = refl
-  joined_append (s ∷ ss) rs = ap (λ (ps : List Put). s.1.puts ++ ps) (joined_append ss rs) ∙ sym (append_assoc s.1.puts (joined (map log_of ss)) (joined (map log_of rs)))
+  joined_append (s ∷ ss) rs =
+      ap (λ (ps : List Put). s.1.puts ++ ps) (joined_append ss rs)
+      ∙ sym (append_assoc s.1.puts (joined (map log_of ss)) (joined (map log_of rs)))
 
   prints_append : (step : ℕ) (ss rs : List (List ℕ × Segment T)) → prints_of step (ss ++ rs) ≡ prints_of step ss ++ prints_of step rs
   prints_append step [] rs = refl
@@ -33,11 +35,14 @@ module _ {T : Type 0} where
       ∙ sym (append_assoc (map (print_of step s.0) s.1.prints) (prints_of step ss) (prints_of step rs))
 
 module _ {S T : Type 0} where
-  deeds_append : (p : Reads S T) (arrays : List (List ℕ × List ℤ)) (step : ℕ) (ts us : List S) → deeds_of p arrays step (ts ++ us) ≡ deeds_of p arrays step ts ++ deeds_of p arrays step us
+  deeds_append : (p : Reads S T) (arrays : List (List ℕ × List ℤ)) (step : ℕ) (ts us : List S)
+      → deeds_of p arrays step (ts ++ us) ≡ deeds_of p arrays step ts ++ deeds_of p arrays step us
   deeds_append p arrays step [] us = refl
-  deeds_append p arrays step (t ∷ ts) us = ap (λ ss. (p.path t, p.says.segment (p.meant t) arrays step) ∷ ss) (deeds_append p arrays step ts us)
+  deeds_append p arrays step (t ∷ ts) us =
+      ap (λ ss. (p.path t, p.says.segment (p.meant t) arrays step) ∷ ss) (deeds_append p arrays step ts us)
 
-  done_append : (p : Reads S T) (us ws : List S) (ds es : List (DeedValue S)) (ss rs : List (List ℕ × Segment T)) → AllDone p us ds ss → AllDone p ws es rs → AllDone p (us ++ ws) (ds ++ es) (ss ++ rs)
+  done_append : (p : Reads S T) (us ws : List S) (ds es : List (DeedValue S)) (ss rs : List (List ℕ × Segment T)) → AllDone p us ds ss
+      → AllDone p ws es rs → AllDone p (us ++ ws) (ds ++ es) (ss ++ rs)
   done_append p [] ws [] es [] rs h k = k
   done_append p [] ws [] es (s ∷ ss) rs h k = absurd h
   done_append p [] ws (d ∷ ds) es ss rs h k = absurd h
@@ -47,8 +52,10 @@ module _ {S T : Type 0} where
   done_append p (u ∷ us) ws (d ∷ ds) es (s ∷ ss) rs h k = (h.0, h.1, done_append p us ws ds es ss rs h.2 k)
 
   -- what tasks did after others: both together
-  reported_append : (p : Reads S T) (step : ℕ) (ss rs : List (List ℕ × Segment T)) (puts qs : List Put) (us ws : List S) (ds es : List (DeedValue S)) (after last : List PrintValue) (fault : Option (ℕ × List ℕ))
-      → IsAllDone p ss step puts us ds [] after → Reported p rs step fault qs ws es [] last → Reported p (ss ++ rs) step fault (puts ++ qs) (us ++ ws) (ds ++ es) [] (after ++ last)
+  reported_append : (p : Reads S T) (step : ℕ) (ss rs : List (List ℕ × Segment T)) (puts qs : List Put) (us ws : List S)
+      (ds es : List (DeedValue S)) (after last : List PrintValue) (fault : Option (ℕ × List ℕ))
+      → IsAllDone p ss step puts us ds [] after → Reported p rs step fault qs ws es [] last
+      → Reported p (ss ++ rs) step fault (puts ++ qs) (us ++ ws) (ds ++ es) [] (after ++ last)
   reported_append p step ss rs puts qs us ws ds es after last None h k = record {
     log = (λ i. h.log i ++ k.log i) ∙ sym (joined_append ss rs);
     shown = (λ i. h.shown i ++ k.shown i) ∙ sym (prints_append step ss rs);
@@ -57,16 +64,19 @@ module _ {S T : Type 0} where
   reported_append p step ss rs puts qs us ws ds es after last (Some f) h k = (no_fault p us ds ss rs h.done ∙ k.0, (after ++ last, refl))
 
 module _ {T : Type 0} where
-  agrees_front : (s : Says T) (arrays : List (List ℕ × List ℤ)) (step : ℕ) (es fs : List (Entry T)) → Agrees s arrays step (es ++ fs) → Agrees s arrays step es
+  agrees_front : (s : Says T) (arrays : List (List ℕ × List ℤ)) (step : ℕ) (es fs : List (Entry T)) → Agrees s arrays step (es ++ fs)
+      → Agrees s arrays step es
   agrees_front s arrays step [] fs h = tt
   agrees_front s arrays step (e ∷ es) fs h = (h.0, agrees_front s arrays step es fs h.1)
 
-  agrees_back : (s : Says T) (arrays : List (List ℕ × List ℤ)) (step : ℕ) (es fs : List (Entry T)) → Agrees s arrays step (es ++ fs) → Agrees s arrays step fs
+  agrees_back : (s : Says T) (arrays : List (List ℕ × List ℤ)) (step : ℕ) (es fs : List (Entry T)) → Agrees s arrays step (es ++ fs)
+      → Agrees s arrays step fs
   agrees_back s arrays step [] fs h = h
   agrees_back s arrays step (e ∷ es) fs h = agrees_back s arrays step es fs h.1
 
 module _ {S T : Type 0} (r : Reading S T) (arrays : List (List ℕ × List ℤ)) (step : ℕ) where
-  allowed_append : (es fs : List (Entry T)) → AllAllowed r.frame r.may arrays step es → AllAllowed r.frame r.may arrays step fs → AllAllowed r.frame r.may arrays step (es ++ fs)
+  allowed_append : (es fs : List (Entry T)) → AllAllowed r.frame r.may arrays step es → AllAllowed r.frame r.may arrays step fs
+      → AllAllowed r.frame r.may arrays step (es ++ fs)
   allowed_append [] fs h k = k
   allowed_append (e ∷ es) fs h k = (h.0, h.1, allowed_append es fs h.2 k)
 
@@ -77,7 +87,8 @@ module _ {S T : Type 0} (r : Reading S T) (arrays : List (List ℕ × List ℤ))
   some_none : (y : ℕ × List ℕ) → None ≡ Some y → ⊥
   some_none y e = cc
 
-  pub ran_all : (olds : List S) (part : PartValue S) → HasRun r arrays step olds part → length part.tasks ≡ length olds → DidAll r arrays step part.fault part.puts olds part.tasks part.deeds part.prints
+  pub ran_all : (olds : List S) (part : PartValue S) → HasRun r arrays step olds part → length part.tasks ≡ length olds
+      → DidAll r arrays step part.fault part.puts olds part.tasks part.deeds part.prints
   ran_all olds part h same = record {
     entries = h.entries;
     allowed = h.allowed;
@@ -111,8 +122,10 @@ module _ {S T : Type 0} (r : Reading S T) (arrays : List (List ℕ × List ℤ))
     reported = λ s a. record { log = refl; shown = refl; done = tt };
   }
 
-  pub did_join : (fault : Option (ℕ × List ℕ)) (puts qs : List Put) (ts us vs ws : List S) (ds es : List (DeedValue S)) (after last : List PrintValue)
-      → DidAll r arrays step None puts ts vs ds after → DidAll r arrays step fault qs us ws es last → DidAll r arrays step fault (puts ++ qs) (ts ++ us) (vs ++ ws) (ds ++ es) (after ++ last)
+  pub did_join : (fault : Option (ℕ × List ℕ)) (puts qs : List Put) (ts us vs ws : List S) (ds es : List (DeedValue S))
+      (after last : List PrintValue)
+      → DidAll r arrays step None puts ts vs ds after → DidAll r arrays step fault qs us ws es last
+      → DidAll r arrays step fault (puts ++ qs) (ts ++ us) (vs ++ ws) (ds ++ es) (after ++ last)
   did_join fault puts qs ts us vs ws ds es after last h k = record {
     entries = h.entries ++ k.entries;
     allowed = allowed_append h.entries k.entries h.allowed k.allowed;
@@ -126,12 +139,14 @@ module _ {S T : Type 0} (r : Reading S T) (arrays : List (List ℕ × List ℤ))
     faults = λ x e. in_front (k.faults x e);
     reported = λ s a.
         let p = reads s r.meant r.path in
-        subst (λ ss. Reported p ss step fault (puts ++ qs) (vs ++ ws) (ds ++ es) [] (after ++ last)) (sym (deeds_append p arrays step ts us))
+        subst (λ ss. Reported p ss step fault (puts ++ qs) (vs ++ ws) (ds ++ es) [] (after ++ last))
+        (sym (deeds_append p arrays step ts us))
         (reported_append p step (deeds_of p arrays step ts) (deeds_of p arrays step us) puts qs vs ws ds es after last fault
         (h.reported s (agrees_front s arrays step h.entries k.entries a)) (k.reported s (agrees_back s arrays step h.entries k.entries a)));
   }
     where
-      in_front : {o : Option (ℕ × List ℕ)} → first_fault (segments_in r.frame k.entries) ≡ o → first_fault (segments_in r.frame (h.entries ++ k.entries)) ≡ o
+      in_front : {o : Option (ℕ × List ℕ)} → first_fault (segments_in r.frame k.entries) ≡ o
+          → first_fault (segments_in r.frame (h.entries ++ k.entries)) ≡ o
       in_front e =
           ap first_fault (map-append (λ x. (r.frame.path x.task, x.left)) h.entries k.entries)
           ∙ first_none (segments_in r.frame h.entries) (segments_in r.frame k.entries) (h.calm refl) ∙ e
@@ -168,7 +183,8 @@ module _ {S T : Type 0} (r : Reading S T) (arrays : List (List ℕ × List ℤ))
   pub record HaveDid (ss : List (Option (PartValue S))) (ts : List S) : Type 0 where
     pub quiet : fault_in ss ≡ None → DidAll r arrays step None (puts_in ss) ts (tasks_in ss) (deeds_in ss) (prints_in ss)
     pub loud : (x : ℕ × List ℕ) → fault_in ss ≡ Some x
-        → (puts : List Put) × ((us : List S) × ((ds : List (DeedValue S)) × ((after : List PrintValue) × DidAll r arrays step (Some x) puts ts us ds after)))
+        → (puts : List Put)
+        × ((us : List S) × ((ds : List (DeedValue S)) × ((after : List PrintValue) × DidAll r arrays step (Some x) puts ts us ds after)))
 
   first_some : (ss more : List (List ℕ × Segment T)) (x : ℕ × List ℕ) → first_fault ss ≡ Some x → first_fault (ss ++ more) ≡ Some x
   first_some [] more x h = cc
@@ -184,7 +200,8 @@ module _ {S T : Type 0} (r : Reading S T) (arrays : List (List ℕ × List ℤ))
   some_not_none x e = cc
 
   -- a fault among the first tasks is that of all
-  did_more : (x : ℕ × List ℕ) (puts : List Put) (ts more us : List S) (ds : List (DeedValue S)) (after : List PrintValue) → DidAll r arrays step (Some x) puts ts us ds after
+  did_more : (x : ℕ × List ℕ) (puts : List Put) (ts more us : List S) (ds : List (DeedValue S)) (after : List PrintValue)
+      → DidAll r arrays step (Some x) puts ts us ds after
       → DidAll r arrays step (Some x) puts (ts ++ more) us ds after
   did_more x puts ts more us ds after h = record {
     entries = h.entries;
@@ -198,18 +215,23 @@ module _ {S T : Type 0} (r : Reading S T) (arrays : List (List ℕ × List ℤ))
     faults = h.faults;
     reported = λ s a.
         let p = reads s r.meant r.path in
-        let t = h.reported s a in
-        (ap first_fault (deeds_append p arrays step ts more) ∙ first_some (deeds_of p arrays step ts) (deeds_of p arrays step more) x t.0, t.1);
+        let t = h.reported s a in (
+          ap first_fault (deeds_append p arrays step ts more) ∙ first_some (deeds_of p arrays step ts) (deeds_of p arrays step more) x t.0,
+          t.1,
+        );
   }
 
-  have_one : (part : PartValue S) (ss : List (Option (PartValue S))) (olds back : List S) → DidAll r arrays step part.fault part.puts olds part.tasks part.deeds part.prints → HaveDid ss back
+  have_one : (part : PartValue S) (ss : List (Option (PartValue S))) (olds back : List S)
+      → DidAll r arrays step part.fault part.puts olds part.tasks part.deeds part.prints → HaveDid ss back
       → HaveDid (Some part ∷ ss) (olds ++ back)
   have_one part ss olds back h k = by part.fault refl h
     where
-      by : (o : Option (ℕ × List ℕ)) → part.fault ≡ o → DidAll r arrays step o part.puts olds part.tasks part.deeds part.prints → HaveDid (Some part ∷ ss) (olds ++ back)
+      by : (o : Option (ℕ × List ℕ)) → part.fault ≡ o → DidAll r arrays step o part.puts olds part.tasks part.deeds part.prints
+          → HaveDid (Some part ∷ ss) (olds ++ back)
       by None e d = record {
         quiet = λ none.
-            did_join r arrays step None part.puts (puts_in ss) olds back part.tasks (tasks_in ss) part.deeds (deeds_in ss) part.prints (prints_in ss) d
+            did_join r arrays step None part.puts (puts_in ss) olds back part.tasks (tasks_in ss) part.deeds (deeds_in ss) part.prints
+            (prints_in ss) d
             (k.quiet (sym (ap (λ o. or_next o (fault_in ss)) e) ∙ none));
         loud = λ x some.
             let l = k.loud x (sym (ap (λ o. or_next o (fault_in ss)) e) ∙ some) in (
@@ -220,7 +242,8 @@ module _ {S T : Type 0} (r : Reading S T) (arrays : List (List ℕ × List ℤ))
                   part.deeds ++ l.1.1.0,
                   (
                     part.prints ++ l.1.1.1.0,
-                    did_join r arrays step (Some x) part.puts l.0 olds back part.tasks l.1.0 part.deeds l.1.1.0 part.prints l.1.1.1.0 d l.1.1.1.1,
+                    did_join r arrays step (Some x) part.puts l.0 olds back part.tasks l.1.0 part.deeds l.1.1.0 part.prints l.1.1.1.0 d
+                        l.1.1.1.1,
                   ),
                 ),
               ),
@@ -229,13 +252,28 @@ module _ {S T : Type 0} (r : Reading S T) (arrays : List (List ℕ × List ℤ))
       by (Some y) e d = record {
         quiet = λ none. absurd (some_not_none y (sym (ap (λ o. or_next o (fault_in ss)) e) ∙ none));
         loud = λ x some.
-            let same : Some y ≡ Some x = sym (ap (λ o. or_next o (fault_in ss)) e) ∙ some in
-            (part.puts, (part.tasks, (part.deeds, (part.prints, did_more x part.puts olds back part.tasks part.deeds part.prints (subst (λ o. DidAll r arrays step o part.puts olds part.tasks part.deeds part.prints) same d)))));
+            let same : Some y ≡ Some x = sym (ap (λ o. or_next o (fault_in ss)) e) ∙ some in (
+              part.puts,
+              (
+                part.tasks,
+                (
+                  part.deeds,
+                  (
+                    part.prints,
+                    did_more x part.puts olds back part.tasks part.deeds part.prints
+                        (subst (λ o. DidAll r arrays step o part.puts olds part.tasks part.deeds part.prints) same d),
+                  ),
+                ),
+              ),
+            );
       }
 
-  pub have_did : (end at : ℕ) (ss : List (Option (PartValue S))) → AreOwn r arrays live step ss → covers true end at ss ≡ true → end ≡ length live → HaveDid ss (drop at live)
+  pub have_did : (end at : ℕ) (ss : List (Option (PartValue S))) → AreOwn r arrays live step ss → covers true end at ss ≡ true
+      → end ≡ length live → HaveDid ss (drop at live)
   have_did end at [] own h e = record {
-    quiet = λ n. subst (λ ts. DidAll r arrays step None [] ts [] [] []) (sym (ap (λ k. drop k live) (at_number at end h ∙ e) ∙ drop_end live)) (did_none r arrays step);
+    quiet =
+        λ n. subst (λ ts. DidAll r arrays step None [] ts [] [] []) (sym (ap (λ k. drop k live) (at_number at end h ∙ e) ∙ drop_end live))
+        (did_none r arrays step);
     loud = λ x n. absurd (none_some x n);
   }
     where

@@ -28,7 +28,8 @@ is_there (Some (Some part)) = true
 
 module _ {Q S : Type 0} where
   -- a run of this program, with these arrays and these tasks, before its first superstep; no stretch is out or has run
-  pub record IsBegun (name : TableId) (program : Q) (arrays : List (List ℕ × List ℤ)) (tasks : List S) (most limit : ℕ) (v : StretchesValue Q S) : Type 0 where
+  pub record IsBegun (name : TableId) (program : Q) (arrays : List (List ℕ × List ℤ)) (tasks : List S) (most limit : ℕ)
+      (v : StretchesValue Q S) : Type 0 where
     pub start : SuperstepStartValue Q S
     pub log : v.log ≡ start ∷ []
     pub named : v.name ≡ name
@@ -83,7 +84,8 @@ module _ {Q S : Type 0} where
   NotClosed (unclosed.Memory e) old new = (covers true old.count 0 old.parts ≡ true) × (new.parts ≡ [])
 
   -- what a run leaves that has ended so: its tasks only if they still live
-  pub record IsLeftAs (v : StretchesValue Q S) (s : Status) (name : TableId) (log : List (SuperstepStartValue Q S)) (given : ℕ) (outcome : ReportValue) (living : List S) : Type 0 where
+  pub record IsLeftAs (v : StretchesValue Q S) (s : Status) (name : TableId) (log : List (SuperstepStartValue Q S)) (given : ℕ)
+      (outcome : ReportValue) (living : List S) : Type 0 where
     pub named : name ≡ v.name
     pub logged : log ≡ v.log
     pub gave : given ≡ v.given
@@ -114,7 +116,8 @@ module _ {Q S : Type 0} where
   -- stretches.
   abbrev pub IsReopened : (S → List ℕ) → Outcome → ℕ → List (Option (PartValue S)) → StretchesValue Q S → Type 0
   IsReopened path Landed step ran v =
-      AreFresh 0 v.parts × (v.count ≡ length (tasks_in v.parts)) × (AllStay ran → v.parts ≡ map renewed ran) × (v.step ≡ step + 1) × EachDid ran
+      AreFresh 0 v.parts × (v.count ≡ length (tasks_in v.parts)) × (AllStay ran → v.parts ≡ map renewed ran) × (v.step ≡ step + 1)
+      × EachDid ran
       × (tasks_in v.parts ≡ in_path_order path (living_in ran))
   IsReopened path o step ran v = v.parts ≡ []
 
@@ -143,18 +146,21 @@ module _ {Q S T : Type 0} where
     pub older : List (SuperstepStartValue Q S)
     pub log : old.log ≡ start ∷ older
     pub live : List T
-    pub step : IsStepTo (m old.program).frame (m old.program).may old.most (state_with old (map (m old.program).meant (live_of start))) (state_with new live) outcome
+    pub step : IsStepTo (m old.program).frame (m old.program).may old.most (state_with old (map (m old.program).meant (live_of start)))
+        (state_with new live) outcome
     pub leaves : EndsAs m outcome new live
     pub same : IsSameRun old new
 
   -- This is the result of a run that began with the first start of this log and was taken to a limit that may be lower than its
   -- own, without what its first `given` supersteps printed and recorded. The starts are those of its supersteps.
-  pub record HasLeftTo (m : Q → Reading S T) (limit : SuperstepStartValue Q S → ℕ) (log : List (SuperstepStartValue Q S)) (given : ℕ) (outcome : ReportValue) (living : List S) : Type 0 where
+  pub record HasLeftTo (m : Q → Reading S T) (limit : SuperstepStartValue Q S → ℕ) (log : List (SuperstepStartValue Q S)) (given : ℕ)
+      (outcome : ReportValue) (living : List S) : Type 0 where
     pub first : SuperstepStartValue Q S
     pub since : List (SuperstepStartValue Q S)
     pub begun : log ≡ since ++ first ∷ []
     pub within : limit first ≤ first.limit
-    pub run : HasRunOn (m first.program).frame (m first.program).may first.most first.arrays (map (m first.program).meant (live_of first)) (limit first) given outcome (map (m first.program).meant living)
+    pub run : HasRunOn (m first.program).frame (m first.program).may first.most first.arrays (map (m first.program).meant (live_of first))
+        (limit first) given outcome (map (m first.program).meant living)
     pub all_open : AllOpen (m first.program).meant log (states_by (m first.program) first.most run.run.history first (limit first))
     pub as_long : length run.run.history ≤ length log
     pub counted : CountsAs outcome.status (length run.run.history)

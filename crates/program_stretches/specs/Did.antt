@@ -14,7 +14,8 @@ use Rattle.program_stretches.specs.declared.fault.Outcome.TheVariants.{Landed, F
 use Rattle.stretch_parts.specs.Parts.{Reading}
 
 -- all these tasks did their segments, or those up to the first fault
-pub record DidAll {S T : Type 0} (r : Reading S T) (arrays : List (List ℕ × List ℤ)) (step : ℕ) (fault : Option (ℕ × List ℕ)) (puts : List Put) (ts us : List S) (ds : List (DeedValue S)) (after : List PrintValue) : Type 0 where
+pub record DidAll {S T : Type 0} (r : Reading S T) (arrays : List (List ℕ × List ℤ)) (step : ℕ) (fault : Option (ℕ × List ℕ))
+    (puts : List Put) (ts us : List S) (ds : List (DeedValue S)) (after : List PrintValue) : Type 0 where
   pub entries : List (Entry T)
   pub allowed : AllAllowed r.frame r.may arrays step entries
   pub done : List S
@@ -24,10 +25,12 @@ pub record DidAll {S T : Type 0} (r : Reading S T) (arrays : List (List ℕ × L
   pub whole : fault ≡ None → back ≡ []
   pub calm : fault ≡ None → first_fault (segments_in r.frame entries) ≡ None
   pub faults : (x : ℕ × List ℕ) → fault ≡ Some x → first_fault (segments_in r.frame entries) ≡ Some x
-  pub reported : (s : Says T) → Agrees s arrays step entries → Reported (reads s r.meant r.path) (deeds_of (reads s r.meant r.path) arrays step ts) step fault puts us ds [] after
+  pub reported : (s : Says T) → Agrees s arrays step entries
+      → Reported (reads s r.meant r.path) (deeds_of (reads s r.meant r.path) arrays step ts) step fault puts us ds [] after
 
 -- one superstep of what the live tasks of a state left, each allowed, leads to this state
-pub record IsStep {T : Type 0} (f : Frame T) (may : T → List (List ℕ × List ℤ) → ℕ → Segment T → Type 0) (most : ℕ) (st next : State T) : Type 0 where
+pub record IsStep {T : Type 0} (f : Frame T) (may : T → List (List ℕ × List ℤ) → ℕ → Segment T → Type 0) (most : ℕ)
+    (st next : State T) : Type 0 where
   pub entries : List (Entry T)
   pub entered : IsEntered f may st entries
   pub is : superstep (says_in f most entries) st ≡ next
@@ -46,6 +49,7 @@ outcome_of s st =
     outcome_by (first_fault ss) (too_many s.most (next_live s.path ss)) (overflow st.arrays ss)
 
 -- the same, and the superstep ends so
-pub record IsStepTo {T : Type 0} (f : Frame T) (may : T → List (List ℕ × List ℤ) → ℕ → Segment T → Type 0) (most : ℕ) (st next : State T) (outcome : Outcome) : Type 0 where
+pub record IsStepTo {T : Type 0} (f : Frame T) (may : T → List (List ℕ × List ℤ) → ℕ → Segment T → Type 0) (most : ℕ) (st next : State T)
+    (outcome : Outcome) : Type 0 where
   pub step : IsStep f may most st next
   pub ends : outcome ≡ outcome_of (says_in f most step.entries) st

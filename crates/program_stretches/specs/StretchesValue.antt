@@ -87,7 +87,8 @@ module _ {Q S T : Type 0} where
   -- It is the run after some of its supersteps, in which these tasks live. The starts are those of its supersteps.
   pub record IsAfter (m : Q → Reading S T) (v : StretchesValue Q S) (live : List T) : Type 0 where
     pub begun : HasBegun m v
-    pub reached : IsReached (m v.program).frame (m v.program).may v.most begun.first.arrays (map (m v.program).meant (live_of begun.first)) v.limit v.given (state_with v live)
+    pub reached : IsReached (m v.program).frame (m v.program).may v.most begun.first.arrays (map (m v.program).meant (live_of begun.first))
+        v.limit v.given (state_with v live)
     pub all_open : AllOpen (m v.program).meant v.log (states_by (m v.program) v.most reached.history begun.first v.limit)
     pub as_long : length reached.history ≤ length v.log
     pub count : v.count ≡ length live
@@ -100,7 +101,8 @@ module _ {Q S T : Type 0} where
     pub opened : (v.parts ≡ []) ⊎ IsOpen m v live
 
   -- these stretches are all of the superstep that the run is in, their tasks have run and put this, and none faulted
-  pub record HaveRun (m : Q → Reading S T) (v : StretchesValue Q S) (puts : List Put) (us : List S) (ds : List (DeedValue S)) (after : List PrintValue) : Type 0 where
+  pub record HaveRun (m : Q → Reading S T) (v : StretchesValue Q S) (puts : List Put) (us : List S) (ds : List (DeedValue S))
+      (after : List PrintValue) : Type 0 where
     pub start : SuperstepStartValue Q S
     pub older : List (SuperstepStartValue Q S)
     pub is : v.log ≡ start ∷ older
@@ -109,7 +111,8 @@ module _ {Q S T : Type 0} where
     pub did : DidAll (m v.program) v.arrays v.step None puts (live_of start) us ds after
 
   -- and the put at this place of all their puts overflows
-  pub record OverflowsAt (m : Q → Reading S T) (v : StretchesValue Q S) (us : List S) (ds : List (DeedValue S)) (after : List PrintValue) (place : ℕ) : Type 0 where
+  pub record OverflowsAt (m : Q → Reading S T) (v : StretchesValue Q S) (us : List S) (ds : List (DeedValue S)) (after : List PrintValue)
+      (place : ℕ) : Type 0 where
     pub puts : List Put
     pub run : HaveRun m v puts us ds after
     pub over : Some place ≡ over_in v.arrays [] 0 puts

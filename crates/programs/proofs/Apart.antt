@@ -64,7 +64,9 @@ length_append [] ys = omega arith
 length_append (x ∷ xs) ys = let m = length_append xs ys in omega (arith, m)
 
 never_longer : (p : List ℕ) (k : ℕ) (r : List ℕ) → p ≡ p ++ k ∷ r → ⊥
-never_longer p k r h = let l : length p ≡ length (p ++ k ∷ r) = ap length h in let m = length_append p (k ∷ r) in absurd (omega (arith, l, m))
+never_longer p k r h = let l : length p ≡ length (p ++ k ∷ r) = ap length h in
+    let m = length_append p (k ∷ r) in
+    absurd (omega (arith, l, m))
 
 module _ {T : Type 0} (w : Says T) where
   -- ---- tasks apart
@@ -101,7 +103,8 @@ module _ {T : Type 0} (w : Says T) where
   pairs_put x [] h p = (tt, tt)
   pairs_put x (y ∷ ys) h p = by (path_lt (w.path y) (w.path x)) (pairs_put x ys h.1 p.1) (apart_put y x ys (flip x y h.0) p.0)
     where
-      by : (b : Bool) → PairsApart (put_in path_in x ys) → AllApart y (put_in path_in x ys) → PairsApart (if b then y ∷ put_in path_in x ys else x ∷ y ∷ ys)
+      by : (b : Bool) → PairsApart (put_in path_in x ys) → AllApart y (put_in path_in x ys)
+          → PairsApart (if b then y ∷ put_in path_in x ys else x ∷ y ∷ ys)
       by true more all = (all, more)
       by false more all = (h, p)
 
@@ -130,13 +133,16 @@ module _ {T : Type 0} (w : Says T) where
       by true more = (a.0, more)
       by false more = (h, a)
 
-  rising_put : (x : T) (ys : List T) → AllApart x ys → is_rising (map path_in ys) ≡ true → is_rising (map path_in (put_in path_in x ys)) ≡ true
+  rising_put : (x : T) (ys : List T) → AllApart x ys → is_rising (map path_in ys) ≡ true
+      → is_rising (map path_in (put_in path_in x ys)) ≡ true
   rising_put x [] h r = refl
   rising_put x (y ∷ ys) h r = by (path_lt (w.path y) (w.path x)) refl (rising_put x ys h.1 (rising_rest (w.path y) (map path_in ys) r))
     where
       by : (b : Bool) → path_lt (w.path y) (w.path x) ≡ b → is_rising (map path_in (put_in path_in x ys)) ≡ true
           → is_rising (map path_in (if b then y ∷ put_in path_in x ys else x ∷ y ∷ ys)) ≡ true
-      by true e more = rising_more (w.path y) (map path_in (put_in path_in x ys)) (all_lt_put (w.path y) x ys e (rising_all (w.path y) (map path_in ys) r)) more
+      by true e more =
+          rising_more (w.path y) (map path_in (put_in path_in x ys))
+          (all_lt_put (w.path y) x ys e (rising_all (w.path y) (map path_in ys) r)) more
       by false e more = ap (λ b. b && is_rising ((w.path y) ∷ map path_in ys)) (lt_other (w.path x) (w.path y) e h.0.paths) ∙ r
 
   rising_ordered : (xs : List T) → PairsApart xs → is_rising (map path_in (in_path_order path_in xs)) ≡ true
@@ -153,7 +159,8 @@ module _ {T : Type 0} (w : Says T) where
   more_behind : (p x : List ℕ) (i k : ℕ) (r : List ℕ) → x ≡ p ++ i ∷ [] → x ++ k ∷ r ≡ p ++ i ∷ k ∷ r
   more_behind p x i k r e = ap (λ (y : List ℕ). y ++ k ∷ r) e ∙ append_assoc p (i ∷ []) (k ∷ r)
 
-  same_child : (t u x y : T) → Apart t u → (w.path x) ≡ (w.path t) → (w.begun t) ≤ (w.begun x) → (j : ℕ) → (w.begun u) ≤ j → (w.path y) ≡ (w.path u) ++ j ∷ [] → Apart x y
+  same_child : (t u x y : T) → Apart t u → (w.path x) ≡ (w.path t) → (w.begun t) ≤ (w.begun x) → (j : ℕ) → (w.begun u) ≤ j
+      → (w.path y) ≡ (w.path u) ++ j ∷ [] → Apart x y
   same_child t u x y h ex bx j bj ey = record {
     paths = λ e. h.left j [] bj (sym ex ∙ e ∙ ey);
     right = λ k r b e. by k r b (beginning (w.path u) (w.path t) j k r (sym ey ∙ e ∙ ap (λ (p : List ℕ). p ++ k ∷ r) ex));
@@ -164,7 +171,8 @@ module _ {T : Type 0} (w : Says T) where
       by k r b (Whole n e f) = h.paths (sym e)
       by k r b (Part s e) = h.right k s (omega arith) e
 
-  children_apart : (t u x y : T) → Apart t u → (i : ℕ) → (w.begun t) ≤ i → (w.path x) ≡ (w.path t) ++ i ∷ [] → (j : ℕ) → (w.begun u) ≤ j → (w.path y) ≡ (w.path u) ++ j ∷ [] → Apart x y
+  children_apart : (t u x y : T) → Apart t u → (i : ℕ) → (w.begun t) ≤ i → (w.path x) ≡ (w.path t) ++ i ∷ [] → (j : ℕ) → (w.begun u) ≤ j
+      → (w.path y) ≡ (w.path u) ++ j ∷ [] → Apart x y
   children_apart t u x y h i bi ex j bj ey = record {
     paths = λ e. h.paths (cancel (w.path t) (w.path u) i j (sym ex ∙ e ∙ ey)).0;
     right = λ k r b e. right k r (beginning (w.path u) (w.path t) j i (k ∷ r) (sym ey ∙ e ∙ more_behind (w.path t) (w.path x) i k r ex));
@@ -225,7 +233,8 @@ module _ {T : Type 0} (w : Says T) where
   run_apart path b (s ∷ ss) r = (run_later path s b (suc b) ss (omega arith) r.0 r.1, run_apart path (suc b) ss r.1)
 
   -- the task as it goes on is apart from those that it spawned
-  run_behind : (path : List ℕ) (x : T) (b : ℕ) (ss : List T) → (w.path x) ≡ path → b + length ss ≤ (w.begun x) → IsRun path b ss → AllApart x ss
+  run_behind : (path : List ℕ) (x : T) (b : ℕ) (ss : List T) → (w.path x) ≡ path → b + length ss ≤ (w.begun x) → IsRun path b ss
+      → AllApart x ss
   run_behind path x b [] ex le r = tt
   run_behind path x b (s ∷ ss) ex le r = (
     record {
@@ -287,9 +296,14 @@ module _ {T : Type 0} (w : Says T) where
         run = is_run (w.path t) (w.begun t) (w.segment t a n).spawns (few t a n)
 
         alone : Family t (w.segment t a n).spawns
-        alone = record { pairs = run_apart (w.path t) (w.begun t) (w.segment t a n).spawns run; all = run_descends t (w.begun t) (w.segment t a n).spawns (omega arith) run }
+        alone =
+            record {
+              pairs = run_apart (w.path t) (w.begun t) (w.segment t a n).spawns run;
+              all = run_descends t (w.begun t) (w.segment t a n).spawns (omega arith) run;
+            }
 
-        by : (after : After T) → ((u : T) → after ≡ Synced u → ((w.path u) ≡ (w.path t)) × ((w.begun u) ≡ (w.begun t) + length (w.segment t a n).spawns))
+        by : (after : After T)
+            → ((u : T) → after ≡ Synced u → ((w.path u) ≡ (w.path t)) × ((w.begun u) ≡ (w.begun t) + length (w.segment t a n).spawns))
             → Family t (synced after ++ (w.segment t a n).spawns)
         by Stopped s = alone
         by (Faulted f) s = alone
@@ -320,14 +334,16 @@ module _ {T : Type 0} (w : Says T) where
     far_one t u x [] h d a = tt
     far_one t u x (y ∷ ys) h d a = (cross t u x y h d a.0, far_one t u x ys h d a.1)
 
-    far : (a : List (List ℕ × List ℤ)) (n : ℕ) (t x : T) (ts : List T) → Descends t x → AllApart t ts → AllApart x (living_on (segments w a n ts))
+    far : (a : List (List ℕ × List ℤ)) (n : ℕ) (t x : T) (ts : List T) → Descends t x → AllApart t ts
+        → AllApart x (living_on (segments w a n ts))
     far a n t x [] d h = tt
     far a n t x (u ∷ us) d h =
         all_append x (synced (w.segment u a n).after ++ (w.segment u a n).spawns) (living_on (segments w a n us))
         (far_one t u x (synced (w.segment u a n).after ++ (w.segment u a n).spawns) h.0 d (family u a n).all)
         (far a n t x us d h.1)
 
-    far_all : (a : List (List ℕ × List ℤ)) (n : ℕ) (t : T) (xs ts : List T) → AllDescend t xs → AllApart t ts → AllCross xs (living_on (segments w a n ts))
+    far_all : (a : List (List ℕ × List ℤ)) (n : ℕ) (t : T) (xs ts : List T) → AllDescend t xs → AllApart t ts
+        → AllCross xs (living_on (segments w a n ts))
     far_all a n t [] ts d h = tt
     far_all a n t (x ∷ xs) ts d h = (far a n t x ts d.0 h, far_all a n t xs ts d.1 h)
 
@@ -343,20 +359,24 @@ module _ {T : Type 0} (w : Says T) where
         let l = living_apart a n ts h in
         record { pairs = pairs_ordered (living_on (segments w a n ts)) l; rising = rising_ordered (living_on (segments w a n ts)) l }
 
-    closed_in_order : (st : State T) (ss : List (List ℕ × Segment T)) (f : Option (ℕ × List ℕ)) → InOrder st.live → InOrder (next_live w.path ss) → InOrder (closed w.path st ss f).live
+    closed_in_order : (st : State T) (ss : List (List ℕ × Segment T)) (f : Option (ℕ × List ℕ)) → InOrder st.live
+        → InOrder (next_live w.path ss) → InOrder (closed w.path st ss f).live
     closed_in_order st ss (Some f) h next = h
     closed_in_order st ss None h next = next
 
     -- tasks in order are followed by tasks in order
     pub stays_in_order : (st : State T) → InOrder st.live → InOrder (superstep w st).live
     stays_in_order st h =
-        closed_in_order st (segments w st.arrays st.step st.live) (fault_in w.path w.most st.arrays (segments w st.arrays st.step st.live)) h (next_in_order st.arrays st.step st.live h.pairs)
+        closed_in_order st (segments w st.arrays st.step st.live) (fault_in w.path w.most st.arrays (segments w st.arrays st.step st.live))
+        h (next_in_order st.arrays st.step st.live h.pairs)
 
-    in_order : (arrays : List (List ℕ × List ℤ)) (tasks : List T) (limit k : ℕ) → IsRun [] 0 tasks → InOrder (so_far w arrays tasks limit k).live
+    in_order : (arrays : List (List ℕ × List ℤ)) (tasks : List T) (limit k : ℕ) → IsRun [] 0 tasks
+        → InOrder (so_far w arrays tasks limit k).live
     in_order arrays tasks limit zero r = record { pairs = run_apart [] 0 tasks r; rising = start_rising 0 tasks r }
     in_order arrays tasks limit (suc k) r = by (status limit (so_far w arrays tasks limit k)) (in_order arrays tasks limit k r)
       where
-        by : (o : Option Status) → InOrder (so_far w arrays tasks limit k).live → InOrder (unless_ended o (so_far w arrays tasks limit k) (superstep w (so_far w arrays tasks limit k))).live
+        by : (o : Option Status) → InOrder (so_far w arrays tasks limit k).live
+            → InOrder (unless_ended o (so_far w arrays tasks limit k) (superstep w (so_far w arrays tasks limit k))).live
         by (Some s) h = h
         by None h = stays_in_order (so_far w arrays tasks limit k) h
 

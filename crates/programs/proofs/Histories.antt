@@ -17,15 +17,18 @@ module _ {T : Type 0} (f : Frame T) (most : ℕ) where
   segments_by : (h : History) (arrays : List (List ℕ × List ℤ)) (step : ℕ) (ts : List T)
       → segments (says_by f most h) arrays step ts ≡ segments (says_in f most (get_or h step [])) arrays step ts
   segments_by h arrays step [] = refl
-  segments_by h arrays step (t ∷ ts) = ap (λ (ss : List (List ℕ × Segment T)). (f.path t, left_of f (get_or h step []) t) ∷ ss) (segments_by h arrays step ts)
+  segments_by h arrays step (t ∷ ts) =
+      ap (λ (ss : List (List ℕ × Segment T)). (f.path t, left_of f (get_or h step []) t) ∷ ss) (segments_by h arrays step ts)
 
   -- a superstep of a history is one of its entries
   pub superstep_by : (h : History) (st : State T) → superstep (says_by f most h) st ≡ superstep (says_in f most (get_or h st.step [])) st
   superstep_by h st =
-      ap (λ (ss : List (List ℕ × Segment T)). closed f.path st ss (fault_in f.path most st.arrays ss)) (segments_by h st.arrays st.step st.live)
+      ap (λ (ss : List (List ℕ × Segment T)). closed f.path st ss (fault_in f.path most st.arrays ss))
+      (segments_by h st.arrays st.step st.live)
 
   -- one superstep takes at most one step
-  step_bound : (s : Says T) (st : State T) (ss : List (List ℕ × Segment T)) (o : Option (ℕ × List ℕ)) → (closed s.path st ss o).step ≤ st.step + 1
+  step_bound : (s : Says T) (st : State T) (ss : List (List ℕ × Segment T)) (o : Option (ℕ × List ℕ))
+      → (closed s.path st ss o).step ≤ st.step + 1
   step_bound s st ss None = omega arith
   step_bound s st ss (Some x) = omega arith
 
@@ -33,11 +36,14 @@ module _ {T : Type 0} (f : Frame T) (most : ℕ) where
   so_far_bound s arrays tasks limit zero = omega arith
   so_far_bound s arrays tasks limit (suc m) = by (status limit (so_far s arrays tasks limit m)) (so_far_bound s arrays tasks limit m)
     where
-      by : (o : Option Status) → (so_far s arrays tasks limit m).step ≤ m → (unless_ended o (so_far s arrays tasks limit m) (superstep s (so_far s arrays tasks limit m))).step ≤ suc m
+      by : (o : Option Status) → (so_far s arrays tasks limit m).step ≤ m
+          → (unless_ended o (so_far s arrays tasks limit m) (superstep s (so_far s arrays tasks limit m))).step ≤ suc m
       by (Some x) le = omega (arith, le)
       by None le =
           let st = so_far s arrays tasks limit m in
-          let b = step_bound s st (segments s st.arrays st.step st.live) (fault_in s.path s.most st.arrays (segments s st.arrays st.step st.live)) in
+          let b =
+          step_bound s st (segments s st.arrays st.step st.live)
+          (fault_in s.path s.most st.arrays (segments s st.arrays st.step st.live)) in
           omega (arith, b, le)
 
   -- a longer history says the same of earlier supersteps
@@ -54,8 +60,10 @@ module _ {T : Type 0} (f : Frame T) (most : ℕ) where
       (superstep_by (h ++ more) st ∙ ap (λ (es : List (Entry T)). superstep (says_in f most es) st) same ∙ sym (superstep_by h st))
 
   -- all that is known is well formed
-  pub formed_by : (may : T → List (List ℕ × List ℤ) → ℕ → Segment T → Type 0) (arrays : List (List ℕ × List ℤ)) (tasks : List T) (limit : ℕ) (h : History)
-      → ((n : ℕ) → n < length h → IsEntered f may (so_far (says_by f most h) arrays tasks limit n) (get_or h n [])) → (n : ℕ) → AllFormed f (get_or h n [])
+  pub formed_by : (may : T → List (List ℕ × List ℤ) → ℕ → Segment T → Type 0) (arrays : List (List ℕ × List ℤ)) (tasks : List T) (limit : ℕ)
+      (h : History)
+      → ((n : ℕ) → n < length h → IsEntered f may (so_far (says_by f most h) arrays tasks limit n) (get_or h n [])) → (n : ℕ)
+      → AllFormed f (get_or h n [])
   formed_by may arrays tasks limit h entered n = by (nat_lt n (length h)) refl
     where
       past : (hs : History) (k : ℕ) → length hs ≤ k → get_or hs k [] ≡ []

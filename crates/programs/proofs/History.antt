@@ -18,7 +18,9 @@ module _ {T : Type 0} (f : Frame T) where
   AllFormed [] = Unit {0}
   AllFormed (e ∷ es) = IsFormed f e.task e.left × AllFormed es
 
-  pub all_formed : (may : T → List (List ℕ × List ℤ) → ℕ → Segment T → Type 0) (arrays : List (List ℕ × List ℤ)) (step : ℕ) (es : List (Entry T)) → AllAllowed f may arrays step es → AllFormed es
+  pub all_formed : (may : T → List (List ℕ × List ℤ) → ℕ → Segment T → Type 0) (arrays : List (List ℕ × List ℤ)) (step : ℕ)
+      (es : List (Entry T))
+      → AllAllowed f may arrays step es → AllFormed es
   all_formed may arrays step [] h = tt
   all_formed may arrays step (e ∷ es) h = (h.1, all_formed may arrays step es h.2)
 
@@ -61,10 +63,12 @@ module _ {T : Type 0} (f : Frame T) where
   pub stays_in : (most : ℕ) (es : List (Entry T)) → AllFormed es → StaysTheSameTask (says_in f most es)
   stays_in most es h t u arrays step e = (left_formed es h t).same u e
 
-  pub numbers_by : (most : ℕ) (history : List (List (Entry T))) → ((n : ℕ) → AllFormed (get_or history n [])) → NumbersItsSpawns (says_by f most history)
+  pub numbers_by : (most : ℕ) (history : List (List (Entry T))) → ((n : ℕ) → AllFormed (get_or history n []))
+      → NumbersItsSpawns (says_by f most history)
   numbers_by most history h t arrays step = (left_formed (get_or history step []) (h step) t).numbered
 
-  pub stays_by : (most : ℕ) (history : List (List (Entry T))) → ((n : ℕ) → AllFormed (get_or history n [])) → StaysTheSameTask (says_by f most history)
+  pub stays_by : (most : ℕ) (history : List (List (Entry T))) → ((n : ℕ) → AllFormed (get_or history n []))
+      → StaysTheSameTask (says_by f most history)
   stays_by most history h t u arrays step e = (left_formed (get_or history step []) (h step) t).same u e
 
   -- ---- what is known of tasks whose paths rise
@@ -97,7 +101,8 @@ module _ {T : Type 0} (f : Frame T) where
   agrees_more most arrays step e all (x ∷ es) lt h =
       (ap (λ (b : Bool). if b then e.left else left_of f all x.task) (other e x lt.0) ∙ h.0, agrees_more most arrays step e all es lt.1 h.1)
 
-  pub agrees : (most : ℕ) (arrays : List (List ℕ × List ℤ)) (step : ℕ) (es : List (Entry T)) → is_rising (map (λ e. f.path e.task) es) ≡ true
+  pub agrees : (most : ℕ) (arrays : List (List ℕ × List ℤ)) (step : ℕ) (es : List (Entry T))
+      → is_rising (map (λ e. f.path e.task) es) ≡ true
       → Agrees (says_in f most es) arrays step es
   agrees most arrays step [] r = tt
   agrees most arrays step (e ∷ es) r = (
@@ -123,8 +128,10 @@ module _ {T : Type 0} (f : Frame T) where
   map_map (e ∷ es) = ap (λ (ps : List (List ℕ)). f.path e.task ∷ ps) (map_map es)
 
   -- the entries of tasks whose paths rise
-  pub entries_rise : (tasks : List T) (es : List (Entry T)) → AreOf f tasks es → is_rising (map f.path tasks) ≡ true → is_rising (map (λ e. f.path e.task) es) ≡ true
+  pub entries_rise : (tasks : List T) (es : List (Entry T)) → AreOf f tasks es → is_rising (map f.path tasks) ≡ true
+      → is_rising (map (λ e. f.path e.task) es) ≡ true
   entries_rise tasks es h r =
       rising_front (map (λ e. f.path e.task) es) (map f.path h.back)
       (sym (ap (λ (ts : List T). is_rising (map f.path ts)) h.cut
-      ∙ ap is_rising (map_append f.path (map (λ e. e.task) es) h.back ∙ ap (λ (ps : List (List ℕ)). ps ++ map f.path h.back) (map_map es))) ∙ r)
+      ∙ ap is_rising (map_append f.path (map (λ e. e.task) es) h.back ∙ ap (λ (ps : List (List ℕ)). ps ++ map f.path h.back) (map_map es)))
+      ∙ r)

@@ -17,7 +17,8 @@ use Rattle.programs.specs.Superstep.{first_fault, fault_eight, or_later, log_of,
 use Rattle.programs.specs.InPlace.{IsUnderWay, HasCome, IsFurther, Reported, end_of, IsDeed, ReportedOne, AllDone, deeds_of, IsAllDone, maker, overflow_at, kept, living_with, one_left, left_in, spawned_in}
 
 module _ {S T : Type 0} where
-  pub none_done : (p : Reads S T) (arrays : List (List ℕ × List ℤ)) (step : ℕ) (olds : List S) (puts : List Put) (ds : List (DeedValue S)) (before : List PrintValue)
+  pub none_done : (p : Reads S T) (arrays : List (List ℕ × List ℤ)) (step : ℕ) (olds : List S) (puts : List Put) (ds : List (DeedValue S))
+      (before : List PrintValue)
       → puts ≡ [] → ds ≡ [] → IsUnderWay p arrays step olds 0 puts olds ds before before
   none_done p arrays step olds puts ds before e f = record {
     us = [];
@@ -31,7 +32,8 @@ module _ {S T : Type 0} where
     done = subst (λ (x : List (DeedValue S)). AllDone p [] x []) (sym f) tt;
   }
 
-  done_more : (ps : Reads S T) (us : List S) (ds : List (DeedValue S)) (ss : List (List ℕ × Segment T)) (u : S) (d : DeedValue S) (s : List ℕ × Segment T)
+  done_more : (ps : Reads S T) (us : List S) (ds : List (DeedValue S)) (ss : List (List ℕ × Segment T)) (u : S) (d : DeedValue S)
+      (s : List ℕ × Segment T)
       → AllDone ps us ds ss → ps.path u ≡ s.0 → IsDeed ps u d s.1 → AllDone ps (us ++ u ∷ []) (ds ++ d ∷ []) (ss ++ s ∷ [])
   done_more ps [] [] [] u d s h e i = (e, i, tt)
   done_more ps [] [] (x ∷ ss) u d s h e i = absurd h
@@ -41,11 +43,14 @@ module _ {S T : Type 0} where
   done_more ps (x ∷ us) (y ∷ ds) (z ∷ ss) u d s h e i = (h.0, h.1, done_more ps us ds ss u d s h.2 e i)
 
 module _ {T : Type 0} where
-  joined_more : (ss : List (List ℕ × Segment T)) (s : List ℕ × Segment T) → joined (map log_of (ss ++ s ∷ [])) ≡ joined (map log_of ss) ++ s.1.puts
+  joined_more : (ss : List (List ℕ × Segment T)) (s : List ℕ × Segment T)
+      → joined (map log_of (ss ++ s ∷ [])) ≡ joined (map log_of ss) ++ s.1.puts
   joined_more [] s = append-nil s.1.puts
-  joined_more (x ∷ ss) s = ap (λ (ps : List Put). x.1.puts ++ ps) (joined_more ss s) ∙ sym (append_assoc x.1.puts (joined (map log_of ss)) s.1.puts)
+  joined_more (x ∷ ss) s =
+      ap (λ (ps : List Put). x.1.puts ++ ps) (joined_more ss s) ∙ sym (append_assoc x.1.puts (joined (map log_of ss)) s.1.puts)
 
-  prints_more : (step : ℕ) (ss : List (List ℕ × Segment T)) (s : List ℕ × Segment T) → prints_of step (ss ++ s ∷ []) ≡ prints_of step ss ++ map (print_of step s.0) s.1.prints
+  prints_more : (step : ℕ) (ss : List (List ℕ × Segment T)) (s : List ℕ × Segment T)
+      → prints_of step (ss ++ s ∷ []) ≡ prints_of step ss ++ map (print_of step s.0) s.1.prints
   prints_more step [] s = append-nil (map (print_of step s.0) s.1.prints)
   prints_more step (x ∷ ss) s =
       ap (λ (ps : List PrintValue). map (print_of step x.0) x.1.prints ++ ps) (prints_more step ss s)
@@ -65,7 +70,8 @@ module _ {S : Type 0} where
     pub behind : List S
     pub is : rest ≡ t ∷ behind
 
-  pub next_is : (us rest tasks : List S) (place : ℕ) (t : S) → tasks ≡ us ++ rest → length us ≡ place → place < length tasks → t ≡ get_or tasks place t → IsNext rest t
+  pub next_is : (us rest tasks : List S) (place : ℕ) (t : S) → tasks ≡ us ++ rest → length us ≡ place → place < length tasks
+      → t ≡ get_or tasks place t → IsNext rest t
   next_is us [] tasks place t e c lt g =
       let l : length tasks ≡ length us = ap length e ∙ ap length (append-nil us) in absurd (omega (arith, l))
   next_is us (x ∷ rest) tasks place t e c lt g =
@@ -74,10 +80,12 @@ module _ {S : Type 0} where
 
 module _ {S T : Type 0} where
   -- what a task did that didn't fault is kept
-  pub kept_one : (ps : Reads S T) (goes_on : Bool) (count : ℕ) (g : Segment T) (step : ℕ) (t u : S) (old new : Work S) (qs : List Put) (ds es : List (DeedValue S)) (before after : List PrintValue)
+  pub kept_one : (ps : Reads S T) (goes_on : Bool) (count : ℕ) (g : Segment T) (step : ℕ) (t u : S) (old new : Work S) (qs : List Put)
+      (ds es : List (DeedValue S)) (before after : List PrintValue)
       → HasAdded ps.meant old new g → g.after ≡ end_of ps goes_on u → ps.path u ≡ ps.path t
       → qs ≡ new.puts → count ≡ length new.puts - length old.puts
-      → es ≡ ds ++ record { synced = goes_on; puts = count; spawns = new.spawns.items } ∷ [] → after ≡ before ++ map (print_of step (ps.path u)) new.prints.items
+      → es ≡ ds ++ record { synced = goes_on; puts = count; spawns = new.spawns.items } ∷ []
+      → after ≡ before ++ map (print_of step (ps.path u)) new.prints.items
       → ReportedOne ps g step None t u old.puts qs ds es before after
   kept_one ps goes_on count g step t u old new qs ds es before after added ended path puts counts deeds prints = (
     puts ∙ added.puts,
@@ -90,7 +98,8 @@ module _ {S T : Type 0} where
       made = let l = ap length added.puts ∙ length-append old.puts g.puts in omega (arith, l, counts)
 
   -- one task more is done
-  pub one_more : (p : Reads S T) (arrays : List (List ℕ × List ℤ)) (step : ℕ) (olds : List S) (place : ℕ) (puts qs : List Put) (tasks : List S) (ds es : List (DeedValue S)) (before after shown : List PrintValue) (t u : S)
+  pub one_more : (p : Reads S T) (arrays : List (List ℕ × List ℤ)) (step : ℕ) (olds : List S) (place : ℕ) (puts qs : List Put)
+      (tasks : List S) (ds es : List (DeedValue S)) (before after shown : List PrintValue) (t u : S)
       → IsUnderWay p arrays step olds place puts tasks ds before after → place < length tasks → t ≡ get_or tasks place t
       → ReportedOne p (p.says.segment (p.meant t) arrays step) step None t u puts qs ds es after shown
       → IsUnderWay p arrays step olds (place + 1) qs (slice_set tasks place u) es before shown
@@ -120,7 +129,8 @@ module _ {S T : Type 0} where
       more (y ∷ xs) x = ap suc (more xs x)
 
   -- all are done
-  pub all_done : (p : Reads S T) (arrays : List (List ℕ × List ℤ)) (step : ℕ) (olds : List S) (place : ℕ) (puts : List Put) (tasks : List S) (ds : List (DeedValue S)) (before after : List PrintValue)
+  pub all_done : (p : Reads S T) (arrays : List (List ℕ × List ℤ)) (step : ℕ) (olds : List S) (place : ℕ) (puts : List Put) (tasks : List S)
+      (ds : List (DeedValue S)) (before after : List PrintValue)
       → IsUnderWay p arrays step olds place puts tasks ds before after → length tasks ≤ place
       → IsAllDone p (deeds_of p arrays step olds) step puts tasks ds before after
   all_done p arrays step olds place puts tasks ds before after h le = by h.rest h.cut h.all
@@ -147,7 +157,8 @@ module _ {S T : Type 0} where
           longer (x ∷ xs) ys y = let l = longer xs ys y in omega (arith, l)
 
   -- the task whose put is at a place of the log is the one that made it
-  pub maker_reported : (ps : Reads S T) (us : List S) (ds : List (DeedValue S)) (ss : List (List ℕ × Segment T)) → AllDone ps us ds ss → (k : ℕ)
+  pub maker_reported : (ps : Reads S T) (us : List S) (ds : List (DeedValue S)) (ss : List (List ℕ × Segment T)) → AllDone ps us ds ss
+      → (k : ℕ)
       → option_map fault_eight (located (map log_of ss) k) ≡ option_map overflow_at (maker ps.path us ds k)
   maker_reported ps [] [] [] h k = refl
   maker_reported ps [] [] (s ∷ ss) h k = absurd h
@@ -159,14 +170,16 @@ module _ {S T : Type 0} where
       ap (λ (n : ℕ). option_map fault_eight (if nat_lt k n then Some (s.0, k) else located (map log_of ss) (k - n))) (sym h.1.2)
       ∙ by (nat_lt k d.puts) (maker_reported ps us ds ss h.2 (k - d.puts))
     where
-      by : (b : Bool) → option_map fault_eight (located (map log_of ss) (k - d.puts)) ≡ option_map overflow_at (maker ps.path us ds (k - d.puts))
+      by : (b : Bool)
+          → option_map fault_eight (located (map log_of ss) (k - d.puts)) ≡ option_map overflow_at (maker ps.path us ds (k - d.puts))
           → option_map fault_eight (if b then Some (s.0, k) else located (map log_of ss) (k - d.puts))
           ≡ option_map overflow_at (if b then Some (ps.path u) else maker ps.path us ds (k - d.puts))
       by true e = ap (λ (p : List ℕ). Some (8, p)) (sym h.0)
       by false e = e
 
   -- who did something didn't fault
-  pub no_fault : (ps : Reads S T) (us : List S) (ds : List (DeedValue S)) (ss more : List (List ℕ × Segment T)) → AllDone ps us ds ss → first_fault (ss ++ more) ≡ first_fault more
+  pub no_fault : (ps : Reads S T) (us : List S) (ds : List (DeedValue S)) (ss more : List (List ℕ × Segment T)) → AllDone ps us ds ss
+      → first_fault (ss ++ more) ≡ first_fault more
   no_fault ps [] [] [] more h = refl
   no_fault ps [] [] (s ∷ ss) more h = absurd h
   no_fault ps [] (d ∷ ds) ss more h = absurd h
@@ -175,12 +188,14 @@ module _ {S T : Type 0} where
   no_fault ps (u ∷ us) (d ∷ ds) (s ∷ ss) more h =
       ap (or_later (first_fault (ss ++ more)) s.0) h.1.1 ∙ by d.synced (no_fault ps us ds ss more h.2)
     where
-      by : (b : Bool) → first_fault (ss ++ more) ≡ first_fault more → or_later (first_fault (ss ++ more)) s.0 (end_of ps b u) ≡ first_fault more
+      by : (b : Bool) → first_fault (ss ++ more) ≡ first_fault more
+          → or_later (first_fault (ss ++ more)) s.0 (end_of ps b u) ≡ first_fault more
       by true e = e
       by false e = e
 
 module _ {T : Type 0} where
-  later_fault : (path : List ℕ) (g : Segment T) (rest : List (List ℕ × Segment T)) (f : ℕ × List ℕ) → first_fault ((path, g) ∷ []) ≡ Some f → first_fault ((path, g) ∷ rest) ≡ Some f
+  later_fault : (path : List ℕ) (g : Segment T) (rest : List (List ℕ × Segment T)) (f : ℕ × List ℕ) → first_fault ((path, g) ∷ []) ≡ Some f
+      → first_fault ((path, g) ∷ rest) ≡ Some f
   later_fault path g rest f h = by g.after h
     where
       by : (a : After T) → or_later None path a ≡ Some f → or_later (first_fault rest) path a ≡ Some f
@@ -190,7 +205,8 @@ module _ {T : Type 0} where
 
 module _ {S T : Type 0} where
   -- the next task faults
-  pub one_faults : (p : Reads S T) (arrays : List (List ℕ × List ℤ)) (step : ℕ) (olds : List S) (place : ℕ) (puts qs : List Put) (tasks : List S) (ds es : List (DeedValue S)) (before after shown : List PrintValue) (t u : S) (f : ℕ × List ℕ)
+  pub one_faults : (p : Reads S T) (arrays : List (List ℕ × List ℤ)) (step : ℕ) (olds : List S) (place : ℕ) (puts qs : List Put)
+      (tasks : List S) (ds es : List (DeedValue S)) (before after shown : List PrintValue) (t u : S) (f : ℕ × List ℕ)
       → IsUnderWay p arrays step olds place puts tasks ds before after → place < length tasks → t ≡ get_or tasks place t
       → ReportedOne p (p.says.segment (p.meant t) arrays step) step (Some f) t u puts qs ds es after shown
       → (first_fault (deeds_of p arrays step olds) ≡ Some f) × ((more : List PrintValue) × (shown ≡ before ++ more))
@@ -203,7 +219,8 @@ module _ {S T : Type 0} where
       )
 
   -- one task further
-  pub one_further : (p : Reads S T) (arrays : List (List ℕ × List ℤ)) (step first place : ℕ) (puts qs rs : List Put) (ts tasks : List S) (ds es fs : List (DeedValue S)) (shown after last : List PrintValue) (t u : S)
+  pub one_further : (p : Reads S T) (arrays : List (List ℕ × List ℤ)) (step first place : ℕ) (puts qs rs : List Put) (ts tasks : List S)
+      (ds es fs : List (DeedValue S)) (shown after last : List PrintValue) (t u : S)
       → IsFurther p arrays step None first place puts qs ts tasks ds es shown after → place < length tasks → t ≡ get_or tasks place t
       → ReportedOne p (p.says.segment (p.meant t) arrays step) step None t u qs rs es fs after last
       → IsFurther p arrays step None first (place + 1) puts rs ts (slice_set tasks place u) ds fs shown last
@@ -211,7 +228,8 @@ module _ {S T : Type 0} where
       one_more p arrays step olds place qs rs tasks es fs before after last t u (h olds before way) lt g reported
 
   -- the next one faults
-  pub faults_further : (p : Reads S T) (arrays : List (List ℕ × List ℤ)) (step first place end : ℕ) (puts qs rs : List Put) (ts tasks us : List S) (ds es fs : List (DeedValue S)) (shown after last : List PrintValue) (t u : S) (f : ℕ × List ℕ)
+  pub faults_further : (p : Reads S T) (arrays : List (List ℕ × List ℤ)) (step first place end : ℕ) (puts qs rs : List Put)
+      (ts tasks us : List S) (ds es fs : List (DeedValue S)) (shown after last : List PrintValue) (t u : S) (f : ℕ × List ℕ)
       → IsFurther p arrays step None first place puts qs ts tasks ds es shown after → place < length tasks → t ≡ get_or tasks place t
       → ReportedOne p (p.says.segment (p.meant t) arrays step) step (Some f) t u qs rs es fs after last
       → IsFurther p arrays step (Some f) first end puts rs ts us ds fs shown last
@@ -219,13 +237,16 @@ module _ {S T : Type 0} where
       one_faults p arrays step olds place qs rs tasks es fs before after last t u f (h olds before way) lt g reported
 
   -- all tasks of a list
-  pub come_all : (p : Reads S T) (arrays : List (List ℕ × List ℤ)) (step : ℕ) (olds : List S) (fault : Option (ℕ × List ℕ)) (end : ℕ) (puts : List Put) (us : List S) (ds : List (DeedValue S)) (before after : List PrintValue)
-      → HasCome p arrays step olds fault end puts us ds before after → length us ≤ end → Reported p (deeds_of p arrays step olds) step fault puts us ds before after
+  pub come_all : (p : Reads S T) (arrays : List (List ℕ × List ℤ)) (step : ℕ) (olds : List S) (fault : Option (ℕ × List ℕ)) (end : ℕ)
+      (puts : List Put) (us : List S) (ds : List (DeedValue S)) (before after : List PrintValue)
+      → HasCome p arrays step olds fault end puts us ds before after → length us ≤ end
+      → Reported p (deeds_of p arrays step olds) step fault puts us ds before after
   come_all p arrays step olds (Some f) end puts us ds before after h le = h
   come_all p arrays step olds None end puts us ds before after h le = all_done p arrays step olds end puts us ds before after h le
 
 module _ {S : Type 0} where
-  living_append : (ts us : List S) (ds es : List (DeedValue S)) → length ts ≡ length ds → living_with (ts ++ us) (ds ++ es) ≡ living_with ts ds ++ living_with us es
+  living_append : (ts us : List S) (ds es : List (DeedValue S)) → length ts ≡ length ds
+      → living_with (ts ++ us) (ds ++ es) ≡ living_with ts ds ++ living_with us es
   living_append [] us [] es h = refl
   living_append [] us (d ∷ ds) es h = absurd (omega arith)
   living_append (t ∷ ts) us [] es h = absurd (omega arith)
@@ -234,7 +255,8 @@ module _ {S : Type 0} where
       ∙ sym (append_assoc (kept d.synced t ++ d.spawns) (living_with ts ds) (living_with us es))
 
   -- the last task and its deed
-  pub living_last : (ts us : List S) (t : S) (ds es : List (DeedValue S)) (d : DeedValue S) → ts ≡ us ++ t ∷ [] → ds ≡ es ++ d ∷ [] → length ts ≡ length ds
+  pub living_last : (ts us : List S) (t : S) (ds es : List (DeedValue S)) (d : DeedValue S) → ts ≡ us ++ t ∷ [] → ds ≡ es ++ d ∷ []
+      → length ts ≡ length ds
       → living_with ts ds ≡ living_with us es ++ (kept d.synced t ++ d.spawns)
   living_last ts us t ds es d e f h =
       let l : length ts ≡ length us + 1 = ap length e ∙ more us t in
@@ -252,7 +274,8 @@ map_append f (x ∷ xs) ys = ap (λ zs. f x ∷ zs) (map_append f xs ys)
 
 module _ {S T : Type 0} where
   -- the tasks that live on are those of the segments
-  pub living_reported : (ps : Reads S T) (us : List S) (ds : List (DeedValue S)) (ss : List (List ℕ × Segment T)) → AllDone ps us ds ss → map ps.meant (living_with us ds) ≡ living_on ss
+  pub living_reported : (ps : Reads S T) (us : List S) (ds : List (DeedValue S)) (ss : List (List ℕ × Segment T)) → AllDone ps us ds ss
+      → map ps.meant (living_with us ds) ≡ living_on ss
   living_reported ps [] [] [] h = refl
   living_reported ps [] [] (s ∷ ss) h = absurd h
   living_reported ps [] (d ∷ ds) ss h = absurd h
@@ -276,7 +299,8 @@ module _ {S T : Type 0} where
     pub born : spawned_in ds ≡ spawned ss
     pub living : length (living_with us ds) + left_in ds ≡ length ds + spawned_in ds
 
-  counted_one : (ps : Reads S T) (u : S) (d : DeedValue S) (s : List ℕ × Segment T) (us : List S) (ds : List (DeedValue S)) (ss : List (List ℕ × Segment T))
+  counted_one : (ps : Reads S T) (u : S) (d : DeedValue S) (s : List ℕ × Segment T) (us : List S) (ds : List (DeedValue S))
+      (ss : List (List ℕ × Segment T))
       → IsDeed ps u d s.1 → IsCounted us ds ss → IsCounted (u ∷ us) (d ∷ ds) (s ∷ ss)
   counted_one ps u d s us ds ss h c = record {
     tasks = ap suc c.tasks;
@@ -299,7 +323,8 @@ module _ {S T : Type 0} where
       one true = refl
       one false = refl
 
-  pub counted : (ps : Reads S T) (us : List S) (ds : List (DeedValue S)) (ss : List (List ℕ × Segment T)) → AllDone ps us ds ss → IsCounted us ds ss
+  pub counted : (ps : Reads S T) (us : List S) (ds : List (DeedValue S)) (ss : List (List ℕ × Segment T)) → AllDone ps us ds ss
+      → IsCounted us ds ss
   counted ps [] [] [] h = record { tasks = refl; deeds = refl; stopped = refl; born = refl; living = refl }
   counted ps [] [] (s ∷ ss) h = absurd h
   counted ps [] (d ∷ ds) ss h = absurd h
@@ -308,7 +333,8 @@ module _ {S T : Type 0} where
   counted ps (u ∷ us) (d ∷ ds) (s ∷ ss) h = counted_one ps u d s us ds ss h.1 (counted ps us ds ss h.2)
 
   -- tasks keep their paths
-  pub paths_kept : (p : Reads S T) (arrays : List (List ℕ × List ℤ)) (step : ℕ) (olds us : List S) (ds : List (DeedValue S)) → AllDone p us ds (deeds_of p arrays step olds) → map p.path us ≡ map p.path olds
+  pub paths_kept : (p : Reads S T) (arrays : List (List ℕ × List ℤ)) (step : ℕ) (olds us : List S) (ds : List (DeedValue S))
+      → AllDone p us ds (deeds_of p arrays step olds) → map p.path us ≡ map p.path olds
   paths_kept p arrays step [] [] ds h = refl
   paths_kept p arrays step [] (u ∷ us) [] h = absurd h
   paths_kept p arrays step [] (u ∷ us) (d ∷ ds) h = absurd h
@@ -319,7 +345,8 @@ module _ {S T : Type 0} where
 
 module _ {S : Type 0} where
   -- if nobody stopped and nobody was spawned the same tasks live on
-  pub all_stay : (us : List S) (ds : List (DeedValue S)) → length us ≡ length ds → left_in ds ≡ 0 → spawned_in ds ≡ 0 → living_with us ds ≡ us
+  pub all_stay : (us : List S) (ds : List (DeedValue S)) → length us ≡ length ds → left_in ds ≡ 0 → spawned_in ds ≡ 0
+      → living_with us ds ≡ us
   all_stay [] [] l a b = refl
   all_stay [] (d ∷ ds) l a b = absurd (omega arith)
   all_stay (u ∷ us) [] l a b = absurd (omega arith)

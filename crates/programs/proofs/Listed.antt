@@ -59,7 +59,8 @@ module _ {S : Type 0} where
   -- one deed more, with its tasks after the others'
   pub deeds_more : (ds : List Deed) (d : Deed) (front back : List S) → spawned_by ds ≡ length front → d.spawned ≡ length back
       → deeds_with (ds ++ d ∷ []) (front ++ back) ≡ deeds_with ds front ++ record { synced = d.synced; puts = d.puts; spawns = back } ∷ []
-  deeds_more [] d [] back e f = ap (λ (ts : List S). record { synced = d.synced; puts = d.puts; spawns = ts } ∷ []) (take_whole d.spawned back f)
+  deeds_more [] d [] back e f =
+      ap (λ (ts : List S). record { synced = d.synced; puts = d.puts; spawns = ts } ∷ []) (take_whole d.spawned back f)
   deeds_more [] d (x ∷ front) back e f = absurd (omega arith)
   deeds_more (y ∷ ds) d front back e f =
       let few : y.spawned ≤ length front = omega arith in
@@ -79,13 +80,15 @@ spawned_more (x ∷ ds) d = let l = spawned_more ds d in omega (arith, l)
 
 module _ {S : Type 0} where
   -- other deeds after these, with their tasks
-  pub deeds_append : (ds es : List Deed) (ts us : List S) → spawned_by ds ≡ length ts → deeds_with (ds ++ es) (ts ++ us) ≡ deeds_with ds ts ++ deeds_with es us
+  pub deeds_append : (ds es : List Deed) (ts us : List S) → spawned_by ds ≡ length ts
+      → deeds_with (ds ++ es) (ts ++ us) ≡ deeds_with ds ts ++ deeds_with es us
   deeds_append [] es [] us h = refl
   deeds_append [] es (t ∷ ts) us h = absurd (omega arith)
   deeds_append (d ∷ ds) es ts us h =
       let few : d.spawned ≤ length ts = omega arith in
       let l = behind_length d.spawned ts few in
-      (λ i. record { synced = d.synced; puts = d.puts; spawns = take_front d.spawned ts us few i } ∷ deeds_with (ds ++ es) (behind_front d.spawned ts us few i))
+      (λ i. record { synced = d.synced; puts = d.puts; spawns = take_front d.spawned ts us few i }
+      ∷ deeds_with (ds ++ es) (behind_front d.spawned ts us few i))
       ∙ ap (λ (xs : List (DeedValue S)). record { synced = d.synced; puts = d.puts; spawns = take d.spawned ts } ∷ xs)
       (deeds_append ds es (behind d.spawned ts) us (omega (arith, l)))
 
@@ -125,11 +128,13 @@ module _ {S : Type 0} where
   maker_by q [] (d ∷ ds) place = None
   maker_by q (t ∷ ts) (d ∷ ds) place = if nat_lt place d.puts then Some (q t) else maker_by q ts ds (place - d.puts)
 
-  pub maker_same : (q : S → List ℕ) (us : List S) (ds : List Deed) (ts : List S) (place : ℕ) → maker q us (deeds_with ds ts) place ≡ maker_by q us ds place
+  pub maker_same : (q : S → List ℕ) (us : List S) (ds : List Deed) (ts : List S) (place : ℕ)
+      → maker q us (deeds_with ds ts) place ≡ maker_by q us ds place
   maker_same q us [] ts place = refl
   maker_same q [] (d ∷ ds) ts place = refl
   maker_same q (u ∷ us) (d ∷ ds) ts place =
-      ap (λ (o : Option (List ℕ)). if nat_lt place d.puts then Some (q u) else o) (maker_same q us ds (behind d.spawned ts) (place - d.puts))
+      ap (λ (o : Option (List ℕ)). if nat_lt place d.puts then Some (q u) else o)
+      (maker_same q us ds (behind d.spawned ts) (place - d.puts))
 
   -- what is counted of deeds
   pub record Counts (i : Inside S) (ds : List (DeedValue S)) : Type 0 where
@@ -150,9 +155,11 @@ module _ {S : Type 0} where
     pub rest : spawned_by es ≡ length (take (length spawns - d.spawned) spawns)
     pub count : length (behind (length spawns - d.spawned) spawns) ≡ d.spawned
     pub living : living_with tasks (deeds_with each spawns)
-        ≡ living_with us (deeds_with es (take (length spawns - d.spawned) spawns)) ++ (kept d.synced t ++ behind (length spawns - d.spawned) spawns)
+        ≡ living_with us (deeds_with es (take (length spawns - d.spawned) spawns))
+        ++ (kept d.synced t ++ behind (length spawns - d.spawned) spawns)
 
-  pub last_deed : (tasks us : List S) (t : S) (each es : List Deed) (d : Deed) (spawns : List S) → tasks ≡ us ++ t ∷ [] → each ≡ es ++ d ∷ []
+  pub last_deed : (tasks us : List S) (t : S) (each es : List Deed) (d : Deed) (spawns : List S) → tasks ≡ us ++ t ∷ []
+      → each ≡ es ++ d ∷ []
       → length tasks ≡ length each → spawned_by each ≡ length spawns → LastDeed tasks us t each es d spawns
   last_deed tasks us t each es d spawns e f l h =
       let k : ℕ = length spawns - d.spawned in
@@ -161,12 +168,15 @@ module _ {S : Type 0} where
       let within : k ≤ length spawns = omega arith in
       let rest : spawned_by es ≡ length (take k spawns) = let n = take_length k spawns within in omega (arith, all, n) in
       let count : length (behind k spawns) ≡ d.spawned = let n = behind_length k spawns within in omega (arith, n, few) in
-      let reported : deeds_with each spawns ≡ deeds_with es (take k spawns) ++ record { synced = d.synced; puts = d.puts; spawns = behind k spawns } ∷ [] =
+      let reported : deeds_with each spawns
+      ≡ deeds_with es (take k spawns) ++ record { synced = d.synced; puts = d.puts; spawns = behind k spawns } ∷ [] =
       (λ i. deeds_with (f i) (sym (cut_at k spawns within) i)) ∙ deeds_more es d (take k spawns) (behind k spawns) rest (sym count) in
       record {
         few = few;
         rest = rest;
         count = count;
-        living = living_last tasks us t (deeds_with each spawns) (deeds_with es (take k spawns)) (record { synced = d.synced; puts = d.puts; spawns = behind k spawns }) e reported
+        living =
+            living_last tasks us t (deeds_with each spawns) (deeds_with es (take k spawns))
+            (record { synced = d.synced; puts = d.puts; spawns = behind k spawns }) e reported
             (l ∙ sym (count_reported each spawns));
       }

@@ -20,17 +20,20 @@ use Rattle.programs.proofs.Runs.{goes, step_moves, ended_is_last}
 -- ---- how a run has ended
 
 -- it is looked at before the tasks after a fault are dropped
-pub status_kept : {T : Type 0} (limit step : ℕ) (fault : Option (ℕ × List ℕ)) (live : List T) → status_of limit step fault (live_after fault live) ≡ status_of limit step fault live
+pub status_kept : {T : Type 0} (limit step : ℕ) (fault : Option (ℕ × List ℕ)) (live : List T)
+    → status_of limit step fault (live_after fault live) ≡ status_of limit step fault live
 status_kept limit step None live = refl
 status_kept limit step (Some f) live = refl
 
-pub status_mapped : {S T : Type 0} (meant : S → T) (limit step : ℕ) (fault : Option (ℕ × List ℕ)) (live : List S) → status_of limit step fault (map meant live) ≡ status_of limit step fault live
+pub status_mapped : {S T : Type 0} (meant : S → T) (limit step : ℕ) (fault : Option (ℕ × List ℕ)) (live : List S)
+    → status_of limit step fault (map meant live) ≡ status_of limit step fault live
 status_mapped meant limit step (Some f) live = refl
 status_mapped meant limit step None [] = refl
 status_mapped meant limit step None (t ∷ ts) = refl
 
 -- the tasks that live then
-pub living_kept : {T : Type 0} (limit step : ℕ) (fault : Option (ℕ × List ℕ)) (live : List T) (s : Status) → status_of limit step fault live ≡ Some s → living_after s live ≡ live_after fault live
+pub living_kept : {T : Type 0} (limit step : ℕ) (fault : Option (ℕ × List ℕ)) (live : List T) (s : Status)
+    → status_of limit step fault live ≡ Some s → living_after s live ≡ live_after fault live
 living_kept limit step (Some f) live s e = let same : Fault f.0 step f.1 ≡ s = cc in ap (λ (x : Status). living_after x live) (sym same)
 living_kept limit step None [] s e = let same : Ended step ≡ s = cc in ap (λ (x : Status). living_after x []) (sym same)
 living_kept limit step None (t ∷ ts) s e = by (nat_le limit step) e
@@ -39,16 +42,19 @@ living_kept limit step None (t ∷ ts) s e = by (nat_le limit step) e
     by true e = let same : Limit step ≡ s = cc in ap (λ (x : Status). living_after x (t ∷ ts)) (sym same)
     by false e = cc
 
-open_fault : {S : Type 0} (limit step : ℕ) (fault : Option (ℕ × List ℕ)) (live : List S) → status_of limit step fault live ≡ None → fault ≡ None
+open_fault : {S : Type 0} (limit step : ℕ) (fault : Option (ℕ × List ℕ)) (live : List S) → status_of limit step fault live ≡ None
+    → fault ≡ None
 open_fault limit step None live e = refl
 open_fault limit step (Some f) live e = cc
 
-open_some : {S : Type 0} (limit step : ℕ) (fault : Option (ℕ × List ℕ)) (live : List S) → status_of limit step fault live ≡ None → 0 < length live
+open_some : {S : Type 0} (limit step : ℕ) (fault : Option (ℕ × List ℕ)) (live : List S) → status_of limit step fault live ≡ None
+    → 0 < length live
 open_some limit step (Some f) live e = cc
 open_some limit step None [] e = cc
 open_some limit step None (t ∷ ts) e = omega arith
 
-open_early : {S : Type 0} (limit step : ℕ) (fault : Option (ℕ × List ℕ)) (live : List S) → status_of limit step fault live ≡ None → step < limit
+open_early : {S : Type 0} (limit step : ℕ) (fault : Option (ℕ × List ℕ)) (live : List S) → status_of limit step fault live ≡ None
+    → step < limit
 open_early limit step (Some f) live e = cc
 open_early limit step None [] e = cc
 open_early limit step None (t ∷ ts) e = let b = late (nat_le limit step) e in grind arith
@@ -89,7 +95,8 @@ steps_left v = still v.fault (v.limit - v.step)
 pub all_kept : {T : Type 0} (st : State T) → st.fault ≡ None → as_kept st ≡ st
 all_kept st e = ap (λ (o : Option (ℕ × List ℕ)). record st { live = live_after o st.live }) e
 
-late_status : {T : Type 0} (limit step : ℕ) (live : List T) → 0 < length live → limit ≤ step → status_of limit step None live ≡ Some (Limit step)
+late_status : {T : Type 0} (limit step : ℕ) (live : List T) → 0 < length live → limit ≤ step
+    → status_of limit step None live ≡ Some (Limit step)
 late_status limit step [] some le = absurd (omega (arith, some))
 late_status limit step (t ∷ ts) some le = let b : nat_le limit step ≡ true = grind arith in late (nat_le limit step) b
   where
@@ -97,12 +104,14 @@ late_status limit step (t ∷ ts) some le = let b : nat_le limit step ≡ true =
     late true h = refl
     late false h = cc
 
-module _ {S T : Type 0} (f : Frame T) (may : T → List (List ℕ × List ℤ) → ℕ → Segment T → Type 0) (most : ℕ) (meant : S → T) (path : S → List ℕ) (law : (t : S) → f.path (meant t) ≡ path t)
+module _ {S T : Type 0} (f : Frame T) (may : T → List (List ℕ × List ℤ) → ℕ → Segment T → Type 0) (most : ℕ) (meant : S → T)
+    (path : S → List ℕ) (law : (t : S) → f.path (meant t) ≡ path t)
     (arrays : List (List ℕ × List ℤ)) (tasks : List T) (limit : ℕ) where
   -- the supersteps so far, by their history
   pub record IsReached (v : StepsValue S) : Type 0 where
     pub history : List (List (Entry T))
-    pub entered : (n : ℕ) → n < length history → IsEntered f may (so_far (says_by f most history) arrays tasks limit n) (get_or history n [])
+    pub entered : (n : ℕ) → n < length history
+        → IsEntered f may (so_far (says_by f most history) arrays tasks limit n) (get_or history n [])
     pub state : state_in meant v ≡ as_kept (so_far (says_by f most history) arrays tasks limit (length history))
     pub count : v.fault ≡ None → length history ≡ v.step
     pub sound : v.failed ≡ false
@@ -119,24 +128,29 @@ module _ {S T : Type 0} (f : Frame T) (may : T → List (List ℕ × List ℤ) �
   }
 
   -- one superstep more is entered
-  pub entered_more : (history : List (List (Entry T))) (es : List (Entry T)) → ((n : ℕ) → n < length history → IsEntered f may (so_far (says_by f most history) arrays tasks limit n) (get_or history n []))
+  pub entered_more : (history : List (List (Entry T))) (es : List (Entry T))
+      → ((n : ℕ) → n < length history → IsEntered f may (so_far (says_by f most history) arrays tasks limit n) (get_or history n []))
       → IsEntered f may (so_far (says_by f most history) arrays tasks limit (length history)) es
-      → (n : ℕ) → n < length (history ++ es ∷ []) → IsEntered f may (so_far (says_by f most (history ++ es ∷ [])) arrays tasks limit n) (get_or (history ++ es ∷ []) n [])
+      → (n : ℕ) → n < length (history ++ es ∷ [])
+      → IsEntered f may (so_far (says_by f most (history ++ es ∷ [])) arrays tasks limit n) (get_or (history ++ es ∷ []) n [])
   entered_more history es before now n lt = by (nat_lt n (length history)) refl
     where
       more : List (List (Entry T))
       more = history ++ es ∷ []
 
-      by : (b : Bool) → nat_lt n (length history) ≡ b → IsEntered f may (so_far (says_by f most more) arrays tasks limit n) (get_or more n [])
+      by : (b : Bool) → nat_lt n (length history) ≡ b
+          → IsEntered f may (so_far (says_by f most more) arrays tasks limit n) (get_or more n [])
       by true e =
           let k : n < length history = grind (arith, nat_tests) in
-          subst (λ st. IsEntered f may st (get_or more n [])) (sym (so_far_more f most history (es ∷ []) arrays tasks limit n (omega (arith, k))))
+          subst (λ st. IsEntered f may st (get_or more n []))
+          (sym (so_far_more f most history (es ∷ []) arrays tasks limit n (omega (arith, k))))
           (subst (IsEntered f may (so_far (says_by f most history) arrays tasks limit n)) (sym (get_or_append_left history (es ∷ []) [] n k)) (before n k))
       by false e =
           let le : length history ≤ n = grind (arith, nat_tests) in
           let l = length-append history (es ∷ []) in
           let same : n ≡ length history = omega (arith, le, l, lt) in
-          subst (λ st. IsEntered f may st (get_or more n [])) (sym (ap (so_far (says_by f most more) arrays tasks limit) same ∙ so_far_more f most history (es ∷ []) arrays tasks limit (length history) (omega arith)))
+          subst (λ st. IsEntered f may st (get_or more n []))
+          (sym (ap (so_far (says_by f most more) arrays tasks limit) same ∙ so_far_more f most history (es ∷ []) arrays tasks limit (length history) (omega arith)))
           (subst (IsEntered f may (so_far (says_by f most history) arrays tasks limit (length history)))
           (sym (ap (λ (k : ℕ). get_or more k []) same ∙ get_or-append_seam history es [] [])) now)
 
@@ -163,7 +177,9 @@ module _ {S T : Type 0} (f : Frame T) (may : T → List (List ℕ × List ℤ) �
           let le : length history ≤ n = grind (arith, nat_tests) in
           let l = length-append history (es ∷ []) in
           let same : n ≡ length history = omega (arith, le, l, lt) in
-          subst seen (sym (ap (so_far (says_by f most more) arrays tasks limit) same ∙ so_far_more f most history (es ∷ []) arrays tasks limit (length history) (omega arith))) now
+          subst seen
+          (sym (ap (so_far (says_by f most more) arrays tasks limit) same ∙ so_far_more f most history (es ∷ []) arrays tasks limit (length history) (omega arith)))
+          now
 
   -- the state that a run has reached
   abbrev pub state_at : {v : StepsValue S} → IsReached v → State T
@@ -186,7 +202,8 @@ module _ {S T : Type 0} (f : Frame T) (may : T → List (List ℕ × List ℤ) �
   whole_state v h e = h.state ∙ all_kept (state_at h) (fault_at v h ∙ e)
 
   -- what is seen of the run is seen of the state that it has reached
-  pub seen_now : (seen : ℕ → List (List ℕ × List ℤ) → ℕ → Type 0) (v : StepsValue S) (h : IsReached v) → v.fault ≡ None → seen v.step v.arrays (length v.tasks) → OfState seen (state_at h)
+  pub seen_now : (seen : ℕ → List (List ℕ × List ℤ) → ℕ → Type 0) (v : StepsValue S) (h : IsReached v) → v.fault ≡ None
+      → seen v.step v.arrays (length v.tasks) → OfState seen (state_at h)
   seen_now seen v h e x = subst (OfState seen) (whole_state v h e) (subst (seen v.step v.arrays) (sym (length-map v.tasks meant)) x)
 
   -- one superstep more
@@ -200,14 +217,19 @@ module _ {S T : Type 0} (f : Frame T) (may : T → List (List ℕ × List ℤ) �
       let up : length more ≡ suc (length h.history) = omega (arith, l) in
       let at : st.step ≡ length h.history = ap (λ (x : State T). x.step) (sym whole) ∙ sym (h.count o.fault) in
       let own : get_or more st.step [] ≡ t.entries = ap (λ (n : ℕ). get_or more n []) at ∙ get_or-append_seam h.history t.entries [] [] in
-      let same : so_far (says_by f most more) arrays tasks limit (length h.history) ≡ st = so_far_more f most h.history (t.entries ∷ []) arrays tasks limit (length h.history) (omega arith) in
+      let same : so_far (says_by f most more) arrays tasks limit (length h.history) ≡ st =
+      so_far_more f most h.history (t.entries ∷ []) arrays tasks limit (length h.history) (omega arith) in
       let next : superstep (says_by f most more) st ≡ superstep (says_in f v.most t.entries) (state_in meant v) =
       superstep_by f most more st ∙ ap (λ (es : List (Entry T)). superstep (says_in f most es) st) own
       ∙ (λ i. superstep (says_in f (sym h.bounds.0 i) t.entries) (sym whole i)) in
       let going : status limit st ≡ None = ended_at v h ∙ run.going in
-      let reached : so_far (says_by f most more) arrays tasks limit (length more) ≡ superstep (says_in f v.most t.entries) (state_in meant v) =
+      let reached : so_far (says_by f most more) arrays tasks limit (length more)
+      ≡ superstep (says_in f v.most t.entries) (state_in meant v) =
       ap (so_far (says_by f most more) arrays tasks limit) up
-      ∙ goes (says_by f most more) arrays tasks (status limit (so_far (says_by f most more) arrays tasks limit (length h.history))) (so_far (says_by f most more) arrays tasks limit (length h.history)) (superstep (says_by f most more) (so_far (says_by f most more) arrays tasks limit (length h.history))) (ap (status limit) same ∙ going)
+      ∙ goes (says_by f most more) arrays tasks (status limit (so_far (says_by f most more) arrays tasks limit (length h.history)))
+      (so_far (says_by f most more) arrays tasks limit (length h.history))
+      (superstep (says_by f most more) (so_far (says_by f most more) arrays tasks limit (length h.history)))
+      (ap (status limit) same ∙ going)
       ∙ ap (superstep (says_by f most more)) same ∙ next in
       let s = says_in f v.most t.entries in
       let ss = segments s v.arrays v.step (map meant v.tasks) in
@@ -227,7 +249,9 @@ module _ {S T : Type 0} (f : Frame T) (may : T → List (List ℕ × List ℤ) �
 
   -- fewer supersteps are left
   pub fewer_left : (v new : StepsValue S) → IsRunning v → HasStepped f may meant v new → suc (steps_left new) ≤ steps_left v
-  fewer_left v new run t = subst (λ (n : ℕ). suc (steps_left new) ≤ n) (ap (λ (g : Option (ℕ × List ℕ)). still g (v.limit - v.step)) (sym o.fault)) (by new.fault refl)
+  fewer_left v new run t =
+      subst (λ (n : ℕ). suc (steps_left new) ≤ n) (ap (λ (g : Option (ℕ × List ℕ)). still g (v.limit - v.step)) (sym o.fault))
+      (by new.fault refl)
     where
       o : IsOpen v
       o = is_open v run
@@ -245,7 +269,8 @@ module _ {S T : Type 0} (f : Frame T) (may : T → List (List ℕ × List ℤ) �
           omega (arith, moved, now, b, early)
 
   -- it has ended
-  abbrev pub reached_end : (v : StepsValue S) (s : Status) (h : IsReached v) → ended v ≡ Some s → HasRun f may most arrays tasks limit (left_by v s) (map meant v.tasks)
+  abbrev pub reached_end : (v : StepsValue S) (s : Status) (h : IsReached v) → ended v ≡ Some s
+      → HasRun f may most arrays tasks limit (left_by v s) (map meant v.tasks)
   reached_end v s h e =
       let st = state_at h in
       let over : status limit st ≡ Some s = ended_at v h ∙ e in
@@ -256,7 +281,8 @@ module _ {S T : Type 0} (f : Frame T) (may : T → List (List ℕ × List ℤ) �
         ended = over;
         report =
             ap (λ (x : State T). report_with x (status limit x)) (sym last) ∙ ap (report_with st) over
-            ∙ sym (λ i. Some (record { prints = (h.state i).prints; records = (h.state i).records; arrays = (h.state i).arrays; status = s }));
+            ∙ sym
+            (λ i. Some (record { prints = (h.state i).prints; records = (h.state i).records; arrays = (h.state i).arrays; status = s }));
         at_end = living_kept limit st.step st.fault st.live s over ∙ ap (λ (x : State T). x.live) (sym h.state);
       }
 
@@ -278,11 +304,14 @@ module _ {S T : Type 0} (f : Frame T) (may : T → List (List ℕ × List ℤ) �
       let le : v.step ≤ limit = let a = o.early in omega (arith, a, b) in
       let same : (n : ℕ) → n ≤ v.step → so_far s arrays tasks v.step n ≡ so_far s arrays tasks limit n =
       λ n lm. so_far_shorter f most s arrays tasks limit v.step n le lm in
-      let state : state_in meant v ≡ so_far s arrays tasks v.step (length h.history) = whole_state v h o.fault ∙ sym (same (length h.history) (omega (arith, k))) in
+      let state : state_in meant v ≡ so_far s arrays tasks v.step (length h.history) =
+      whole_state v h o.fault ∙ sym (same (length h.history) (omega (arith, k))) in
       let some : 0 < length (map meant v.tasks) = let a = o.some in let l = length-map v.tasks meant in omega (arith, a, l) in
       let late : status v.step (state_in meant v) ≡ Some (Limit v.step) =
-      ap (λ (g : Option (ℕ × List ℕ)). status_of v.step v.step g (map meant v.tasks)) o.fault ∙ late_status v.step v.step (map meant v.tasks) some (omega arith) in
-      let over : status v.step (so_far s arrays tasks v.step (length h.history)) ≡ Some (Limit v.step) = ap (status v.step) (sym state) ∙ late in
+      ap (λ (g : Option (ℕ × List ℕ)). status_of v.step v.step g (map meant v.tasks)) o.fault
+      ∙ late_status v.step v.step (map meant v.tasks) some (omega arith) in
+      let over : status v.step (so_far s arrays tasks v.step (length h.history)) ≡ Some (Limit v.step) =
+      ap (status v.step) (sym state) ∙ late in
       let last = ended_is_last s arrays tasks v.step (length h.history) (Limit v.step) over in
       record {
         taken = v.step;
@@ -292,8 +321,10 @@ module _ {S T : Type 0} (f : Frame T) (may : T → List (List ℕ × List ℤ) �
           entered = λ n lt. subst (λ st. IsEntered f may st (get_or h.history n [])) (sym (same n (omega (arith, lt, k)))) (h.entered n lt);
           ended = over;
           report =
-              ap (λ (x : State T). report_with x (status v.step x)) (sym last) ∙ ap (report_with (so_far s arrays tasks v.step (length h.history))) over
-              ∙ sym (λ i. Some (record { prints = (state i).prints; records = (state i).records; arrays = (state i).arrays; status = Limit v.step }));
+              ap (λ (x : State T). report_with x (status v.step x)) (sym last)
+              ∙ ap (report_with (so_far s arrays tasks v.step (length h.history))) over
+              ∙ sym
+              (λ i. Some (record { prints = (state i).prints; records = (state i).records; arrays = (state i).arrays; status = Limit v.step }));
           at_end = ap (λ (x : State T). x.live) (sym state);
         };
         went = λ n lt. let m : n < length h.history = lt in subst (OfState lets) (sym (same n (omega (arith, m, k)))) (went n m);
@@ -301,24 +332,33 @@ module _ {S T : Type 0} (f : Frame T) (may : T → List (List ℕ × List ℤ) �
       }
 
 -- paths as they are read
-pub paths_read : {S T : Type 0} (f : Frame T) (meant : S → T) (path : S → List ℕ) (law : (t : S) → f.path (meant t) ≡ path t) (ts : List S) → map f.path (map meant ts) ≡ map path ts
+pub paths_read : {S T : Type 0} (f : Frame T) (meant : S → T) (path : S → List ℕ) (law : (t : S) → f.path (meant t) ≡ path t) (ts : List S)
+    → map f.path (map meant ts) ≡ map path ts
 paths_read f meant path law [] = refl
 paths_read f meant path law (t ∷ ts) = λ i. law t i ∷ paths_read f meant path law ts i
 
 -- the paths of the tasks that a run begins with
-pub starts_read : {S T : Type 0} (f : Frame T) (meant : S → T) (path : S → List ℕ) (law : (t : S) → f.path (meant t) ≡ path t) (ts : List S) → map path ts ≡ children [] 0 (length ts)
+pub starts_read : {S T : Type 0} (f : Frame T) (meant : S → T) (path : S → List ℕ) (law : (t : S) → f.path (meant t) ≡ path t) (ts : List S)
+    → map path ts ≡ children [] 0 (length ts)
     → map f.path (map meant ts) ≡ children [] 0 (length (map meant ts))
 starts_read f meant path law ts h = paths_read f meant path law ts ∙ h ∙ ap (children [] 0) (sym (length-map ts meant))
 
 -- a run to its limit
-pub to_limit : {T : Type 0} (stops goes : ℕ → List (List ℕ × List ℤ) → ℕ → Type 0) (f : Frame T) (may : T → List (List ℕ × List ℤ) → ℕ → Segment T → Type 0) (most : ℕ) (arrays : List (List ℕ × List ℤ)) (tasks : List T) (limit : ℕ) (outcome : ReportValue) (living : List T)
-    (run : HasRun f may most arrays tasks limit outcome living) → ((n : ℕ) → n < length run.history → OfState goes (so_far (says_by f most run.history) arrays tasks limit n))
+pub to_limit : {T : Type 0} (stops goes : ℕ → List (List ℕ × List ℤ) → ℕ → Type 0) (f : Frame T)
+    (may : T → List (List ℕ × List ℤ) → ℕ → Segment T → Type 0) (most : ℕ) (arrays : List (List ℕ × List ℤ)) (tasks : List T) (limit : ℕ)
+    (outcome : ReportValue) (living : List T)
+    (run : HasRun f may most arrays tasks limit outcome living)
+    → ((n : ℕ) → n < length run.history → OfState goes (so_far (says_by f most run.history) arrays tasks limit n))
     → HasRunTo stops goes f may most arrays tasks limit outcome living
-to_limit stops goes f may most arrays tasks limit outcome living run went = record { taken = limit; within = omega arith; run = run; went = went; stopped = inl refl }
+to_limit stops goes f may most arrays tasks limit outcome living run went =
+    record { taken = limit; within = omega arith; run = run; went = went; stopped = inl refl }
 
 -- one that nobody may stop is to its limit
-pub never_stopped : {T : Type 0} (goes : ℕ → List (List ℕ × List ℤ) → ℕ → Type 0) (f : Frame T) (may : T → List (List ℕ × List ℤ) → ℕ → Segment T → Type 0) (most : ℕ) (arrays : List (List ℕ × List ℤ)) (tasks : List T) (limit : ℕ) (outcome : ReportValue) (living : List T)
-    → HasRunTo (λ step arrays tasks. ⊥) goes f may most arrays tasks limit outcome living → HasRun f may most arrays tasks limit outcome living
+pub never_stopped : {T : Type 0} (goes : ℕ → List (List ℕ × List ℤ) → ℕ → Type 0) (f : Frame T)
+    (may : T → List (List ℕ × List ℤ) → ℕ → Segment T → Type 0) (most : ℕ) (arrays : List (List ℕ × List ℤ)) (tasks : List T) (limit : ℕ)
+    (outcome : ReportValue) (living : List T)
+    → HasRunTo (λ step arrays tasks. ⊥) goes f may most arrays tasks limit outcome living
+    → HasRun f may most arrays tasks limit outcome living
 never_stopped goes f may most arrays tasks limit outcome living h = by h.stopped
   where
     by : (h.taken ≡ limit) ⊎ ⊥ → HasRun f may most arrays tasks limit outcome living

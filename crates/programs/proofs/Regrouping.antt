@@ -67,7 +67,8 @@ between [] [] n k h l = absurd cc
 between (b ∷ q) [] n k h l = absurd cc
 between [] (a ∷ p) n k h l = by (nat_cmp a n) p l
   where
-    by : (o : Ordering) (p : List ℕ) → is_less (ordering_then o (slice_cmp nat_cmp p [])) ≡ true → is_less (ordering_then o (slice_cmp nat_cmp (p ++ k ∷ []) [])) ≡ true
+    by : (o : Ordering) (p : List ℕ) → is_less (ordering_then o (slice_cmp nat_cmp p [])) ≡ true
+        → is_less (ordering_then o (slice_cmp nat_cmp (p ++ k ∷ []) [])) ≡ true
     by Less p e = refl
     by Equal [] e = absurd cc
     by Equal (x ∷ p) e = absurd cc
@@ -75,7 +76,8 @@ between [] (a ∷ p) n k h l = by (nat_cmp a n) p l
 between (b ∷ q) (a ∷ p) n k h l =
     by (nat_cmp a b) (nat_cmp b a) (nat_cmp_total.antisymm b a) h l (between q p n k)
   where
-    by : (o r : Ordering) → r ≡ ordering_reverse o → is_less (ordering_then r (slice_cmp nat_cmp q p)) ≡ true → is_less (ordering_then o (slice_cmp nat_cmp p (q ++ n ∷ []))) ≡ true
+    by : (o r : Ordering) → r ≡ ordering_reverse o → is_less (ordering_then r (slice_cmp nat_cmp q p)) ≡ true
+        → is_less (ordering_then o (slice_cmp nat_cmp p (q ++ n ∷ []))) ≡ true
         → (path_lt q p ≡ true → path_lt p (q ++ n ∷ []) ≡ true → path_lt (p ++ k ∷ []) (q ++ n ∷ []) ≡ true)
         → is_less (ordering_then o (slice_cmp nat_cmp (p ++ k ∷ []) (q ++ n ∷ []))) ≡ true
     by Less r e h l more = refl
@@ -157,7 +159,8 @@ module _ {A : Type 0} (path : A → List ℕ) where
       Goal : Type 0
       Goal = put_in path y (put_in path c (x ∷ xs)) ≡ put_in path c (put_in path y (x ∷ xs))
 
-      by : (b : Bool) → path_lt (path x) (path c) ≡ b → (d : Bool) → path_lt (path x) (path y) ≡ d → put_in path y (put_in path c xs) ≡ put_in path c (put_in path y xs) → Goal
+      by : (b : Bool) → path_lt (path x) (path c) ≡ b → (d : Bool) → path_lt (path x) (path y) ≡ d
+          → put_in path y (put_in path c xs) ≡ put_in path c (put_in path y xs) → Goal
       by true e true f more =
           ap (put_in path y) (before c x xs e) ∙ before y x (put_in path c xs) f ∙ ap (λ (zs : List A). x ∷ zs) more
           ∙ sym (ap (put_in path c) (before y x xs f) ∙ before c x (put_in path y xs) e)
@@ -173,7 +176,8 @@ module _ {A : Type 0} (path : A → List ℕ) where
   commute_all c [] zs h = refl
   commute_all c (w ∷ ws) zs h = ap (put_in path w) (commute_all c ws zs h.1) ∙ commute c w (put_all path ws zs) h.0
 
-  exchange : (cs ws zs : List A) → AllByRecursion (λ c. AllAfter (path c) ws) cs → put_all path ws (put_all path cs zs) ≡ put_all path cs (put_all path ws zs)
+  exchange : (cs ws zs : List A) → AllByRecursion (λ c. AllAfter (path c) ws) cs
+      → put_all path ws (put_all path cs zs) ≡ put_all path cs (put_all path ws zs)
   exchange [] ws zs h = refl
   exchange (c ∷ cs) ws zs h = commute_all c ws (put_all path cs zs) h.0 ∙ ap (put_in path c) (exchange cs ws zs h.1)
 
@@ -214,9 +218,11 @@ module _ {A : Type 0} (path : A → List ℕ) where
   kept_none true u = (lt_self (path u), tt)
   kept_none false u = tt
 
-  pub one_task : (b : Bool) (u : A) (fs vs cs rest : List A) → Sorted (fs ++ vs) → AllByRecursion (λ w. path_lt (path u) (path w) ≡ false) fs
+  pub one_task : (b : Bool) (u : A) (fs vs cs rest : List A) → Sorted (fs ++ vs)
+      → AllByRecursion (λ w. path_lt (path u) (path w) ≡ false) fs
       → AllAfter (path u) vs → AllAfter (path u) cs → AllByRecursion (λ c. AllAfter (path c) vs) cs → NoneBefore (path u) rest
-      → put_all path (fs ++ vs) (in_path_order path ((kept b u ++ cs) ++ rest)) ≡ (fs ++ kept b u) ++ put_all path (cs ++ vs) (in_path_order path rest)
+      → put_all path (fs ++ vs) (in_path_order path ((kept b u ++ cs) ++ rest))
+      ≡ (fs ++ kept b u) ++ put_all path (cs ++ vs) (in_path_order path rest)
   one_task b u fs vs cs rest s passed av ac cv n =
       put_all_append path fs vs (in_path_order path ((kept b u ++ cs) ++ rest))
       ∙ ap (λ (zs : List A). put_all path fs (put_all path vs zs)) cut
@@ -224,7 +230,8 @@ module _ {A : Type 0} (path : A → List ℕ) where
       (moved_first (path u) fs vs (put_all path (kept b u) (put_all path cs xs)) s passed here)
       ∙ ap (λ (zs : List A). fs ++ zs) (exchange (kept b u) vs (put_all path cs xs) (kept_after b u vs av)
       ∙ ap (put_all path (kept b u)) (exchange cs vs xs cv ∙ sym (put_all_append path cs vs xs))
-      ∙ kept_front b u (put_all path (cs ++ vs) xs) (none_all (path u) (cs ++ vs) xs (none_append (path u) cs vs (none_after (path u) cs ac) (none_after (path u) vs av)) later))
+      ∙ kept_front b u (put_all path (cs ++ vs) xs)
+      (none_all (path u) (cs ++ vs) xs (none_append (path u) cs vs (none_after (path u) cs ac) (none_after (path u) vs av)) later))
       ∙ sym (append_assoc fs (kept b u) (put_all path (cs ++ vs) xs))
     where
       xs : List A
@@ -260,8 +267,10 @@ module _ {A : Type 0} (path : A → List ℕ) where
 
   run_later : (p : List ℕ) (i b : ℕ) (c : A) (cs : List A) → i < b → path c ≡ p ++ i ∷ [] → IsRun p b cs → NoneBefore (path c) cs
   run_later p i b c [] lt e r = tt
-  run_later p i b c (d ∷ cs) lt e r =
-      (lt_asym (path c) (path d) ((λ k. path_lt (e k) (r.0 k)) ∙ lt_under p (i ∷ []) (b ∷ []) (one_lt i b lt)), run_later p i (suc b) c cs (omega arith) e r.1)
+  run_later p i b c (d ∷ cs) lt e r = (
+    lt_asym (path c) (path d) ((λ k. path_lt (e k) (r.0 k)) ∙ lt_under p (i ∷ []) (b ∷ []) (one_lt i b lt)),
+    run_later p i (suc b) c cs (omega arith) e r.1,
+  )
 
   run_sorted : (p : List ℕ) (b : ℕ) (cs : List A) → IsRun p b cs → Sorted cs
   run_sorted p b [] r = tt
@@ -291,28 +300,34 @@ module _ {A : Type 0} (path : A → List ℕ) where
   children_back us (f ∷ fs) vs h = children_back us fs vs h.1
 
   -- a task's own spawned ones come before those that wait for tasks behind it
-  run_first : (u : A) (us cs vs : List A) (b : ℕ) → IsRun (path u) b cs → AllAfter (path u) vs → AreChildren (u ∷ us) vs → AllByRecursion (λ c. AllAfter (path c) vs) cs
+  run_first : (u : A) (us cs vs : List A) (b : ℕ) → IsRun (path u) b cs → AllAfter (path u) vs → AreChildren (u ∷ us) vs
+      → AllByRecursion (λ c. AllAfter (path c) vs) cs
   run_first u us [] vs b r a h = tt
   run_first u us (c ∷ cs) vs b r a h = (one vs a h, run_first u us cs vs (suc b) r.1 a h)
     where
       one : (ws : List A) → AllAfter (path u) ws → AreChildren (u ∷ us) ws → AllAfter (path c) ws
       one [] k l = tt
-      one (w ∷ ws) k l =
-          ((λ i. path_lt (r.0 i) (l.0.2 i)) ∙ between l.0.0 (path u) l.0.1 b l.0.3.0 (ap (path_lt (path u)) (sym l.0.2) ∙ k.0), one ws k.1 l.1)
+      one (w ∷ ws) k l = (
+        (λ i. path_lt (r.0 i) (l.0.2 i)) ∙ between l.0.0 (path u) l.0.1 b l.0.3.0 (ap (path_lt (path u)) (sym l.0.2) ∙ k.0),
+        one ws k.1 l.1,
+      )
 
   -- ---- one task, as the code puts it
 
   pub take_split : (n left : ℕ) (now rest : List A) → length now ≡ n - left → left ≤ n → take n (now ++ rest) ≡ now ++ take left rest
   take_split n left [] rest l h = let e : n ≡ left = omega (arith, l, h) in ap (λ k. take k rest) e
   take_split zero left (x ∷ now) rest l h = absurd (omega (arith, l))
-  take_split (suc n) left (x ∷ now) rest l h = ap (λ (zs : List A). x ∷ zs) (take_split n left now rest (omega (arith, l)) (omega (arith, l, h)))
+  take_split (suc n) left (x ∷ now) rest l h =
+      ap (λ (zs : List A). x ∷ zs) (take_split n left now rest (omega (arith, l)) (omega (arith, l, h)))
 
-  pub behind_split : (n left : ℕ) (now rest : List A) → length now ≡ n - left → left ≤ n → behind_these n (now ++ rest) ≡ behind_these left rest
+  pub behind_split : (n left : ℕ) (now rest : List A) → length now ≡ n - left → left ≤ n
+      → behind_these n (now ++ rest) ≡ behind_these left rest
   behind_split n left [] rest l h = let e : n ≡ left = omega (arith, l, h) in ap (λ k. behind_these k rest) e
   behind_split zero left (x ∷ now) rest l h = absurd (omega (arith, l))
   behind_split (suc n) left (x ∷ now) rest l h = behind_split n left now rest (omega (arith, l)) (omega (arith, l, h))
 
-  pub puts : (bound : Option (List ℕ)) (p : List ℕ) (task : A) (b : Bool) (us spawned rest before mid with_task after waited back waits : List A) (count left : ℕ)
+  pub puts : (bound : Option (List ℕ)) (p : List ℕ) (task : A) (b : Bool)
+      (us spawned rest before mid with_task after waited back waits : List A) (count left : ℕ)
       → p ≡ path task → HasMoved path p before mid waited back → IsNextAfter path p back → with_task ≡ mid ++ kept b task
       → HasMovedEarly path bound us with_task after spawned rest (count - left) → left ≤ count → waits ≡ take left rest ++ back
       → HasPut path bound task b us (take count spawned) before after waited waits
@@ -360,7 +375,8 @@ module _ {A : Type 0} (path : A → List ℕ) where
   none_kept p false u l = tt
 
   -- no task that lives on because of later ones comes before
-  none_living : (p : List ℕ) (us : List A) (ds : List (DeedValue A)) → AllAfter p us → AreNumbered path us ds → NoneBefore p (living_with us ds)
+  none_living : (p : List ℕ) (us : List A) (ds : List (DeedValue A)) → AllAfter p us → AreNumbered path us ds
+      → NoneBefore p (living_with us ds)
   none_living p [] [] a h = tt
   none_living p [] (d ∷ ds) a h = tt
   none_living p (u ∷ us) [] a h = tt
@@ -378,11 +394,13 @@ module _ {A : Type 0} (path : A → List ℕ) where
     pub rising : is_rising (map path us) ≡ true
     pub numbered : AreNumbered path us ds
 
-  pub begins : (us : List A) (ds : List (DeedValue A)) → is_rising (map path us) ≡ true → AreNumbered path us ds → IsAlong (in_path_order path (living_with us ds)) [] [] us ds
+  pub begins : (us : List A) (ds : List (DeedValue A)) → is_rising (map path us) ≡ true → AreNumbered path us ds
+      → IsAlong (in_path_order path (living_with us ds)) [] [] us ds
   begins us ds r n = record { items = refl; sorted = tt; spawned = tt; rising = r; numbered = n }
 
   -- those that come before the next task come before all that follow
-  none_next : (bound : Option (List ℕ)) (us : List A) (ds : List (DeedValue A)) (n : A) → IsBeforeNext path bound us n → is_rising (map path us) ≡ true → AreNumbered path us ds → NoneBefore (path n) (living_with us ds)
+  none_next : (bound : Option (List ℕ)) (us : List A) (ds : List (DeedValue A)) (n : A) → IsBeforeNext path bound us n
+      → is_rising (map path us) ≡ true → AreNumbered path us ds → NoneBefore (path n) (living_with us ds)
   none_next bound [] [] n e r h = tt
   none_next bound [] (d ∷ ds) n e r h = tt
   none_next bound (u ∷ us) [] n e r h = tt
@@ -392,7 +410,8 @@ module _ {A : Type 0} (path : A → List ℕ) where
       (none_append (path u) (kept d.synced u) d.spawns (kept_none d.synced u) (none_after (path u) d.spawns (run_after (path u) h.0.0 d.spawns (is_run (path u) h.0.0 d.spawns h.0.1))))
       (none_living (path u) us ds (after_more (path u) us (rising_all (path u) (map path us) r)) h.1))
 
-  early_first : (bound : Option (List ℕ)) (ns ls vs us : List A) (ds : List (DeedValue A)) → Sorted (ns ++ ls) → AllByRecursion (λ c. AllAfter (path c) vs) (ns ++ ls)
+  early_first : (bound : Option (List ℕ)) (ns ls vs us : List A) (ds : List (DeedValue A)) → Sorted (ns ++ ls)
+      → AllByRecursion (λ c. AllAfter (path c) vs) (ns ++ ls)
       → AllByRecursion (IsBeforeNext path bound us) ns → is_rising (map path us) ≡ true → AreNumbered path us ds
       → AllByRecursion (λ n. NoneBefore (path n) (put_all path (ls ++ vs) (in_path_order path (living_with us ds)))) ns
   early_first bound [] ls vs us ds s cv e r h = tt
@@ -412,7 +431,8 @@ module _ {A : Type 0} (path : A → List ℕ) where
   later_cross (n ∷ ns) ls vs h = later_cross ns ls vs h.1
 
   -- one task more
-  pub goes_along : (bound : Option (List ℕ)) (end living ws us new waits : List A) (u : A) (d : DeedValue A) (ds : List (DeedValue A)) → IsAlong end living ws (u ∷ us) (d ∷ ds)
+  pub goes_along : (bound : Option (List ℕ)) (end living ws us new waits : List A) (u : A) (d : DeedValue A) (ds : List (DeedValue A))
+      → IsAlong end living ws (u ∷ us) (d ∷ ds)
       → HasPut path bound u d.synced us d.spawns living new ws waits → IsAlong end new waits us ds
   goes_along bound end living ws us new waits u d ds h p =
       record {
@@ -426,9 +446,13 @@ module _ {A : Type 0} (path : A → List ℕ) where
             (sym (one_task d.synced u p.front p.back d.spawns (living_with us ds) s p.passed av ac cv (none_living (path u) us ds after h.numbered.1))
             ∙ ap (λ (zs : List A). put_all path zs (in_path_order path ((kept d.synced u ++ d.spawns) ++ living_with us ds))) (sym p.cut))
             ∙ h.items;
-        sorted = subst Sorted (sym p.wait) (sorted_append p.later p.back (sorted_back p.now p.later sorted) vs (later_cross p.now p.later p.back cross));
+        sorted =
+            subst Sorted (sym p.wait)
+            (sorted_append p.later p.back (sorted_back p.now p.later sorted) vs (later_cross p.now p.later p.back cross));
         spawned = subst (AreChildren us) (sym p.wait)
-            (children_append us p.later p.back (children_back us p.now p.later (subst (AreChildren us) p.all (run_children (path u) h.numbered.0.0 us d.spawns after run))) (fewer u us p.back behind_u));
+            (children_append us p.later p.back
+            (children_back us p.now p.later (subst (AreChildren us) p.all (run_children (path u) h.numbered.0.0 us d.spawns after run)))
+            (fewer u us p.back behind_u));
         rising = rising_rest (path u) (map path us) h.rising;
         numbered = h.numbered.1;
       }
@@ -481,7 +505,8 @@ module _ {A : Type 0} (path : A → List ℕ) where
 
   -- ---- what doesn't come after the bound
 
-  in_append : (bound : Option (List ℕ)) (xs ys : List A) → AreWithin path bound xs → AreWithin path bound ys → AreWithin path bound (xs ++ ys)
+  in_append : (bound : Option (List ℕ)) (xs ys : List A) → AreWithin path bound xs → AreWithin path bound ys
+      → AreWithin path bound (xs ++ ys)
   in_append bound [] ys h k = k
   in_append bound (x ∷ xs) ys h k = (h.0, in_append bound xs ys h.1 k)
 
@@ -489,7 +514,8 @@ module _ {A : Type 0} (path : A → List ℕ) where
   in_kept bound true u h = (h, tt)
   in_kept bound false u h = tt
 
-  in_passed : (bound : Option (List ℕ)) (u : A) (fs : List A) → IsWithin path bound u → AllByRecursion (λ w. path_lt (path u) (path w) ≡ false) fs → AreWithin path bound fs
+  in_passed : (bound : Option (List ℕ)) (u : A) (fs : List A) → IsWithin path bound u
+      → AllByRecursion (λ w. path_lt (path u) (path w) ≡ false) fs → AreWithin path bound fs
   in_passed None u [] h k = tt
   in_passed None u (f ∷ fs) h k = (tt, in_passed None u fs h k.1)
   in_passed (Some b) u [] h k = tt
@@ -500,12 +526,14 @@ module _ {A : Type 0} (path : A → List ℕ) where
   in_next (Some b) [] c h k = lt_asym (path c) b k
   in_next (Some b) (u ∷ us) c h k = not_lt b (path u) (path c) h.0 (lt_asym (path c) (path u) k)
 
-  in_early : (bound : Option (List ℕ)) (us ns : List A) → AreWithin path bound us → AllByRecursion (IsBeforeNext path bound us) ns → AreWithin path bound ns
+  in_early : (bound : Option (List ℕ)) (us ns : List A) → AreWithin path bound us → AllByRecursion (IsBeforeNext path bound us) ns
+      → AreWithin path bound ns
   in_early bound us [] h k = tt
   in_early bound us (n ∷ ns) h k = (in_next bound us n h k.0, in_early bound us ns h k.1)
 
   -- one task more
-  pub goes_within : (bound : Option (List ℕ)) (living ws us new waits cs : List A) (u : A) (b : Bool) → HasPut path bound u b us cs living new ws waits
+  pub goes_within : (bound : Option (List ℕ)) (living ws us new waits cs : List A) (u : A) (b : Bool)
+      → HasPut path bound u b us cs living new ws waits
       → AreWithin path bound living → AreWithin path bound (u ∷ us) → AreWithin path bound new
   goes_within bound living ws us new waits cs u b p h k =
       subst (AreWithin path bound) (sym p.put)
@@ -514,10 +542,12 @@ module _ {A : Type 0} (path : A → List ℕ) where
       (in_early bound us p.now k.1 p.early))
 
   -- and those that are moved at the end
-  pub ends_within : (bound : Option (List ℕ)) (living ws new waits : List A) → HasMovedWithin path bound living new ws waits → AreWithin path bound living → AreWithin path bound new
+  pub ends_within : (bound : Option (List ℕ)) (living ws new waits : List A) → HasMovedWithin path bound living new ws waits
+      → AreWithin path bound living → AreWithin path bound new
   ends_within bound living ws new waits m h = subst (AreWithin path bound) (sym m.moved) (in_append bound living m.front h m.within)
 
-  pub within_all : (p : List ℕ) (living new ws waits : List A) → HasMoved path p living new ws waits → HasMovedWithin path (Some p) living new ws waits
+  pub within_all : (p : List ℕ) (living new ws waits : List A) → HasMoved path p living new ws waits
+      → HasMovedWithin path (Some p) living new ws waits
   within_all p living new ws waits m = record { front = m.front; moved = m.moved; cut = m.cut; within = m.passed }
 
   none_bound : (fs : List A) → AreWithin path None fs
@@ -529,7 +559,8 @@ module _ {A : Type 0} (path : A → List ℕ) where
       record { front = ws; moved = e; cut = sym (ap (λ (xs : List A). ws ++ xs) n ∙ append-nil ws); within = none_bound ws }
 
   -- those that still wait come after the bound
-  pub outside : (bound : Option (List ℕ)) (end living ws new waits : List A) (ds : List (DeedValue A)) → IsAlong end living ws [] ds → HasMovedWithin path bound living new ws waits
+  pub outside : (bound : Option (List ℕ)) (end living ws new waits : List A) (ds : List (DeedValue A)) → IsAlong end living ws [] ds
+      → HasMovedWithin path bound living new ws waits
       → IsNextOutside path bound waits → AreStrays path bound waits
   outside None end living ws new waits ds h m n = n
   outside (Some b) end living ws new waits ds h m n = all_after b waits n (sorted_back m.front waits (subst Sorted m.cut h.sorted))
@@ -537,7 +568,10 @@ module _ {A : Type 0} (path : A → List ℕ) where
   -- at the end those that wait follow
   pub ends_along : (end living ws : List A) (ds : List (DeedValue A)) → IsAlong end living ws [] ds → living ++ ws ≡ end
   ends_along end living ws ds h =
-      ap (λ (xs : List A). living ++ xs) (sym (append-nil ws) ∙ sym (fronts ws [] h.sorted (nothing ws)) ∙ ap (λ (xs : List A). put_all path ws (in_path_order path xs)) (sym (none_live ds))) ∙ h.items
+      ap (λ (xs : List A). living ++ xs)
+      (sym (append-nil ws) ∙ sym (fronts ws [] h.sorted (nothing ws))
+      ∙ ap (λ (xs : List A). put_all path ws (in_path_order path xs)) (sym (none_live ds)))
+      ∙ h.items
     where
       nothing : (fs : List A) → AllByRecursion (λ f. NoneBefore (path f) []) fs
       nothing [] = tt
@@ -548,7 +582,8 @@ module _ {A : Type 0} (path : A → List ℕ) where
       none_live (d ∷ ds) = refl
 
   -- whether they were moved or still wait
-  pub ends_apart : (bound : Option (List ℕ)) (end living ws new waits : List A) (ds : List (DeedValue A)) → IsAlong end living ws [] ds → HasMovedWithin path bound living new ws waits
+  pub ends_apart : (bound : Option (List ℕ)) (end living ws new waits : List A) (ds : List (DeedValue A)) → IsAlong end living ws [] ds
+      → HasMovedWithin path bound living new ws waits
       → new ++ waits ≡ end
   ends_apart bound end living ws new waits ds h m =
       ap (λ (xs : List A). xs ++ waits) m.moved ∙ append_assoc living m.front waits ∙ ap (λ (xs : List A). living ++ xs) (sym m.cut)

@@ -44,7 +44,8 @@ pub is_there : {A : Type 0} {o : Option A} {x : A} → o ≡ Some x → IsSome o
 is_there {o = None} h = cc
 is_there {o = Some y} h = refl
 
-module _ {S T : Type 0} (p : Reads S T) (law : (t : S) → p.says.path (p.meant t) ≡ p.path t) (numbers : NumbersItsSpawns p.says) (stays : StaysTheSameTask p.says) where
+module _ {S T : Type 0} (p : Reads S T) (law : (t : S) → p.says.path (p.meant t) ≡ p.path t) (numbers : NumbersItsSpawns p.says)
+    (stays : StaysTheSameTask p.says) where
   -- what the live tasks of a state do
   abbrev pub deeds_at : State T → List (List ℕ × Segment T)
   deeds_at st = segments p.says st.arrays st.step st.live
@@ -69,7 +70,9 @@ module _ {S T : Type 0} (p : Reads S T) (law : (t : S) → p.says.path (p.meant 
   -- a fault ends the job
   pub by_fault_in : (st : State T) (f : ℕ × List ℕ) → first_fault (deeds_at st) ≡ Some f → superstep p.says st ≡ ended_by st f
   by_fault_in st f h =
-      ap (λ o. closed p.says.path st (deeds_at st) (or_next o (or_next (too_many p.says.most (next_live p.says.path (deeds_at st))) (overflow st.arrays (deeds_at st))))) h
+      ap
+      (λ o. closed p.says.path st (deeds_at st) (or_next o (or_next (too_many p.says.most (next_live p.says.path (deeds_at st))) (overflow st.arrays (deeds_at st)))))
+      h
 
   pub not_many : (ts : List T) → nat_lt p.says.most (length ts) ≡ false → too_many p.says.most ts ≡ None
   not_many ts b = ap (λ (t : Bool). if t then Some (7, []) else None) b
@@ -78,14 +81,16 @@ module _ {S T : Type 0} (p : Reads S T) (law : (t : S) → p.says.path (p.meant 
   are_many ts b = ap (λ (t : Bool). if t then Some (7, []) else None) b
 
   -- the faults that a superstep is looked through for
-  pub many_reported : (st : State T) (us : List S) (ds : List (DeedValue S)) → AllDone p us ds (deeds_at st) → p.says.most < length (living_with us ds)
+  pub many_reported : (st : State T) (us : List S) (ds : List (DeedValue S)) → AllDone p us ds (deeds_at st)
+      → p.says.most < length (living_with us ds)
       → too_many p.says.most (next_live p.says.path (deeds_at st)) ≡ Some (7, [])
   many_reported st us ds h lt =
       let l = next_count us ds (deeds_at st) h in
       let b : nat_lt p.says.most (length (next_live p.says.path (deeds_at st))) ≡ true = grind arith in
       are_many (next_live p.says.path (deeds_at st)) b
 
-  pub few_reported : (st : State T) (us : List S) (ds : List (DeedValue S)) → AllDone p us ds (deeds_at st) → length (living_with us ds) ≤ p.says.most
+  pub few_reported : (st : State T) (us : List S) (ds : List (DeedValue S)) → AllDone p us ds (deeds_at st)
+      → length (living_with us ds) ≤ p.says.most
       → too_many p.says.most (next_live p.says.path (deeds_at st)) ≡ None
   few_reported st us ds h le =
       let l = next_count us ds (deeds_at st) h in
@@ -93,14 +98,16 @@ module _ {S T : Type 0} (p : Reads S T) (law : (t : S) → p.says.path (p.meant 
       not_many (next_live p.says.path (deeds_at st)) b
 
   -- too many tasks end it
-  pub by_many_in : (st : State T) (us : List S) (ds : List (DeedValue S)) → AllDone p us ds (deeds_at st) → p.says.most < length (living_with us ds)
+  pub by_many_in : (st : State T) (us : List S) (ds : List (DeedValue S)) → AllDone p us ds (deeds_at st)
+      → p.says.most < length (living_with us ds)
       → superstep p.says st ≡ ended_by st (7, [])
   by_many_in st us ds h lt =
       λ i. closed p.says.path st (deeds_at st)
       (or_next (none_faults us ds (deeds_at st) h i) (or_next (many_reported st us ds h lt i) (overflow st.arrays (deeds_at st))))
 
   -- what the log says is what the segments say
-  pub over_reported : (st : State T) (puts : List Put) → puts ≡ joined (map log_of (deeds_at st)) → (o : Option ℕ) → o ≡ over_in st.arrays [] 0 puts
+  pub over_reported : (st : State T) (puts : List Put) → puts ≡ joined (map log_of (deeds_at st)) → (o : Option ℕ)
+      → o ≡ over_in st.arrays [] 0 puts
       → overflow st.arrays (deeds_at st) ≡ option_map fault_eight (at_log (map log_of (deeds_at st)) o)
   over_reported st puts log o e =
       let logs = map log_of (deeds_at st) in
@@ -134,7 +141,8 @@ module _ {S T : Type 0} (p : Reads S T) (law : (t : S) → p.says.path (p.meant 
       not_none None e = refl
       not_none (Some x) e = cc
 
-      by : (o : Option (ℕ × List ℕ)) → o ≡ option_map fault_eight (located (map log_of ss) place) → option_map fault_eight (located (map log_of ss) place) ≡ overflow st.arrays ss
+      by : (o : Option (ℕ × List ℕ)) → o ≡ option_map fault_eight (located (map log_of ss) place)
+          → option_map fault_eight (located (map log_of ss) place) ≡ overflow st.arrays ss
           → IsOver st o
       by None e t = absurd (found_there (map log_of ss) place inside (not_none (located (map log_of ss) place) e))
       by (Some f) e t = record {
@@ -181,7 +189,8 @@ module _ {S T : Type 0} (p : Reads S T) (law : (t : S) → p.says.path (p.meant 
       })
 
   -- tasks keep their paths
-  paths_kept : (arrays : List (List ℕ × List ℤ)) (step : ℕ) (live : List T) (us : List S) (ds : List (DeedValue S)) → AllDone p us ds (segments p.says arrays step live)
+  paths_kept : (arrays : List (List ℕ × List ℤ)) (step : ℕ) (live : List T) (us : List S) (ds : List (DeedValue S))
+      → AllDone p us ds (segments p.says arrays step live)
       → map p.path us ≡ map p.says.path live
   paths_kept arrays step [] [] ds h = refl
   paths_kept arrays step [] (u ∷ us) [] h = absurd h
@@ -200,7 +209,8 @@ module _ {S T : Type 0} (p : Reads S T) (law : (t : S) → p.says.path (p.meant 
     pub numbered : AreNumbered p.path us ds
 
   -- tasks number those that they spawn
-  numbered_reported : (arrays : List (List ℕ × List ℤ)) (step : ℕ) (live : List T) (us : List S) (ds : List (DeedValue S)) → AllDone p us ds (segments p.says arrays step live)
+  numbered_reported : (arrays : List (List ℕ × List ℤ)) (step : ℕ) (live : List T) (us : List S) (ds : List (DeedValue S))
+      → AllDone p us ds (segments p.says arrays step live)
       → AreNumbered p.path us ds
   numbered_reported arrays step live [] ds h = tt
   numbered_reported arrays step live (u ∷ us) [] h = tt
@@ -208,7 +218,10 @@ module _ {S T : Type 0} (p : Reads S T) (law : (t : S) → p.says.path (p.meant 
   numbered_reported arrays step (t ∷ live) (u ∷ us) (d ∷ ds) h =
       let spawned = (p.says.segment t arrays step).spawns in
       let count : length spawned ≡ length d.spawns = ap length (sym h.1.0) ∙ length-map d.spawns p.meant in (
-        (p.says.begun t, read d.spawns ∙ ap (map p.says.path) h.1.0 ∙ numbers t arrays step ∙ (λ i. children (sym h.0 i) (p.says.begun t) (count i))),
+        (
+          p.says.begun t,
+          read d.spawns ∙ ap (map p.says.path) h.1.0 ∙ numbers t arrays step ∙ (λ i. children (sym h.0 i) (p.says.begun t) (count i)),
+        ),
         numbered_reported arrays step live us ds h.2,
       )
     where
@@ -235,7 +248,8 @@ module _ {S T : Type 0} (p : Reads S T) (law : (t : S) → p.says.path (p.meant 
   pub tallied_in : (step : ℕ) (us : List S) (ds : List (DeedValue S)) (reported : PhaseRecord) → Fits us ds → reported ≡ record_in step ds
       → length (living_with us ds) + reported.left ≡ reported.parties
   tallied_in step us ds reported f e =
-      ap (λ (n : ℕ). length (living_with us ds) + n) (ap (λ (r : PhaseRecord). r.left) e) ∙ f.living ∙ sym (ap (λ (r : PhaseRecord). r.parties) e)
+      ap (λ (n : ℕ). length (living_with us ds) + n) (ap (λ (r : PhaseRecord). r.left) e) ∙ f.living
+      ∙ sym (ap (λ (r : PhaseRecord). r.parties) e)
 
   -- paths as they are read
   paths_read : (ts : List S) → map p.path ts ≡ map p.says.path (map p.meant ts)
@@ -243,7 +257,8 @@ module _ {S T : Type 0} (p : Reads S T) (law : (t : S) → p.says.path (p.meant 
   paths_read (t ∷ ts) = λ i. sym (law t) i ∷ paths_read ts i
 
   -- deeds are the segments of what the tasks mean
-  pub deeds_reported : (arrays : List (List ℕ × List ℤ)) (step : ℕ) (ts : List S) → deeds_of p arrays step ts ≡ segments p.says arrays step (map p.meant ts)
+  pub deeds_reported : (arrays : List (List ℕ × List ℤ)) (step : ℕ) (ts : List S)
+      → deeds_of p arrays step ts ≡ segments p.says arrays step (map p.meant ts)
   deeds_reported arrays step [] = refl
   deeds_reported arrays step (t ∷ ts) = λ i. (sym (law t) i, p.says.segment (p.meant t) arrays step) ∷ deeds_reported arrays step ts i
 
@@ -252,16 +267,19 @@ module _ {S T : Type 0} (p : Reads S T) (law : (t : S) → p.says.path (p.meant 
   deeds_in c = segments p.says c.arrays c.step (map p.meant c.tasks.items)
 
   -- a fault ends the job
-  pub by_fault : (c : RunState S) (f : ℕ × List ℕ) → first_fault (deeds_in c) ≡ Some f → superstep p.says (state_of_run p c) ≡ ended_by (state_of_run p c) f
+  pub by_fault : (c : RunState S) (f : ℕ × List ℕ) → first_fault (deeds_in c) ≡ Some f
+      → superstep p.says (state_of_run p c) ≡ ended_by (state_of_run p c) f
   by_fault c f h = by_fault_in (state_of_run p c) f h
 
   -- too many tasks end it
-  pub by_many : (c : RunState S) (us : List S) (ds : List (DeedValue S)) → AllDone p us ds (deeds_in c) → p.says.most < length (living_with us ds)
+  pub by_many : (c : RunState S) (us : List S) (ds : List (DeedValue S)) → AllDone p us ds (deeds_in c)
+      → p.says.most < length (living_with us ds)
       → superstep p.says (state_of_run p c) ≡ ended_by (state_of_run p c) (7, [])
   by_many c us ds h lt = by_many_in (state_of_run p c) us ds h lt
 
   -- the first put that overflows ends it
-  pub by_over : (old new : RunState S) (puts : List Put) (us : List S) (ds : List (DeedValue S)) (after : List PrintValue) (place : ℕ) (fault : Option (ℕ × List ℕ))
+  pub by_over : (old new : RunState S) (puts : List Put) (us : List S) (ds : List (DeedValue S)) (after : List PrintValue) (place : ℕ)
+      (fault : Option (ℕ × List ℕ))
       → IsAllDone p (deeds_in old) old.step puts us ds old.prints.items after → length (living_with us ds) ≤ p.says.most
       → Some place ≡ over_in old.arrays [] 0 puts → fault ≡ option_map overflow_at (maker p.path us ds place)
       → new.step ≡ old.step → new.arrays ≡ old.arrays → new.prints.items ≡ old.prints.items → new.records.items ≡ old.records.items
@@ -272,7 +290,8 @@ module _ {S T : Type 0} (p : Reads S T) (law : (t : S) → p.says.path (p.meant 
       (record { fault = o.ends; step = es; arrays = ea; prints = ep; records = er })
 
   -- or it goes on
-  pub by_landing : (old new : RunState S) (puts : List Put) (us : List S) (ds : List (DeedValue S)) (after : List PrintValue) (reported : PhaseRecord)
+  pub by_landing : (old new : RunState S) (puts : List Put) (us : List S) (ds : List (DeedValue S)) (after : List PrintValue)
+      (reported : PhaseRecord)
       → IsAllDone p (deeds_in old) old.step puts us ds old.prints.items after → length (living_with us ds) ≤ p.says.most
       → reported ≡ record_in old.step ds
       → None ≡ over_in old.arrays [] 0 puts
@@ -303,7 +322,8 @@ module _ {S T : Type 0} (p : Reads S T) (law : (t : S) → p.says.path (p.meant 
       (subst (λ ss. Reported p ss old.step o puts us ds old.prints.items after) (deeds_reported old.arrays old.step old.tasks.items) h)
 
   -- if one was reported it is the first, and what was printed before stays in front
-  pub faulted : (old : RunState S) (o : Option (ℕ × List ℕ)) (f : ℕ × List ℕ) (puts : List Put) (us : List S) (ds : List (DeedValue S)) (after : List PrintValue)
+  pub faulted : (old : RunState S) (o : Option (ℕ × List ℕ)) (f : ℕ × List ℕ) (puts : List Put) (us : List S) (ds : List (DeedValue S))
+      (after : List PrintValue)
       → Reported p (deeds_of p old.arrays old.step old.tasks.items) old.step o puts us ds old.prints.items after → o ≡ Some f
       → (first_fault (deeds_in old) ≡ Some f) × ((more : List PrintValue) × (after ≡ old.prints.items ++ more))
   faulted old o f puts us ds after h e =
@@ -317,6 +337,7 @@ module _ {S T : Type 0} (p : Reads S T) (law : (t : S) → p.says.path (p.meant 
       fits_in (state_of_run p old) us ds h (omega (arith, l, le)) (ap is_rising (sym (paths_read old.tasks.items)) ∙ r)
 
   -- who lives on and who left are those that the record counts
-  pub tallied : (old : RunState S) (us : List S) (ds : List (DeedValue S)) (reported : PhaseRecord) → Fits us ds → reported ≡ record_in old.step ds
+  pub tallied : (old : RunState S) (us : List S) (ds : List (DeedValue S)) (reported : PhaseRecord) → Fits us ds
+      → reported ≡ record_in old.step ds
       → length (living_with us ds) + reported.left ≡ reported.parties
   tallied old us ds reported f e = tallied_in old.step us ds reported f e

@@ -15,15 +15,22 @@ use Rattle.programs.proofs.Reached.{status_kept, status_mapped, status_sound, is
 use Rattle.programs.proofs.Runs.{goes, ended_is_last, ended_stays}
 
 -- what was taken away changes nothing else
-closed_taken : {T : Type 0} (s : Says T) (ps : List PrintValue) (rs : List PhaseRecord) (st : State T) (ss : List (List ℕ × Segment T)) (f : Option (ℕ × List ℕ))
+closed_taken : {T : Type 0} (s : Says T) (ps : List PrintValue) (rs : List PhaseRecord) (st : State T) (ss : List (List ℕ × Segment T))
+    (f : Option (ℕ × List ℕ))
     → closed s.path (with_taken ps rs st) ss f ≡ with_taken ps rs (closed s.path st ss f)
 closed_taken s ps rs st ss (Some f) = refl
 closed_taken s ps rs st ss None =
     let next = closed s.path st ss None in
-    λ i. record next { prints = append_assoc ps st.prints (prints_of st.step ss) i; records = append_assoc rs st.records (record_of st.step ss ∷ []) i }
+    λ i.
+    record next {
+      prints = append_assoc ps st.prints (prints_of st.step ss) i;
+      records = append_assoc rs st.records (record_of st.step ss ∷ []) i;
+    }
 
-pub superstep_taken : {T : Type 0} (s : Says T) (ps : List PrintValue) (rs : List PhaseRecord) (st : State T) → superstep s (with_taken ps rs st) ≡ with_taken ps rs (superstep s st)
-superstep_taken s ps rs st = closed_taken s ps rs st (segments s st.arrays st.step st.live) (fault_in s.path s.most st.arrays (segments s st.arrays st.step st.live))
+pub superstep_taken : {T : Type 0} (s : Says T) (ps : List PrintValue) (rs : List PhaseRecord) (st : State T)
+    → superstep s (with_taken ps rs st) ≡ with_taken ps rs (superstep s st)
+superstep_taken s ps rs st =
+    closed_taken s ps rs st (segments s st.arrays st.step st.live) (fault_in s.path s.most st.arrays (segments s st.arrays st.step st.live))
 
 module _ {S T : Type 0} (s : Says T) (arrays : List (List ℕ × List ℤ)) (tasks : List T) (meant : S → T) where
   -- before the first superstep
@@ -35,7 +42,8 @@ module _ {S T : Type 0} (s : Says T) (arrays : List (List ℕ × List ℤ)) (tas
   }
 
   -- how it has ended
-  pub so_far_ended : {n : ℕ} {ps : List PrintValue} {rs : List PhaseRecord} {v : StepsValue S} → IsSoFar s arrays tasks n meant ps rs v → status v.limit (so_far s arrays tasks v.limit n) ≡ ended v
+  pub so_far_ended : {n : ℕ} {ps : List PrintValue} {rs : List PhaseRecord} {v : StepsValue S} → IsSoFar s arrays tasks n meant ps rs v
+      → status v.limit (so_far s arrays tasks v.limit n) ≡ ended v
   so_far_ended {n} {ps} {rs} {v} h =
       let st = so_far s arrays tasks v.limit n in
       sym (status_kept v.limit st.step st.fault st.live)
@@ -44,7 +52,8 @@ module _ {S T : Type 0} (s : Says T) (arrays : List (List ℕ × List ℤ)) (tas
       ∙ sym (status_sound v h.sound)
 
   -- while it runs all is kept
-  pub so_far_whole : {n : ℕ} {ps : List PrintValue} {rs : List PhaseRecord} {v : StepsValue S} → IsSoFar s arrays tasks n meant ps rs v → v.fault ≡ None
+  pub so_far_whole : {n : ℕ} {ps : List PrintValue} {rs : List PhaseRecord} {v : StepsValue S} → IsSoFar s arrays tasks n meant ps rs v
+      → v.fault ≡ None
       → with_taken ps rs (state_in meant v) ≡ so_far s arrays tasks v.limit n
   so_far_whole {n} {ps} {rs} {v} h e =
       let st = so_far s arrays tasks v.limit n in
@@ -52,7 +61,8 @@ module _ {S T : Type 0} (s : Says T) (arrays : List (List ℕ × List ℤ)) (tas
       h.state ∙ all_kept st calm
 
   -- after the end nothing changes
-  pub so_far_stays : {n : ℕ} {ps : List PrintValue} {rs : List PhaseRecord} {v : StepsValue S} (k : ℕ) (end : Status) → IsSoFar s arrays tasks n meant ps rs v → ended v ≡ Some end → IsSoFar s arrays tasks (k + n) meant ps rs v
+  pub so_far_stays : {n : ℕ} {ps : List PrintValue} {rs : List PhaseRecord} {v : StepsValue S} (k : ℕ) (end : Status)
+      → IsSoFar s arrays tasks n meant ps rs v → ended v ≡ Some end → IsSoFar s arrays tasks (k + n) meant ps rs v
   so_far_stays {n} {ps} {rs} {v} k end h e = record {
     state = h.state ∙ ap as_kept (sym (ended_stays s arrays tasks v.limit n k end (so_far_ended h ∙ e)));
     sound = h.sound;
@@ -60,14 +70,16 @@ module _ {S T : Type 0} (s : Says T) (arrays : List (List ℕ × List ℤ)) (tas
   }
 
   -- prints and records are taken away
-  pub prints_taken : {n : ℕ} {ps : List PrintValue} {rs : List PhaseRecord} {v : StepsValue S} → IsSoFar s arrays tasks n meant ps rs v → IsSoFar s arrays tasks n meant (ps ++ v.prints) rs (record v { prints = [] })
+  pub prints_taken : {n : ℕ} {ps : List PrintValue} {rs : List PhaseRecord} {v : StepsValue S} → IsSoFar s arrays tasks n meant ps rs v
+      → IsSoFar s arrays tasks n meant (ps ++ v.prints) rs (record v { prints = [] })
   prints_taken {n} {ps} {rs} {v} h = record {
     state = (λ i. record (with_taken ps rs (state_in meant v)) { prints = append-nil (ps ++ v.prints) i }) ∙ h.state;
     sound = h.sound;
     few = h.few;
   }
 
-  pub records_taken : {n : ℕ} {ps : List PrintValue} {rs : List PhaseRecord} {v : StepsValue S} → IsSoFar s arrays tasks n meant ps rs v → IsSoFar s arrays tasks n meant ps (rs ++ v.records) (record v { records = [] })
+  pub records_taken : {n : ℕ} {ps : List PrintValue} {rs : List PhaseRecord} {v : StepsValue S} → IsSoFar s arrays tasks n meant ps rs v
+      → IsSoFar s arrays tasks n meant ps (rs ++ v.records) (record v { records = [] })
   records_taken {n} {ps} {rs} {v} h = record {
     state = (λ i. record (with_taken ps rs (state_in meant v)) { records = append-nil (rs ++ v.records) i }) ∙ h.state;
     sound = h.sound;
@@ -75,8 +87,10 @@ module _ {S T : Type 0} (s : Says T) (arrays : List (List ℕ × List ℤ)) (tas
   }
 
   -- the report of a run that has ended
-  pub so_far_reported : {n : ℕ} {ps : List PrintValue} {rs : List PhaseRecord} {v : StepsValue S} (end : Status) → IsSoFar s arrays tasks n meant ps rs v → ended v ≡ Some end
-      → report_of s arrays tasks v.limit ≡ Some (record { prints = ps ++ v.prints; records = rs ++ v.records; arrays = v.arrays; status = end })
+  pub so_far_reported : {n : ℕ} {ps : List PrintValue} {rs : List PhaseRecord} {v : StepsValue S} (end : Status)
+      → IsSoFar s arrays tasks n meant ps rs v → ended v ≡ Some end
+      → report_of s arrays tasks v.limit
+      ≡ Some (record { prints = ps ++ v.prints; records = rs ++ v.records; arrays = v.arrays; status = end })
   so_far_reported {n} {ps} {rs} {v} end h e =
       let st = so_far s arrays tasks v.limit n in
       let over = so_far_ended h ∙ e in
@@ -84,12 +98,15 @@ module _ {S T : Type 0} (s : Says T) (arrays : List (List ℕ × List ℤ)) (tas
       ap (λ (x : State T). report_with x (status v.limit x)) (sym last) ∙ ap (report_with st) over
       ∙ sym (λ i. Some (record { prints = (h.state i).prints; records = (h.state i).records; arrays = (h.state i).arrays; status = end }))
 
-module _ {S T : Type 0} (f : Frame T) (may : T → List (List ℕ × List ℤ) → ℕ → Segment T → Type 0) (most : ℕ) (does : T → List (List ℕ × List ℤ) → ℕ → Segment T)
+module _ {S T : Type 0} (f : Frame T) (may : T → List (List ℕ × List ℤ) → ℕ → Segment T → Type 0) (most : ℕ)
+    (does : T → List (List ℕ × List ℤ) → ℕ → Segment T)
     (only : (t : T) (arrays : List (List ℕ × List ℤ)) (step : ℕ) (g : Segment T) → may t arrays step g → g ≡ does t arrays step)
     (arrays : List (List ℕ × List ℤ)) (tasks : List T) (meant : S → T) where
   -- one superstep more
-  pub so_far_more : {n : ℕ} {ps : List PrintValue} {rs : List PhaseRecord} {v new : StepsValue S} → IsSoFar (says_of f most does) arrays tasks n meant ps rs v → IsRunning v
-      → is_rising (map f.path (map meant v.tasks)) ≡ true → HasStepped f may meant v new → IsSoFar (says_of f most does) arrays tasks (suc n) meant ps rs new
+  pub so_far_more : {n : ℕ} {ps : List PrintValue} {rs : List PhaseRecord} {v new : StepsValue S}
+      → IsSoFar (says_of f most does) arrays tasks n meant ps rs v → IsRunning v
+      → is_rising (map f.path (map meant v.tasks)) ≡ true → HasStepped f may meant v new
+      → IsSoFar (says_of f most does) arrays tasks (suc n) meant ps rs new
   so_far_more {n} {ps} {rs} {v} {new} h run rises t =
       let s = says_of f most does in
       let o = is_open v run in
@@ -97,7 +114,8 @@ module _ {S T : Type 0} (f : Frame T) (may : T → List (List ℕ × List ℤ) �
       let whole = so_far_whole s arrays tasks meant h o.fault in
       let going : status v.limit st ≡ None = so_far_ended s arrays tasks meant h ∙ run.going in
       let exact : superstep (says_in f v.most t.entries) (state_in meant v) ≡ superstep s (state_in meant v) =
-      ap (λ (m : ℕ). superstep (says_in f m t.entries) (state_in meant v)) h.few ∙ step_same f may most does only (state_in meant v) t.entries rises t.entered in
+      ap (λ (m : ℕ). superstep (says_in f m t.entries) (state_in meant v)) h.few
+      ∙ step_same f may most does only (state_in meant v) t.entries rises t.entered in
       record {
         state =
             ap (with_taken ps rs) (t.state ∙ ap as_kept exact)

@@ -28,7 +28,8 @@ module _ {A : Type 0} where
   -- the rest of a list after so many was turned round
   pub tail_turned : (first rest now all turned : List A) (from count : ℕ) → from ≡ length first → now ≡ all → all ≡ first ++ rest
       → turned ≡ reverse (take (length now - from) (drop from now)) → count ≡ length all
-      → reverse (take count (take from now ++ (turned ++ post_of from (length now - from) now) ++ drop (length (take from now ++ (turned ++ post_of from (length now - from) now))) all))
+      → reverse
+      (take count (take from now ++ (turned ++ post_of from (length now - from) now) ++ drop (length (take from now ++ (turned ++ post_of from (length now - from) now))) all))
       ≡ rest ++ reverse first
   tail_turned first rest now all turned from count f n a t c =
       ap reverse whole ∙ reverse-append first (reverse rest) ∙ ap (λ (xs : List A). xs ++ reverse first) (reverse-reverse rest)
@@ -58,12 +59,17 @@ module _ {A : Type 0} where
       shown = (λ i. front i ++ (round i ++ after i)) ∙ ap (λ (xs : List A). first ++ xs) (append-nil (reverse rest))
 
       size : length (first ++ reverse rest) ≡ length all
-      size = length-append first (reverse rest) ∙ ap (λ (k : ℕ). length first + k) (length-reverse rest) ∙ sym (length-append first rest) ∙ ap length (sym a)
+      size =
+          length-append first (reverse rest) ∙ ap (λ (k : ℕ). length first + k) (length-reverse rest) ∙ sym (length-append first rest)
+          ∙ ap length (sym a)
 
       nothing : drop (length (take from now ++ (turned ++ post_of from (length now - from) now))) all ≡ []
       nothing = drop_none (length (take from now ++ (turned ++ post_of from (length now - from) now))) all (ap length shown ∙ size)
 
-      whole : take count (take from now ++ (turned ++ post_of from (length now - from) now) ++ drop (length (take from now ++ (turned ++ post_of from (length now - from) now))) all) ≡ first ++ reverse rest
+      whole : take count
+          (take from now ++ (turned ++ post_of from (length now - from) now)
+          ++ drop (length (take from now ++ (turned ++ post_of from (length now - from) now))) all)
+          ≡ first ++ reverse rest
       whole =
           (λ i. take count ((take from now ++ (turned ++ post_of from (length now - from) now)) ++ nothing i))
           ∙ ap (take count) (append-nil (take from now ++ (turned ++ post_of from (length now - from) now)) ∙ shown)

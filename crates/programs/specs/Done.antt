@@ -17,14 +17,18 @@ module _ {T : Type 0} where
 
 module _ {S T : Type 0} where
   -- one task did its segment
-  pub record HasDoneOne (f : Frame T) (may : T → List (List ℕ × List ℤ) → ℕ → Segment T → Type 0) (meant : S → T) (path : S → List ℕ) (arrays : List (List ℕ × List ℤ)) (step : ℕ) (fault : Option (ℕ × List ℕ)) (t u : S) (puts qs : List Put) (ds es : List (DeedValue S)) (before after : List PrintValue) : Type 0 where
+  pub record HasDoneOne (f : Frame T) (may : T → List (List ℕ × List ℤ) → ℕ → Segment T → Type 0) (meant : S → T) (path : S → List ℕ)
+      (arrays : List (List ℕ × List ℤ)) (step : ℕ) (fault : Option (ℕ × List ℕ)) (t u : S) (puts qs : List Put) (ds es : List (DeedValue S))
+      (before after : List PrintValue) : Type 0 where
     pub left : Segment T
     pub allowed : may (meant t) arrays step left
     pub formed : IsFormed f (meant t) left
     pub reported : (s : Says T) → ReportedOne (reads s meant path) left step fault t u puts qs ds es before after
 
   -- the tasks from one place to another did theirs, or those up to the first fault
-  pub record HasDoneRange (f : Frame T) (may : T → List (List ℕ × List ℤ) → ℕ → Segment T → Type 0) (meant : S → T) (path : S → List ℕ) (arrays : List (List ℕ × List ℤ)) (step : ℕ) (fault : Option (ℕ × List ℕ)) (first end : ℕ) (puts qs : List Put) (ts us : List S) (ds es : List (DeedValue S)) (before after : List PrintValue) : Type 0 where
+  pub record HasDoneRange (f : Frame T) (may : T → List (List ℕ × List ℤ) → ℕ → Segment T → Type 0) (meant : S → T) (path : S → List ℕ)
+      (arrays : List (List ℕ × List ℤ)) (step : ℕ) (fault : Option (ℕ × List ℕ)) (first end : ℕ) (puts qs : List Put) (ts us : List S)
+      (ds es : List (DeedValue S)) (before after : List PrintValue) : Type 0 where
     pub entries : List (Entry T)
     pub allowed : AllAllowed f may arrays step entries
     pub front : List S
@@ -36,10 +40,13 @@ module _ {S T : Type 0} where
     pub whole : fault ≡ None → length front + length done ≡ end
     pub faults : (x : ℕ × List ℕ) → fault ≡ Some x → first_fault (segments_in f entries) ≡ Some x
     pub calm : fault ≡ None → first_fault (segments_in f entries) ≡ None
-    pub further : (s : Says T) → Agrees s arrays step entries → IsFurther (reads s meant path) arrays step fault first end puts qs ts us ds es before after
+    pub further : (s : Says T) → Agrees s arrays step entries
+        → IsFurther (reads s meant path) arrays step fault first end puts qs ts us ds es before after
 
   -- all live tasks did theirs, or those up to the first fault
-  pub record HasDoneAll (f : Frame T) (may : T → List (List ℕ × List ℤ) → ℕ → Segment T → Type 0) (meant : S → T) (path : S → List ℕ) (arrays : List (List ℕ × List ℤ)) (step : ℕ) (fault : Option (ℕ × List ℕ)) (puts : List Put) (ts us : List S) (ds : List (DeedValue S)) (before after : List PrintValue) : Type 0 where
+  pub record HasDoneAll (f : Frame T) (may : T → List (List ℕ × List ℤ) → ℕ → Segment T → Type 0) (meant : S → T) (path : S → List ℕ)
+      (arrays : List (List ℕ × List ℤ)) (step : ℕ) (fault : Option (ℕ × List ℕ)) (puts : List Put) (ts us : List S)
+      (ds : List (DeedValue S)) (before after : List PrintValue) : Type 0 where
     pub entries : List (Entry T)
     pub allowed : AllAllowed f may arrays step entries
     pub tasks : AreOf f (map meant ts) entries

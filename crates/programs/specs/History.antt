@@ -32,14 +32,16 @@ module _ {T : Type 0} where
 
   -- what tasks mean by a history: in each superstep what its entries say
   abbrev pub says_by : Frame T → ℕ → List (List (Entry T)) → Says T
-  says_by f most history = record { path = f.path; begun = f.begun; most = most; segment = λ t arrays step. left_of f (get_or history step []) t }
+  says_by f most history =
+      record { path = f.path; begun = f.begun; most = most; segment = λ t arrays step. left_of f (get_or history step []) t }
 
   -- what tasks mean that leave this
   abbrev pub says_of : Frame T → ℕ → (T → List (List ℕ × List ℤ) → ℕ → Segment T) → Says T
   says_of f most does = record { path = f.path; begun = f.begun; most = most; segment = does }
 
   -- each entry is one that is allowed, and is well formed
-  abbrev pub AllAllowed : Frame T → (T → List (List ℕ × List ℤ) → ℕ → Segment T → Type 0) → List (List ℕ × List ℤ) → ℕ → List (Entry T) → Type 0
+  abbrev pub AllAllowed : Frame T → (T → List (List ℕ × List ℤ) → ℕ → Segment T → Type 0) → List (List ℕ × List ℤ) → ℕ → List (Entry T)
+      → Type 0
   AllAllowed f may arrays step [] = Unit {0}
   AllAllowed f may arrays step (e ∷ es) = may e.task arrays step e.left × IsFormed f e.task e.left × AllAllowed f may arrays step es
 
@@ -54,7 +56,8 @@ module _ {T : Type 0} where
     pub whole : first_fault (segments_in f es) ≡ None → back ≡ []
 
   -- the entries are of the live tasks of this state, and allowed
-  pub record IsEntered (f : Frame T) (may : T → List (List ℕ × List ℤ) → ℕ → Segment T → Type 0) (st : State T) (es : List (Entry T)) : Type 0 where
+  pub record IsEntered (f : Frame T) (may : T → List (List ℕ × List ℤ) → ℕ → Segment T → Type 0) (st : State T)
+      (es : List (Entry T)) : Type 0 where
     pub tasks : AreOf f st.live es
     pub allowed : AllAllowed f may st.arrays st.step es
 
@@ -66,9 +69,11 @@ module _ {T : Type 0} where
 
   -- This report is what one thread leaves, superstep by superstep, if each task's segment leaves what the history says. Each is
   -- allowed to leave that, and the history is that of the whole run. These tasks live at its end.
-  pub record HasRun (f : Frame T) (may : T → List (List ℕ × List ℤ) → ℕ → Segment T → Type 0) (most : ℕ) (arrays : List (List ℕ × List ℤ)) (tasks : List T) (limit : ℕ) (outcome : ReportValue) (living : List T) : Type 0 where
+  pub record HasRun (f : Frame T) (may : T → List (List ℕ × List ℤ) → ℕ → Segment T → Type 0) (most : ℕ) (arrays : List (List ℕ × List ℤ))
+      (tasks : List T) (limit : ℕ) (outcome : ReportValue) (living : List T) : Type 0 where
     pub history : List (List (Entry T))
-    pub entered : (n : ℕ) → n < length history → IsEntered f may (so_far (says_by f most history) arrays tasks limit n) (get_or history n [])
+    pub entered : (n : ℕ) → n < length history
+        → IsEntered f may (so_far (says_by f most history) arrays tasks limit n) (get_or history n [])
     pub ended : status limit (so_far (says_by f most history) arrays tasks limit (length history)) ≡ Some outcome.status
     pub report : report_of (says_by f most history) arrays tasks limit ≡ Some outcome
     pub at_end : living_after outcome.status (so_far (says_by f most history) arrays tasks limit (length history)).live ≡ living
@@ -79,7 +84,9 @@ module _ {T : Type 0} where
 
   -- The watcher let each superstep of a run begin. The run was taken to this limit, or the watcher stopped it before.
   -- Then it is the run to that earlier limit.
-  pub record HasRunTo (stops goes : ℕ → List (List ℕ × List ℤ) → ℕ → Type 0) (f : Frame T) (may : T → List (List ℕ × List ℤ) → ℕ → Segment T → Type 0) (most : ℕ) (arrays : List (List ℕ × List ℤ)) (tasks : List T) (limit : ℕ) (outcome : ReportValue) (living : List T) : Type 0 where
+  pub record HasRunTo (stops goes : ℕ → List (List ℕ × List ℤ) → ℕ → Type 0) (f : Frame T)
+      (may : T → List (List ℕ × List ℤ) → ℕ → Segment T → Type 0) (most : ℕ) (arrays : List (List ℕ × List ℤ)) (tasks : List T) (limit : ℕ)
+      (outcome : ReportValue) (living : List T) : Type 0 where
     pub taken : ℕ
     pub within : taken ≤ limit
     pub run : HasRun f may most arrays tasks taken outcome living

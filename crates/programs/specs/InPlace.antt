@@ -25,7 +25,8 @@ at_path path code = (code, path)
 
 module _ {S T : Type 0} where
   -- nobody faulted: the puts, prints and the deed follow the others'; or the fault is reported
-  abbrev pub ReportedOne : Reads S T → Segment T → ℕ → Option (ℕ × List ℕ) → S → S → List Put → List Put → List (DeedValue S) → List (DeedValue S) → List PrintValue → List PrintValue → Type 0
+  abbrev pub ReportedOne : Reads S T → Segment T → ℕ → Option (ℕ × List ℕ) → S → S → List Put → List Put → List (DeedValue S)
+      → List (DeedValue S) → List PrintValue → List PrintValue → Type 0
   ReportedOne ps g step (Some f) t u puts qs ds es before after =
       (after ≡ before) × (first_fault ((ps.path t, g) ∷ []) ≡ Some f)
   ReportedOne ps g step None t u puts qs ds es before after =
@@ -44,7 +45,8 @@ module _ {S T : Type 0} where
   deeds_of p arrays step (t ∷ ts) = (p.path t, p.says.segment (p.meant t) arrays step) ∷ deeds_of p arrays step ts
 
   -- the first tasks are done, and the others are as they were
-  pub record IsUnderWay (p : Reads S T) (arrays : List (List ℕ × List ℤ)) (step : ℕ) (olds : List S) (place : ℕ) (puts : List Put) (tasks : List S) (ds : List (DeedValue S)) (before after : List PrintValue) : Type 0 where
+  pub record IsUnderWay (p : Reads S T) (arrays : List (List ℕ × List ℤ)) (step : ℕ) (olds : List S) (place : ℕ) (puts : List Put)
+      (tasks : List S) (ds : List (DeedValue S)) (before after : List PrintValue) : Type 0 where
     pub us : List S
     pub rest : List S
     pub front : List (List ℕ × Segment T)
@@ -56,23 +58,29 @@ module _ {S T : Type 0} where
     pub done : AllDone p us ds front
 
   -- the tasks below this place are done; or the first fault of all is reported, and what was printed before stays
-  abbrev pub HasCome : Reads S T → List (List ℕ × List ℤ) → ℕ → List S → Option (ℕ × List ℕ) → ℕ → List Put → List S → List (DeedValue S) → List PrintValue → List PrintValue → Type 0
-  HasCome p arrays step olds (Some f) place puts us ds before after = (first_fault (deeds_of p arrays step olds) ≡ Some f) × ((more : List PrintValue) × (after ≡ before ++ more))
+  abbrev pub HasCome : Reads S T → List (List ℕ × List ℤ) → ℕ → List S → Option (ℕ × List ℕ) → ℕ → List Put → List S → List (DeedValue S)
+      → List PrintValue → List PrintValue → Type 0
+  HasCome p arrays step olds (Some f) place puts us ds before after =
+      (first_fault (deeds_of p arrays step olds) ≡ Some f) × ((more : List PrintValue) × (after ≡ before ++ more))
   HasCome p arrays step olds None place puts us ds before after = IsUnderWay p arrays step olds place puts us ds before after
 
   -- of whichever tasks those below one place were done, of these those below the other are, or the first fault is reported
-  abbrev pub IsFurther : Reads S T → List (List ℕ × List ℤ) → ℕ → Option (ℕ × List ℕ) → ℕ → ℕ → List Put → List Put → List S → List S → List (DeedValue S) → List (DeedValue S) → List PrintValue → List PrintValue → Type 0
+  abbrev pub IsFurther : Reads S T → List (List ℕ × List ℤ) → ℕ → Option (ℕ × List ℕ) → ℕ → ℕ → List Put → List Put → List S → List S
+      → List (DeedValue S) → List (DeedValue S) → List PrintValue → List PrintValue → Type 0
   IsFurther p arrays step fault place end puts qs ts us ds es shown after =
-      (olds : List S) (before : List PrintValue) → IsUnderWay p arrays step olds place puts ts ds before shown → HasCome p arrays step olds fault end qs us es before after
+      (olds : List S) (before : List PrintValue) → IsUnderWay p arrays step olds place puts ts ds before shown
+      → HasCome p arrays step olds fault end qs us es before after
 
   -- nobody faulted: the log, the prints, the deeds and the tasks are what the segments say
-  pub record IsAllDone (ps : Reads S T) (ss : List (List ℕ × Segment T)) (step : ℕ) (puts : List Put) (us : List S) (ds : List (DeedValue S)) (before after : List PrintValue) : Type 0 where
+  pub record IsAllDone (ps : Reads S T) (ss : List (List ℕ × Segment T)) (step : ℕ) (puts : List Put) (us : List S)
+      (ds : List (DeedValue S)) (before after : List PrintValue) : Type 0 where
     pub log : puts ≡ joined (map log_of ss)
     pub shown : after ≡ before ++ prints_of step ss
     pub done : AllDone ps us ds ss
 
   -- all that the tasks did, or the first fault, by path; what was printed before stays
-  abbrev pub Reported : Reads S T → List (List ℕ × Segment T) → ℕ → Option (ℕ × List ℕ) → List Put → List S → List (DeedValue S) → List PrintValue → List PrintValue → Type 0
+  abbrev pub Reported : Reads S T → List (List ℕ × Segment T) → ℕ → Option (ℕ × List ℕ) → List Put → List S → List (DeedValue S)
+      → List PrintValue → List PrintValue → Type 0
   Reported ps ss step (Some f) puts us ds before after = (first_fault ss ≡ Some f) × ((more : List PrintValue) × (after ≡ before ++ more))
   Reported ps ss step None puts us ds before after = IsAllDone ps ss step puts us ds before after
 

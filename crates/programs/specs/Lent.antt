@@ -19,7 +19,8 @@ IsLeft f path ending.Stops t u old new g = HasAdded f old new g × (g.after ≡ 
 IsLeft f path ending.Stays t u old new g = HasAdded f old new g × (g.after ≡ Synced (f u)) × (path u ≡ path t)
 
 -- what it left is allowed and well formed
-pub record HasLeft {S T : Type 0} (f : Frame T) (may : T → List (List ℕ × List ℤ) → ℕ → Segment T → Type 0) (meant : S → T) (path : S → List ℕ) (arrays : List (List ℕ × List ℤ)) (step : ℕ) (e : SegmentEnd) (t u : S) (old new : Work S) : Type 0 where
+pub record HasLeft {S T : Type 0} (f : Frame T) (may : T → List (List ℕ × List ℤ) → ℕ → Segment T → Type 0) (meant : S → T)
+    (path : S → List ℕ) (arrays : List (List ℕ × List ℤ)) (step : ℕ) (e : SegmentEnd) (t u : S) (old new : Work S) : Type 0 where
   pub left : Segment T
   pub allowed : may (meant t) arrays step left
   pub formed : IsFormed f (meant t) left

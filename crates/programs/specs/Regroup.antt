@@ -75,7 +75,8 @@ module _ {S : Type 0} where
 
   -- A task was put in its place, if it goes on: after those that waited and don't come after it. Of the tasks that it spawned the
   -- first follow at once, which come before the next task. The others wait in front of those that waited.
-  pub record HasPut (q : S → List ℕ) (bound : Option (List ℕ)) (task : S) (synced : Bool) (next spawned before after waited waits : List S) : Type 0 where
+  pub record HasPut (q : S → List ℕ) (bound : Option (List ℕ)) (task : S) (synced : Bool)
+      (next spawned before after waited waits : List S) : Type 0 where
     pub front : List S
     pub back : List S
     pub now : List S

@@ -37,11 +37,13 @@ module _ {S T : Type 0} where
   HasTakenOne p (Some f) old new = HasFaulted p f old new
 
   -- one superstep was taken, or a fault ended the run in it, by what the live tasks left
-  pub record HasTaken (f : Frame T) (may : T → List (List ℕ × List ℤ) → ℕ → Segment T → Type 0) (most : ℕ) (meant : S → T) (path : S → List ℕ) (fault : Option (ℕ × List ℕ)) (old new : RunState S) : Type 0 where
+  pub record HasTaken (f : Frame T) (may : T → List (List ℕ × List ℤ) → ℕ → Segment T → Type 0) (most : ℕ) (meant : S → T)
+      (path : S → List ℕ) (fault : Option (ℕ × List ℕ)) (old new : RunState S) : Type 0 where
     pub entries : List (Entry T)
     pub entered : IsEntered f may (state_of_run (reads (says_in f most entries) meant path) old) entries
     pub taken : HasTakenOne (reads (says_in f most entries) meant path) fault old new
 
 -- there is room for the next live tasks, if tasks came or left
 abbrev pub HasRoom : PhaseRecord → ℕ → ℕ → Type 0
-HasRoom reported living waiting = ((reported.left ≡ 0) × (reported.spawned ≡ 0)) ⊎ ((reported.parties ≤ living + reported.left) × (reported.spawned ≤ waiting))
+HasRoom reported living waiting =
+    ((reported.left ≡ 0) × (reported.spawned ≡ 0)) ⊎ ((reported.parties ≤ living + reported.left) × (reported.spawned ≤ waiting))

@@ -76,7 +76,8 @@ module _ {T : Type 0} where
 
 module _ {S T : Type 0} where
   -- one superstep was taken, by what the live tasks left
-  pub record HasStepped (f : Frame T) (may : T → List (List ℕ × List ℤ) → ℕ → Segment T → Type 0) (meant : S → T) (old new : StepsValue S) : Type 0 where
+  pub record HasStepped (f : Frame T) (may : T → List (List ℕ × List ℤ) → ℕ → Segment T → Type 0) (meant : S → T)
+      (old new : StepsValue S) : Type 0 where
     pub entries : List (Entry T)
     pub entered : IsEntered f may (state_in meant old) entries
     pub state : state_in meant new ≡ as_kept (superstep (says_in f old.most entries) (state_in meant old))
@@ -85,7 +86,8 @@ module _ {S T : Type 0} where
     pub limit : new.limit ≡ old.limit
 
   -- a run whose tasks mean this, after `n` supersteps, or as it ended before; these of its prints and records were taken away
-  pub record IsSoFar (s : Says T) (arrays : List (List ℕ × List ℤ)) (tasks : List T) (n : ℕ) (meant : S → T) (ps : List PrintValue) (rs : List PhaseRecord) (v : StepsValue S) : Type 0 where
+  pub record IsSoFar (s : Says T) (arrays : List (List ℕ × List ℤ)) (tasks : List T) (n : ℕ) (meant : S → T) (ps : List PrintValue)
+      (rs : List PhaseRecord) (v : StepsValue S) : Type 0 where
     pub state : with_taken ps rs (state_in meant v) ≡ as_kept (so_far s arrays tasks v.limit n)
     pub sound : v.failed ≡ false
     pub few : v.most ≡ s.most

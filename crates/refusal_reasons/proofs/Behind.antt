@@ -16,7 +16,8 @@ pub first : (out new b c : List ℕ) → new ≡ out ++ b ++ c → new ≡ out +
 first out new b c f = f ∙ append_assoc out b c
 
 -- and as the last, where there was memory
-pub last : {T E : Type 0} (out mid new a b : List ℕ) (r : Result T E) → mid ≡ out ++ a → OnOk r (new ≡ mid ++ b) → OnOk r (new ≡ out ++ (a ++ b))
+pub last : {T E : Type 0} (out mid new a b : List ℕ) (r : Result T E) → mid ≡ out ++ a → OnOk r (new ≡ mid ++ b)
+    → OnOk r (new ≡ out ++ (a ++ b))
 last out mid new a b (Ok x) e f = onto out mid new a b e f
 last out mid new a b (Err x) e f = f
 

@@ -30,7 +30,10 @@ pub last_fault : (rs all new : List Refusal) (n : ℕ) (text : List ℕ) (r : Re
 unfolding faulty
 last_fault rs all new zero text r lt e none s h = absurd (omega arith)
 last_fault rs all new (suc n) text r lt e none s h =
-    s ∙ ap (λ (xs : List Refusal). rs ++ xs) (sym (ap (listed (faulty n) text) e ∙ ap (λ (o : Option (List ℕ)). r ∷ or_none (faulty n) o) none)) ∙ h
+    s
+    ∙ ap (λ (xs : List Refusal). rs ++ xs)
+    (sym (ap (listed (faulty n) text) e ∙ ap (λ (o : Option (List ℕ)). r ∷ or_none (faulty n) o) none))
+    ∙ h
 
 -- and one after which others are looked for
 pub next_fault : (rs all new : List Refusal) (n : ℕ) (text other : List ℕ) (r : Refusal) → 0 < n → job_in text ≡ Err r
@@ -42,7 +45,8 @@ next_fault rs all new (suc n) text other r lt e some s h =
     ap (λ (k : ℕ). new ++ faulty k other) m
     ∙ ap (λ (xs : List Refusal). xs ++ faulty n other) s
     ∙ append_assoc rs (r ∷ []) (faulty n other)
-    ∙ ap (λ (xs : List Refusal). rs ++ xs) (sym (ap (listed (faulty n) text) e ∙ ap (λ (o : Option (List ℕ)). r ∷ or_none (faulty n) o) some))
+    ∙ ap (λ (xs : List Refusal). rs ++ xs)
+    (sym (ap (listed (faulty n) text) e ∙ ap (λ (o : Option (List ℕ)). r ∷ or_none (faulty n) o) some))
     ∙ h
 
 -- ---- by what was found
@@ -55,7 +59,8 @@ pub ended : (rs all : List Refusal) (n : ℕ) (text seen : List ℕ) (found : Op
 ended rs all n text seen None same m e h = no_fault rs all n text m.0 (ap job_in (sym same) ∙ m.1) h
 ended rs all n text seen (Some r) same m e h = absurd cc
 
-pub refusal_is : (text seen : List ℕ) (found : Option Refusal) (r : Refusal) → seen ≡ text → IsFound found seen → found ≡ Some r → job_in text ≡ Err r
+pub refusal_is : (text seen : List ℕ) (found : Option Refusal) (r : Refusal) → seen ≡ text → IsFound found seen → found ≡ Some r
+    → job_in text ≡ Err r
 refusal_is text seen None r same m e = absurd cc
 refusal_is text seen (Some q) r same m e =
     let one : q ≡ r = cc in

@@ -76,7 +76,8 @@ hit : {A : Type 0} (c : Code) (n : ℕ) (part : Part) (r : Result A Code) → r 
 hit c n part (Ok a) e = absurd cc
 hit c n part (Err d) e =
     let same : d ≡ c = cc in
-    subst (λ (x : Code). IsSome {T = Mark} (if code_number x == code_number c then Some (record { word = n; part = part }) else None)) (sym same)
+    subst (λ (x : Code). IsSome {T = Mark} (if code_number x == code_number c then Some (record { word = n; part = part }) else None))
+    (sym same)
     (subst (λ (b : Bool). IsSome {T = Mark} (if b then Some (record { word = n; part = part }) else None)) (sym (same-number c)) refl)
 
 not-line : (c : Code) → is_of_word c ≡ true → BadLine ≡ c → ⊥
@@ -108,29 +109,36 @@ operator-err w c h e =
     (or_else (bytes_eq w (codes "!=")) _ _ c
     (λ z. not-bad c h z))))))))) e
 
-index-marked : (s : Names) (c : Code) (n : ℕ) (part : Part) (w : Word) → index_of s.locals w ≡ Err c → IsSome (index_mark (known_of s) c n part w)
+index-marked : (s : Names) (c : Code) (n : ℕ) (part : Part) (w : Word) → index_of s.locals w ≡ Err c
+    → IsSome (index_mark (known_of s) c n part w)
 unfolding index_of
 index-marked s c n part w e = go (begins_number w) (bytes_eq w (codes "arg")) (bytes_eq w (codes "step")) refl refl refl
   where
-    go : (a b d : Bool) → begins_number w ≡ a → bytes_eq w (codes "arg") ≡ b → bytes_eq w (codes "step") ≡ d → IsSome (index_mark (known_of s) c n part w)
+    go : (a b d : Bool) → begins_number w ≡ a → bytes_eq w (codes "arg") ≡ b → bytes_eq w (codes "step") ≡ d
+        → IsSome (index_mark (known_of s) c n part w)
     go true b d x y z = rw x (hit c n part (numbered w) (made-err _ (numbered w) c (rw x at e)))
     go false true d x y z = absurd (let bad : Ok _ ≡ Err c = rw (x, y) at e in cc)
     go false false true x y z = absurd (let bad : Ok _ ≡ Err c = rw (x, y, z) at e in cc)
-    go false false false x y z = rw (x, y, z) (hit c n part (declared_at s.locals w) (made-err _ (declared_at s.locals w) c (rw (x, y, z) at e)))
+    go false false false x y z =
+        rw (x, y, z) (hit c n part (declared_at s.locals w) (made-err _ (declared_at s.locals w) c (rw (x, y, z) at e)))
 
-cell-marked : (s : Names) (c : Code) (n : ℕ) (o : Option (Word × Word)) → is_of_word c ≡ true → cell_from s o ≡ Err c → IsSome (cell_mark (known_of s) c n o)
+cell-marked : (s : Names) (c : Code) (n : ℕ) (o : Option (Word × Word)) → is_of_word c ≡ true → cell_from s o ≡ Err c
+    → IsSome (cell_mark (known_of s) c n o)
 cell-marked s c n None h e = absurd (not-bad c h e)
 cell-marked s c n (Some p) h e =
-    elim (both-err (declared_at s.arrays p.0) (index_of s.locals p.1) c (made-err _ (both (declared_at s.arrays p.0) (index_of s.locals p.1)) c e)) [
+    elim
+    (both-err (declared_at s.arrays p.0) (index_of s.locals p.1) c (made-err _ (both (declared_at s.arrays p.0) (index_of s.locals p.1)) c e)) [
       | inl a ↦ left _ _ (hit c n Array (declared_at s.arrays p.0) a)
       | inr i ↦ right _ _ (index-marked s c n Index p.1 i)
     ]
 
-cell-word : (s : Names) (c : Code) (n : ℕ) (w : Word) → is_of_word c ≡ true → cell_of s w ≡ Err c → IsSome (cell_mark (known_of s) c n (cell_parts w))
+cell-word : (s : Names) (c : Code) (n : ℕ) (w : Word) → is_of_word c ≡ true → cell_of s w ≡ Err c
+    → IsSome (cell_mark (known_of s) c n (cell_parts w))
 unfolding cell_of
 cell-word s c n w h e = cell-marked s c n (cell_parts w) h e
 
-operand-marked : (s : Names) (c : Code) (n : ℕ) (w : Word) → is_of_word c ≡ true → operand_of s w ≡ Err c → IsSome (operand_mark (known_of s) c n w)
+operand-marked : (s : Names) (c : Code) (n : ℕ) (w : Word) → is_of_word c ≡ true → operand_of s w ≡ Err c
+    → IsSome (operand_mark (known_of s) c n w)
 unfolding operand_of
 operand-marked s c n w h e = go (has_bracket w) refl
   where
@@ -138,12 +146,14 @@ operand-marked s c n w h e = go (has_bracket w) refl
     go true x = rw x (cell-word s c n w h (made-err _ (cell_of s w) c (rw x at e)))
     go false x = rw x (index-marked s c n Whole w (made-err _ (index_of s.locals w) c (rw x at e)))
 
-expr-marked : (s : Names) (c : Code) (n : ℕ) (ws : Words) → is_of_word c ≡ true → expr_of s ws ≡ Err c → IsSome (expr_mark (known_of s) c n ws)
+expr-marked : (s : Names) (c : Code) (n : ℕ) (ws : Words) → is_of_word c ≡ true → expr_of s ws ≡ Err c
+    → IsSome (expr_mark (known_of s) c n ws)
 expr-marked s c n [] h e = absurd (not-bad c h e)
 expr-marked s c n (a ∷ []) h e = operand-marked s c n a h (made-err _ (operand_of s a) c e)
 expr-marked s c n (a ∷ op ∷ []) h e = absurd (not-bad c h e)
 expr-marked s c n (a ∷ op ∷ b ∷ []) h e =
-    elim (both-err (both (operand_of s a) (operator_of op)) (operand_of s b) c (made-err _ (both (both (operand_of s a) (operator_of op)) (operand_of s b)) c e)) [
+    elim
+    (both-err (both (operand_of s a) (operator_of op)) (operand_of s b) c (made-err _ (both (both (operand_of s a) (operator_of op)) (operand_of s b)) c e)) [
       | inl f ↦ elim (both-err (operand_of s a) (operator_of op) c f) [
         | inl x ↦ left _ _ (operand-marked s c n a h x)
         | inr o ↦ absurd (operator-err op c h o)
@@ -156,7 +166,8 @@ let-marked : (s : Names) (c : Code) (ws : Words) → is_of_word c ≡ true → l
 let-marked s c [] h e = absurd (not-bad c h e)
 let-marked s c (name ∷ []) h e = absurd (not-bad c h e)
 let-marked s c (name ∷ is ∷ ws) h e =
-    elim (both-err (both (is_equals is) (declared_at s.locals name)) (expr_of s ws) c (made-err _ (both (both (is_equals is) (declared_at s.locals name)) (expr_of s ws)) c e)) [
+    elim
+    (both-err (both (is_equals is) (declared_at s.locals name)) (expr_of s ws) c (made-err _ (both (both (is_equals is) (declared_at s.locals name)) (expr_of s ws)) c e)) [
       | inl f ↦ elim (both-err (is_equals is) (declared_at s.locals name) c f) [
         | inl q ↦ absurd (equals-err (bytes_eq is (codes "=")) c h q)
         | inr n ↦ left _ _ (hit c 1 Whole (declared_at s.locals name) n)
@@ -164,11 +175,13 @@ let-marked s c (name ∷ is ∷ ws) h e =
       | inr x ↦ right _ _ (expr-marked s c 3 ws h x)
     ]
 
-put-marked : (s : Names) (kind : PutKind) (c : Code) (ws : Words) → is_of_word c ≡ true → put_of s kind ws ≡ Err c → IsSome (put_mark (known_of s) c ws)
+put-marked : (s : Names) (kind : PutKind) (c : Code) (ws : Words) → is_of_word c ≡ true → put_of s kind ws ≡ Err c
+    → IsSome (put_mark (known_of s) c ws)
 put-marked s kind c [] h e = absurd (not-bad c h e)
 put-marked s kind c (cell ∷ []) h e = absurd (not-bad c h e)
 put-marked s kind c (cell ∷ is ∷ ws) h e =
-    elim (both-err (both (cell_of s cell) (is_equals is)) (expr_of s ws) c (made-err _ (both (both (cell_of s cell) (is_equals is)) (expr_of s ws)) c e)) [
+    elim
+    (both-err (both (cell_of s cell) (is_equals is)) (expr_of s ws) c (made-err _ (both (both (cell_of s cell) (is_equals is)) (expr_of s ws)) c e)) [
       | inl f ↦ elim (both-err (cell_of s cell) (is_equals is) c f) [
         | inl x ↦ left _ _ (cell-word s c 1 cell h x)
         | inr q ↦ absurd (equals-err (bytes_eq is (codes "=")) c h q)

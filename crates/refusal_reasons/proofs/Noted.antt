@@ -13,7 +13,8 @@ above-more (suc (suc n)) l ls h =
     ap (λ (k : ℕ). take k (l ∷ ls)) one ∙ ap (λ (k : ℕ). l ∷ take k ls) (sym two)
 
 -- the array of one more line
-pub arrays-noted : (left : ℕ) (old new all : Words) (l : List ℕ) (ls lines : List (List ℕ)) → 1 < left → lines ≡ l ∷ ls → new ≡ old ++ arrays_on (words_of l)
+pub arrays-noted : (left : ℕ) (old new all : Words) (l : List ℕ) (ls lines : List (List ℕ)) → 1 < left → lines ≡ l ∷ ls
+    → new ≡ old ++ arrays_on (words_of l)
     → old ++ arrays_in (above left lines) ≡ all → new ++ arrays_in (above (left - 1) ls) ≡ all
 arrays-noted left old new all l ls lines more cut noted before =
     ap (λ (ws : Words). ws ++ arrays_in (above (left - 1) ls)) noted

@@ -70,7 +70,8 @@ none-or k c n ws None b x y = y
 none-or k c n ws (Some m) b x y = x
 
 -- one word further on
-later : (k : Known) (c : Code) (n : ℕ) (w : Word) (ws : Words) (o : Option Mark) → MarksRefused k c (n + 1) ws o → MarksRefused k c n (w ∷ ws) o
+later : (k : Known) (c : Code) (n : ℕ) (w : Word) (ws : Words) (o : Option Mark) → MarksRefused k c (n + 1) ws o
+    → MarksRefused k c n (w ∷ ws) o
 later k c n w ws None x = tt
 later k c n w ws (Some m) x = let e = x.2 in (x.0 + 1, x.1, omega (arith, e), got x.0 x.3, x.4)
   where

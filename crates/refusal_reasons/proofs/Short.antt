@@ -130,7 +130,8 @@ onto-short : (b c : ℕ) (ls : List (List ℕ)) → AllShort b ls → AllShort (
 onto-short b c [] h = (omega arith, tt)
 onto-short b c (l ∷ ls) h = (let le = h.0 in omega (arith, le), longer b ls h.1)
 
-line-more : (b : Bool) (c : ℕ) (cs : List ℕ) → AllShort (length cs) (lines_of cs) → AllShort (suc (length cs)) (if b then [] ∷ lines_of cs else onto_first c (lines_of cs))
+line-more : (b : Bool) (c : ℕ) (cs : List ℕ) → AllShort (length cs) (lines_of cs)
+    → AllShort (suc (length cs)) (if b then [] ∷ lines_of cs else onto_first c (lines_of cs))
 line-more true c cs h = (omega arith, longer (length cs) (lines_of cs) h)
 line-more false c cs h = onto-short (length cs) c (lines_of cs) h
 
@@ -165,7 +166,8 @@ word-within : (spaced : Bool) (n : ℕ) (line : List ℕ) → before_word spaced
 word-within spaced n [] = omega arith
 word-within true zero (c ∷ cs) = one-or-none (c == 32) (before_word true zero cs) (length cs) (word-within true zero cs)
 word-within true (suc n) (c ∷ cs) =
-    one-or-one (c == 32) (before_word true (suc n) cs) (before_word false n cs) (length cs) (word-within true (suc n) cs) (word-within false n cs)
+    one-or-one (c == 32) (before_word true (suc n) cs) (before_word false n cs) (length cs) (word-within true (suc n) cs)
+    (word-within false n cs)
 word-within false n (c ∷ cs) = let h = word-within (c == 32) n cs in omega (arith, h)
 
 byte-within : (b : ℕ) (line : List ℕ) → before_byte b line ≤ length line
@@ -244,7 +246,8 @@ opening-within b k blocks (w ∷ ws) h le = by (opens w) (bytes_eq w (codes "end
     by false true = within-fewer b (length blocks - 1) blocks h
     by false false = h
 
-open-within : (b k : ℕ) (blocks : List ℕ) (ls : List (List ℕ)) → AllWithin b blocks → k + length ls ≤ b + 1 → AllWithin b (open_after k blocks ls)
+open-within : (b k : ℕ) (blocks : List ℕ) (ls : List (List ℕ)) → AllWithin b blocks → k + length ls ≤ b + 1
+    → AllWithin b (open_after k blocks ls)
 open-within b k blocks [] h le = h
 open-within b k blocks (l ∷ ls) h le =
     let now : k ≤ b = omega (arith, le) in
@@ -327,7 +330,8 @@ line-shown-short : (number before count : ℕ) (line : List ℕ) → number ≤ 
 line-shown-short number before count [] n = omega arith
 line-shown-short number before count (c ∷ cs) n =
     let from = hidden before (c ∷ cs) in
-    part-short number (nat_lt 0 from) (nat_lt (from + most_shown) (length (c ∷ cs))) (before - from) count (take most_shown (drop from (c ∷ cs))) n (taken-few 160 (drop from (c ∷ cs)))
+    part-short number (nat_lt 0 from) (nat_lt (from + most_shown) (length (c ∷ cs))) (before - from) count
+    (take most_shown (drop from (c ∷ cs))) n (taken-few 160 (drop from (c ∷ cs)))
 
 place-short : (p : Place) (text : List ℕ) → p.line ≤ 1048580 → length (place_shown p text) ≤ 1955
 place-short p text n = line-shown-short p.line (p.column - 1) p.count (line_at p.line (lines_of text)) n
@@ -374,10 +378,15 @@ open-short : (line : ℕ) (text : List ℕ) → line ≤ 1048580 → length (ope
 open-short line text h = by (line == 0)
   where
     by : (b : Bool)
-        → length (if b then [] else codes "the block of line " ++ decimal line ++ codes " is still open:\n" ++ place_shown (first_word_at text line) text) ≤ 1996
+        → length
+        (if b then []
+        else codes "the block of line " ++ decimal line ++ codes " is still open:\n" ++ place_shown (first_word_at text line) text)
+        ≤ 1996
     by true = omega arith
     by false =
-        let all : Short (codes "the block of line " ++ decimal line ++ codes " is still open:\n" ++ place_shown (first_word_at text line) text) (18 + 7 + 16 + 1955) =
+        let all : Short
+        (codes "the block of line " ++ decimal line ++ codes " is still open:\n" ++ place_shown (first_word_at text line) text)
+        (18 + 7 + 16 + 1955) =
         join (join (join
         (text_of (codes "the block of line ") 18 refl)
         (of (decimal line) 7 (number-short line h)))
@@ -385,7 +394,8 @@ open-short line text h = by (line == 0)
         (of (place_shown (first_word_at text line) text) 1955 (place-short (first_word_at text line) text h)) in
         let few = all.few in omega (arith, few)
 
-head-short : (source : List ℕ) (kind : Kind) (p : Place) → p.line ≤ 1048580 → p.column ≤ 1048580 → length (head source kind p) ≤ length source + 110
+head-short : (source : List ℕ) (kind : Kind) (p : Place) → p.line ≤ 1048580 → p.column ≤ 1048580
+    → length (head source kind p) ≤ length source + 110
 head-short source kind p l c =
     let few = number-small p.code in
     let all : Short (head source kind p) (length source + 1 + 7 + 1 + 7 + 7 + 2 + 1 + 11 + 2 + 70 + 1) =

@@ -54,7 +54,8 @@ opens w = bytes_eq w (codes "body") || (bytes_eq w (codes "if") || bytes_eq w (c
 -- the lines whose blocks are open, outermost first, after the line of this number
 abbrev pub opening : ℕ → List ℕ → Words → List ℕ
 opening n blocks [] = blocks
-opening n blocks (k ∷ ws) = if opens k then blocks ++ n ∷ [] else if bytes_eq k (codes "end") then take (length blocks - 1) blocks else blocks
+opening n blocks (k ∷ ws) =
+    if opens k then blocks ++ n ∷ [] else if bytes_eq k (codes "end") then take (length blocks - 1) blocks else blocks
 
 -- the same after these lines, of which the first has this number
 abbrev pub open_after : ℕ → List ℕ → List (List ℕ) → List ℕ

@@ -125,7 +125,8 @@ abbrev pub twice_mark : Words → Mark → Option Mark
 twice_mark (k ∷ b ∷ ws) name = if bytes_eq k (codes "body") then option_or (repeated [] 2 (take 33 ws)) (Some name) else Some name
 twice_mark _ name = Some name
 
--- What a fault of this code is about: a name or a number, a name that is there twice, a length, or a body that isn't there. None is the whole line.
+-- What a fault of this code is about: a name or a number, a name that is there twice, a length, or a body that isn't there. None is the
+-- whole line.
 abbrev pub mark_on : Known → Code → Words → Option Mark
 mark_on k BadName ws = read_mark k BadName ws
 mark_on k BadNumber ws = read_mark k BadNumber ws

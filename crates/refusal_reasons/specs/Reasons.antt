@@ -49,7 +49,8 @@ dots cut = if cut then codes "..." else []
 -- a part of a line with the line's number and the mark below it; whether bytes are left out before it, and after it
 abbrev pub part_line : ℕ → Bool → Bool → ℕ → ℕ → List ℕ → List ℕ
 part_line number cut goes_on before count part =
-    codes "  " ++ decimal number ++ codes " | " ++ dots cut ++ shown part ++ dots goes_on ++ codes "\n  " ++ replicate (length (decimal number)) 32
+    codes "  " ++ decimal number ++ codes " | " ++ dots cut ++ shown part ++ dots goes_on ++ codes "\n  "
+    ++ replicate (length (decimal number)) 32
     ++ codes " | " ++ replicate (length (dots cut)) 32 ++ mark before count part ++ codes "\n"
 
 -- a line without its first `from` bytes
@@ -65,7 +66,8 @@ line_shown number before count (c ∷ cs) = cut_line number (hidden before (c �
 -- the place, the code with its name, and what it means
 abbrev pub head : List ℕ → Kind → Place → List ℕ
 head source kind p =
-    source ++ codes ":" ++ decimal p.line ++ codes ":" ++ decimal p.column ++ codes ": code " ++ decimal (code_number p.code) ++ codes " " ++ code_name p.code
+    source ++ codes ":" ++ decimal p.line ++ codes ":" ++ decimal p.column ++ codes ": code " ++ decimal (code_number p.code) ++ codes " "
+    ++ code_name p.code
     ++ codes ": " ++ meaning kind p.code ++ codes "\n"
 
 -- the line of a place
@@ -90,7 +92,8 @@ is_outer (w ∷ ws) = bytes_eq w (codes "array") || (bytes_eq w (codes "body") |
 -- the line of the block that is still open above such a line
 abbrev pub open_shown : ℕ → List ℕ → List ℕ
 open_shown line text =
-    if line == 0 then [] else codes "the block of line " ++ decimal line ++ codes " is still open:\n" ++ place_shown (first_word_at text line) text
+    if line == 0 then []
+    else codes "the block of line " ++ decimal line ++ codes " is still open:\n" ++ place_shown (first_word_at text line) text
 
 abbrev pub open_line : Code → List ℕ → Refusal → ℕ
 open_line UnknownLine text r =
@@ -107,7 +110,8 @@ abbrev pub ReasonsAreOfRefusals : Type 0
 ReasonsAreOfRefusals =
     (source text : List ℕ) (kind : Kind) (r : Refusal) (m : Option Mark)
     → (column : ℕ) × (rest : List ℕ) × (refusal_reason source text kind r m
-    ≡ (source ++ codes ":" ++ decimal r.line ++ codes ":" ++ decimal column ++ codes ": code " ++ decimal (code_number r.code) ++ codes " " ++ code_name r.code
+    ≡ (source ++ codes ":" ++ decimal r.line ++ codes ":" ++ decimal column ++ codes ": code " ++ decimal (code_number r.code) ++ codes " "
+    ++ code_name r.code
     ++ codes ": " ++ meaning kind r.code ++ codes "\n") ++ rest)
 
 -- A reason has at most 4096 bytes more than its source's name, for texts as long as those that are read.

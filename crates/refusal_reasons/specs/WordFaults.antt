@@ -25,7 +25,8 @@ known_of s = record { arrays = s.arrays; locals = Some s.locals }
 -- If a line in a body is refused by such a fault, with any names, then a word of it, or a part of one, is marked.
 abbrev pub WordFaultsAreMarked : Type 0
 WordFaultsAreMarked =
-    (s : Names) (fits : Bool) (keyword : Keyword) (ws : Words) (c : Code) → is_of_word c ≡ true → line_behind s fits (Some keyword) ws ≡ Err c
+    (s : Names) (fits : Bool) (keyword : Keyword) (ws : Words) (c : Code) → is_of_word c ≡ true
+    → line_behind s fits (Some keyword) ws ≡ Err c
     → IsSome (inner_mark (known_of s) c keyword ws)
 
 -- whether a word is no local, if locals are known

@@ -12,7 +12,8 @@ at line code = record { line = line; code = code }
 pub record FaultsAreWorkedOut : Type 0 where
   pub none : faults_in (codes "bsp 1\nbody b\nend\nstart b 0\n") ≡ []
   -- lines of a body
-  pub lines : faults_in (codes "bsp 1\nbody b\nlet x = 05\nput c[0] = 1\nend\nshow\n") ≡ at 3 BadNumber ∷ at 4 UnknownName ∷ at 6 UnknownLine ∷ []
+  pub lines : faults_in (codes "bsp 1\nbody b\nlet x = 05\nput c[0] = 1\nend\nshow\n")
+      ≡ at 3 BadNumber ∷ at 4 UnknownName ∷ at 6 UnknownLine ∷ []
   -- a block stays a block
   pub blocks : faults_in (codes "bsp 1\nbody b\nwhile 1 <\nend 1\nend\nshow\n") ≡ at 3 BadLine ∷ at 4 BadLine ∷ at 6 UnknownLine ∷ []
   -- bodies that aren't there come last, each by its line

@@ -6,7 +6,8 @@ use Rattle.refusal_reasons.specs.Places.{place_in}
 
 -- the fault of this line and code of a text is shown at a column, with `count` bytes
 abbrev pub IsAt : List ℕ → ℕ → Code → ℕ → ℕ → Type 0
-IsAt text line code column count = place_in text (record { line = line; code = code }) ≡ record { line = line; code = code; column = column; count = count }
+IsAt text line code column count =
+    place_in text (record { line = line; code = code }) ≡ record { line = line; code = code; column = column; count = count }
 
 pub record PlacesAreWorkedOut : Type 0 where
   pub number : IsAt (codes "bsp 1\nbody b\n  let x = y + 05\nend\n") 3 BadNumber 15 2

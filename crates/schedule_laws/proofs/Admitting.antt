@@ -25,7 +25,8 @@ homes_admit s roles own i home cast k h e f capacity =
     let fits = fitting s i (ToSeek home 1) cast.core h seeks.2 in
     let rests : (view_at s.views i).errand ≡ Rest = fits.0 ∙ ap (λ n. opening home n Seeking 1) seeks.1 in
     let step = open_tiers_admit s i home 1 cast.core h cast.going seeks.2 rests
-    (subst (λ (t : ℕ). 0 < (word_at s.words t).parties) tier waits.0) (subst (λ (t : ℕ). 0 < (word_at s.words t).unarrived) tier waits.1) capacity in
+    (subst (λ (t : ℕ). 0 < (word_at s.words t).parties) tier waits.0) (subst (λ (t : ℕ). 0 < (word_at s.words t).unarrived) tier waits.1)
+    capacity in
     let root = goes_stay s i cast.core (ap is_forcing seeks.2) in
     record {
       answer = step.answer;

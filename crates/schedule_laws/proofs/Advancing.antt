@@ -55,25 +55,32 @@ free_none : (f : Role → ℕ) (roles : List Role) (ts : List ℕ) → f Out ≡
     → sum_by (λ t. f (role_at roles t)) ts ≡ 0
 free_none f roles [] z a = refl
 free_none f roles (t ∷ ts) z a =
-    let b = sum_by-cons (λ t. f (role_at roles t)) t ts in let c : f (role_at roles t) ≡ 0 = ap f a.0 ∙ z in let d = free_none f roles ts z a.1 in omega arith
+    let b = sum_by-cons (λ t. f (role_at roles t)) t ts in
+    let c : f (role_at roles t) ≡ 0 = ap f a.0 ∙ z in
+    let d = free_none f roles ts z a.1 in
+    omega arith
 
-pub total : (f : Role → ℕ) (roles : List Role) (participants : List ParticipantValue) (free : List ℕ) (n : ℕ) → f Out ≡ 0 → AreShared participants free n → length roles ≡ n
+pub total : (f : Role → ℕ) (roles : List Role) (participants : List ParticipantValue) (free : List ℕ) (n : ℕ) → f Out ≡ 0
+    → AreShared participants free n → length roles ≡ n
     → AllByRecursion (λ t. role_at roles t ≡ Out) free → sum_by f roles ≡ sum_by (of_participant (λ t. f (role_at roles t))) participants
 total f roles participants free n z shared long outs =
     let a = roles_all f roles in let b = shared (λ t. f (role_at roles t)) in let c = free_none f roles free z outs in
-    let d : of_all (length roles) (λ t. f (role_at roles t)) ≡ of_all n (λ t. f (role_at roles t)) = ap (λ (m : ℕ). of_all m (λ t. f (role_at roles t))) long in
+    let d : of_all (length roles) (λ t. f (role_at roles t)) ≡ of_all n (λ t. f (role_at roles t)) =
+    ap (λ (m : ℕ). of_all m (λ t. f (role_at roles t))) long in
     omega arith
 
 -- a task that is over
 
-children_zero : (f : Role → ℕ) (roles : List Role) (ks : List ChildValue) → ((k : ℕ) → k < length ks → f (role_at roles (child_at ks k).token) ≡ 0)
+children_zero : (f : Role → ℕ) (roles : List Role) (ks : List ChildValue)
+    → ((k : ℕ) → k < length ks → f (role_at roles (child_at ks k).token) ≡ 0)
     → sum_by (λ (k : ChildValue). f (role_at roles k.token)) ks ≡ 0
 children_zero f roles [] h = refl
 children_zero f roles (k ∷ ks) h =
     let a = sum_by-cons (λ (k : ChildValue). f (role_at roles k.token)) k ks in
     let b = h 0 (omega arith) in let c = children_zero f roles ks (λ j l. h (suc j) (omega arith)) in omega arith
 
-children_one : (f : Role → ℕ) (roles : List Role) (ks : List ChildValue) → ((k : ℕ) → k < length ks → f (role_at roles (child_at ks k).token) ≡ 1)
+children_one : (f : Role → ℕ) (roles : List Role) (ks : List ChildValue)
+    → ((k : ℕ) → k < length ks → f (role_at roles (child_at ks k).token) ≡ 1)
     → sum_by (λ (k : ChildValue). f (role_at roles k.token)) ks ≡ length ks
 children_one f roles [] h = refl
 children_one f roles (k ∷ ks) h =
@@ -84,9 +91,13 @@ abbrev pub unsettled : Role → ℕ
 unsettled r = cond (is_settled r) 0 1
 
 abbrev pub AllOver : List Role → ℕ → List ParticipantValue → Type 0
-AllOver roles tiers gs = (q : ℕ) → q < length gs → SitsAt Over roles tiers (participant_at gs q).token (participant_at gs q).home (participant_at gs q).children (participant_at gs q).synced
+AllOver roles tiers gs =
+    (q : ℕ) → q < length gs
+    → SitsAt Over roles tiers (participant_at gs q).token (participant_at gs q).home (participant_at gs q).children
+    (participant_at gs q).synced
 
-over_settled : (roles : List Role) (tiers : ℕ) (gs : List ParticipantValue) → AllOver roles tiers gs → sum_by (of_participant (λ t. unsettled (role_at roles t))) gs ≡ 0
+over_settled : (roles : List Role) (tiers : ℕ) (gs : List ParticipantValue) → AllOver roles tiers gs
+    → sum_by (of_participant (λ t. unsettled (role_at roles t))) gs ≡ 0
 over_settled roles tiers [] h = refl
 over_settled roles tiers (g ∷ gs) h =
     let a = sum_by-cons (of_participant (λ t. unsettled (role_at roles t))) g gs in
@@ -105,7 +116,8 @@ over_members roles tiers [] h = refl
 over_members roles tiers (g ∷ gs) h =
     let a = sum_by-cons (of_participant (λ t. members_in (role_at roles t))) g gs in
     let s = h 0 (omega arith) in
-    let b : members_in (role_at roles g.token) ≡ length (own_participant g) = ap members_in s.own ∙ own_members g.home g.synced (waiting g.path g.token g.home) in
+    let b : members_in (role_at roles g.token) ≡ length (own_participant g) =
+    ap members_in s.own ∙ own_members g.home g.synced (waiting g.path g.token g.home) in
     let c = children_one members_in roles g.children (λ k l. ap members_in (s.each k l)) in
     let d = over_members roles tiers gs (λ q l. h (suc q) (omega arith)) in
     let e : length (map child_participant g.children) ≡ length g.children = length-map g.children child_participant in
@@ -173,17 +185,22 @@ leads_only home passage own f e = ⊎_elim (λ (q : own ≡ Here home). not_both
     (λ q. ⊎_elim (λ (q : own ≡ Passes home passage). not_both (is_leading own) e (ap is_leading q))
     (λ q. ⊎_elim (λ (q : own ≡ Owes home passage). not_both (is_leading own) e (ap is_leading q)) (λ q. q) q) q) q) f
 
-module _ (parents : List ℕ) (w : World) (roles : List Role) (worker place : ℕ) (is : IsWorking parents w roles) (h : place < length w.participants)
-    (at : (participant_at w.participants place).stage ≡ Leaving) (due : may_finish w.tree (participant_at w.participants place).token ≡ true) where
+module _ (parents : List ℕ) (w : World) (roles : List Role) (worker place : ℕ) (is : IsWorking parents w roles)
+    (h : place < length w.participants)
+    (at : (participant_at w.participants place).stage ≡ Leaving)
+    (due : may_finish w.tree (participant_at w.participants place).token ≡ true) where
   own_known : (q : ℕ) → q < length w.participants → (participant_at w.participants q).token < length w.tree.views
-  own_known q l = known_in w.participants w.free (length w.tree.views) is.shared q (participant_at w.participants q).token l (own_in (participant_at w.participants q))
+  own_known q l =
+      known_in w.participants w.free (length w.tree.views) is.shared q (participant_at w.participants q).token l
+      (own_in (participant_at w.participants q))
 
   leading : is_leading (role_at roles (participant_at w.participants place).token) ≡ true
   leading =
       let i : ℕ = (participant_at w.participants place).token in
       sym (leads_is_due w.tree i (role_at roles i) (is.cast.plays i (own_known place h))) ∙ (known_due w.tree i due).1
 
-  leads : role_at roles (participant_at w.participants place).token ≡ Leads (participant_at w.participants place).home (passage_if (participant_at w.participants place).synced)
+  leads : role_at roles (participant_at w.participants place).token
+      ≡ Leads (participant_at w.participants place).home (passage_if (participant_at w.participants place).synced)
   leads =
       let g : ParticipantValue = participant_at w.participants place in
       leads_only g.home (passage_if g.synced) (role_at roles g.token) (sits_at parents w roles worker place is h Leaving at).own leading
@@ -201,14 +218,24 @@ module _ (parents : List ℕ) (w : World) (roles : List Role) (worker place : �
           (nobody_leads w.tree roles (participant_at w.participants q).token (participant_at w.participants place).token is.cast (own_known q l) (own_known place h) (ap is_awaited e ∙ a))
 
       owes : {A : Type 0} (home : ℕ) (passage : Passage)
-          → (role_at roles (participant_at w.participants q).token ≡ Owes home passage) ⊎ (role_at roles (participant_at w.participants q).token ≡ Leads home passage) → A
-      owes home passage e = absurd (leaders_are_alone w.tree roles (participant_at w.participants place).token (participant_at w.participants q).token home passage is.cast (own_known place h) (own_known q l)
-          (others_own w.participants w.free (length w.tree.views) is.shared place q (participant_at w.participants place).token h l o (own_in (participant_at w.participants place))) leading e)
+          → (role_at roles (participant_at w.participants q).token ≡ Owes home passage)
+          ⊎ (role_at roles (participant_at w.participants q).token ≡ Leads home passage)
+          → A
+      owes home passage e =
+          absurd
+          (leaders_are_alone w.tree roles (participant_at w.participants place).token (participant_at w.participants q).token home passage is.cast (own_known place h) (own_known q l)
+          (others_own w.participants w.free (length w.tree.views) is.shared place q (participant_at w.participants place).token h l o (own_in (participant_at w.participants place)))
+          leading e)
 
-      go : (s : Stage) → OwnFits s (participant_at w.participants q).home (participant_at w.participants q).synced (role_at roles (participant_at w.participants q).token) → s ≡ Over
+      go : (s : Stage)
+          → OwnFits s (participant_at w.participants q).home (participant_at w.participants q).synced
+          (role_at roles (participant_at w.participants q).token)
+          → s ≡ Over
       go Waits f = awaits (Late (participant_at w.participants q).home) f refl
       go Taken f = awaits (Late (participant_at w.participants q).home) f refl
-      go Polling f = ⊎_elim (λ e. awaits (Late (participant_at w.participants q).home) e refl) (λ e. awaits (Polls (participant_at w.participants q).home) e refl) f
+      go Polling f =
+          ⊎_elim (λ e. awaits (Late (participant_at w.participants q).home) e refl)
+          (λ e. awaits (Polls (participant_at w.participants q).home) e refl) f
       go (Joining n) f = awaits (Here (participant_at w.participants q).home) f refl
       go (Arriving n) f = awaits (Here (participant_at w.participants q).home) f refl
       go Leaving f = ⊎_elim (λ e. awaits (Here (participant_at w.participants q).home) e refl)
@@ -219,12 +246,15 @@ module _ (parents : List ℕ) (w : World) (roles : List Role) (worker place : �
 
   -- the roles as they are once its call is done
   abbrev done_roles : List Role
-  done_roles = set roles (participant_at w.participants place).token (Past (participant_at w.participants place).home (passage_if (participant_at w.participants place).synced))
+  done_roles =
+      set roles (participant_at w.participants place).token
+      (Past (participant_at w.participants place).home (passage_if (participant_at w.participants place).synced))
 
   abbrev done_participants : List ParticipantValue
   done_participants = set w.participants place (at_stage (participant_at w.participants place) Over)
 
-  is_next : IsNext w roles done_roles (length parents) place (participant_at w.participants place).token (at_stage (participant_at w.participants place) Over)
+  is_next : IsNext w roles done_roles (length parents) place (participant_at w.participants place).token
+      (at_stage (participant_at w.participants place) Over)
   is_next =
       let r : Role = Past (participant_at w.participants place).home (passage_if (participant_at w.participants place).synced) in
       let sits = sits_at parents w roles worker place is h Leaving at in
@@ -233,7 +263,9 @@ module _ (parents : List ℕ) (w : World) (roles : List Role) (worker place : �
         same = λ j n. get_or-set_other roles (participant_at w.participants place).token j r Out n;
         count = λ measure. refl;
         sits = record {
-          own = now_plays parents w roles worker place is h (participant_at w.participants place).token r (own_in (participant_at w.participants place));
+          own =
+              now_plays parents w roles worker place is h (participant_at w.participants place).token r
+              (own_in (participant_at w.participants place));
           each = λ k l. children_stay parents w roles worker place is h r k l ∙ sits.each k l;
           turn = tt;
           homes = sits.homes;
@@ -242,10 +274,12 @@ module _ (parents : List ℕ) (w : World) (roles : List Role) (worker place : �
 
   stages_over : (q : ℕ) → q < length done_participants → (participant_at done_participants q).stage ≡ Over
   stages_over q l =
-      let len : length done_participants ≡ length w.participants = length-set w.participants place (at_stage (participant_at w.participants place) Over) in
+      let len : length done_participants ≡ length w.participants =
+      length-set w.participants place (at_stage (participant_at w.participants place) Over) in
       ⊎_elim
       (λ (e : q ≡ place). ap (λ (n : ℕ). (participant_at done_participants n).stage) e
-      ∙ ap (λ (x : ParticipantValue). x.stage) (get_or-set_same w.participants place (at_stage (participant_at w.participants place) Over) no_participant h))
+      ∙ ap (λ (x : ParticipantValue). x.stage)
+      (get_or-set_same w.participants place (at_stage (participant_at w.participants place) Over) no_participant h))
       (λ (o : q ≢ place). ap (λ (x : ParticipantValue). x.stage) (get_or-set_other w.participants place q (at_stage (participant_at w.participants place) Over) no_participant o)
       ∙ others_over q (omega arith) o)
       (cases_eq q place)
@@ -269,7 +303,9 @@ module _ (parents : List ℕ) (w : World) (roles : List Role) (worker place : �
 
   done_long : length done_roles ≡ length w.tree.views
   done_long =
-      length-set roles (participant_at w.participants place).token (Past (participant_at w.participants place).home (passage_if (participant_at w.participants place).synced)) ∙ is.cast.long
+      length-set roles (participant_at w.participants place).token
+      (Past (participant_at w.participants place).home (passage_if (participant_at w.participants place).synced))
+      ∙ is.cast.long
 
   settled : (j : ℕ) → j < length w.tree.views → is_settled (role_at roles j) ≡ true
   settled j l =
@@ -298,7 +334,8 @@ module _ (parents : List ℕ) (w : World) (roles : List Role) (worker place : �
       ∙ total members_in done_roles done_participants w.free (length w.tree.views) refl done_shared done_long done_free
       ∙ over_members done_roles (length parents) done_participants all_done
 
-  pub all_delivered : (q : ℕ) → q < length w.participants → ((participant_at w.participants q).stage ≡ Over) ⊎ ((participant_at w.participants q).stage ≡ Leaving)
+  pub all_delivered : (q : ℕ) → q < length w.participants
+      → ((participant_at w.participants q).stage ≡ Over) ⊎ ((participant_at w.participants q).stage ≡ Leaving)
   all_delivered q l = ⊎_elim
       (λ (e : q ≡ place). inr (ap (λ (n : ℕ). (participant_at w.participants n).stage) e ∙ at))
       (λ (o : q ≢ place). inl (others_over q l o))
@@ -306,7 +343,11 @@ module _ (parents : List ℕ) (w : World) (roles : List Role) (worker place : �
 
   reported : answer_to w.tree (Finish (participant_at w.participants place).token)
       ≡ answer.Played (finish_at w.tree (participant_at w.participants place).token (plan_ends w.tree)).answer
-  reported = ap (λ (b : Bool). if b then answer.Played (finish_at w.tree (participant_at w.participants place).token (plan_ends w.tree)).answer else answer.NotNow) due
+  reported =
+      ap
+      (λ (b : Bool). if b then answer.Played (finish_at w.tree (participant_at w.participants place).token (plan_ends w.tree)).answer
+      else answer.NotNow)
+      due
 
   planned : flat_ends w.tree ≡ ((registered (flat_of w.tree) == 0) && true) || ((flat_of w.tree).phase == w.limit - 1)
   planned = ap (λ p. end_ends p (flat_of w.tree).phase (registered (flat_of w.tree) == 0)) is.built.plan
@@ -319,7 +360,9 @@ module _ (parents : List ℕ) (w : World) (roles : List Role) (worker place : �
       let same = one_step w.tree (Finish (participant_at w.participants place).token) in
       let below = running_step w.limit w.job running in
       let now = is.phase in
-      let base : IsTurning parents (has_advanced w worker place (after w.tree (Finish (participant_at w.participants place).token))) done_roles = record {
+      let base : IsTurning parents (has_advanced w worker place (after w.tree (Finish (participant_at w.participants place).token)))
+      done_roles =
+      record {
         built = record { shape = same.parents ∙ is.built.shape; plan = same.plan ∙ is.built.plan; leaves = is.built.leaves };
         over = all_over_is done_participants stages_over;
         sits = done_sits;
@@ -327,7 +370,8 @@ module _ (parents : List ℕ) (w : World) (roles : List Role) (worker place : �
         free = done_free;
         cast = λ e. subst (λ (rs : List Role). IsCast (after w.tree (Finish (participant_at w.participants place).token)) rs)
             (sym (map_turned roles (participant_at w.participants place).token (Past (participant_at w.participants place).home (passage_if (participant_at w.participants place).synced))
-            (same_turn (participant_at w.participants place).home (passage_if (participant_at w.participants place).synced) ∙ sym (ap turned leads))))
+            (same_turn (participant_at w.participants place).home (passage_if (participant_at w.participants place).synced)
+            ∙ sym (ap turned leads))))
             (turns.cast (sym turns.ended ∙ e));
         phase = λ e.
             let c : ((flat_of w.tree).phase == w.limit - 1) ≡ false =
@@ -340,10 +384,17 @@ module _ (parents : List ℕ) (w : World) (roles : List Role) (worker place : �
             turns.phase ∙ next_is (flat_of w.tree).phase f ∙ ap suc is.phase;
         last = λ e. ⊎_elim
             (λ (b : (registered (flat_of w.tree) == 0) ≡ true). inl (sym members_live_on ∙ eqb-true (registered (flat_of w.tree)) 0 b))
-            (λ (c : ((flat_of w.tree).phase == w.limit - 1) ≡ true). let d = eqb-true (flat_of w.tree).phase (w.limit - 1) c in inr (omega arith))
+            (λ (c : ((flat_of w.tree).phase == w.limit - 1) ≡ true). let d = eqb-true (flat_of w.tree).phase (w.limit - 1) c in
+            inr (omega arith))
             (ends_by (registered (flat_of w.tree) == 0) ((flat_of w.tree).phase == w.limit - 1) (sym planned ∙ (sym turns.ended ∙ e)));
-      } in
-      (done_roles, subst (λ (t : TreeAnswer). IsTurning parents (advanced_by w worker place (after w.tree (Finish (participant_at w.participants place).token)) t).1 done_roles) (sym reported) base)
+      } in (
+        done_roles,
+        subst
+            (λ (t : TreeAnswer). IsTurning parents (advanced_by w worker place (after w.tree (Finish (participant_at w.participants place).token)) t).1 done_roles)
+            (sym reported) base,
+      )
 
   pub advancing_mode : (done_by w worker (Advances place)).1.mode ≡ mode.Advanced worker (participant_at w.participants place).token
-  advancing_mode = ap (λ (t : TreeAnswer). (advanced_by w worker place (after w.tree (Finish (participant_at w.participants place).token)) t).1.mode) reported
+  advancing_mode =
+      ap (λ (t : TreeAnswer). (advanced_by w worker place (after w.tree (Finish (participant_at w.participants place).token)) t).1.mode)
+      reported

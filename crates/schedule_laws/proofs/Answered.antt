@@ -38,25 +38,36 @@ IsReported w worker (Some m) = (done_by w worker m).0 ≢ NotNow
 stepped_reported : (a : AnswerValue) (played : Played) → a ≡ Stepped played → a ≢ NotNow
 stepped_reported a played e h = let bad : Stepped played ≡ NotNow = sym e ∙ h in cc
 
-module _ (parents : List ℕ) (w : World) (worker : ℕ) (tiers : length parents ≤ 64) (few : is_some (status w.limit w.job) ≡ false → AreFew w) where
+module _ (parents : List ℕ) (w : World) (worker : ℕ) (tiers : length parents ≤ 64)
+    (few : is_some (status w.limit w.job) ≡ false → AreFew w) where
   call_reported : (roles : List Role) (place i : ℕ) (c : Call) (role next : Role) (a : Played) → IsCalled w.tree roles i c role next a
       → (done_by w worker (Calls place i c)).0 ≢ NotNow
   call_reported roles place i c role next a called =
       stepped_reported (done_by w worker (Calls place i c)).0 a
       (ap (λ (t : TreeAnswer). (called_by w worker place (after (after w.tree (Begin i c)) (Go i)) t).0) called.reported)
 
-  advance_reported : (place : ℕ) → may_finish w.tree (participant_at w.participants place).token ≡ true → (done_by w worker (Advances place)).0 ≢ NotNow
+  advance_reported : (place : ℕ) → may_finish w.tree (participant_at w.participants place).token ≡ true
+      → (done_by w worker (Advances place)).0 ≢ NotNow
   advance_reported place due h =
       let token : ℕ = (participant_at w.participants place).token in
       let a : Played = (finish_at w.tree (participant_at w.participants place).token (plan_ends w.tree)).answer in
-      let is : answer_to w.tree (Finish (participant_at w.participants place).token) ≡ answer.Played (finish_at w.tree (participant_at w.participants place).token (plan_ends w.tree)).answer =
-      ap (λ (b : Bool). if b then answer.Played (finish_at w.tree (participant_at w.participants place).token (plan_ends w.tree)).answer else answer.NotNow) due in
-      let reported : (done_by w worker (Advances place)).0 ≡ Advanced (finish_at w.tree (participant_at w.participants place).token (plan_ends w.tree)).answer =
+      let is : answer_to w.tree (Finish (participant_at w.participants place).token)
+      ≡ answer.Played (finish_at w.tree (participant_at w.participants place).token (plan_ends w.tree)).answer =
+      ap
+      (λ (b : Bool). if b then answer.Played (finish_at w.tree (participant_at w.participants place).token (plan_ends w.tree)).answer
+      else answer.NotNow)
+      due in
+      let reported : (done_by w worker (Advances place)).0
+      ≡ Advanced (finish_at w.tree (participant_at w.participants place).token (plan_ends w.tree)).answer =
       ap (λ (t : TreeAnswer). (advanced_by w worker place (after w.tree (Finish (participant_at w.participants place).token)) t).0) is in
-      let bad : Advanced (finish_at w.tree (participant_at w.participants place).token (plan_ends w.tree)).answer ≡ NotNow = sym reported ∙ h in cc
+      let bad : Advanced (finish_at w.tree (participant_at w.participants place).token (plan_ends w.tree)).answer ≡ NotNow =
+      sym reported ∙ h in
+      cc
 
-  stage_reported : (roles : List Role) (place : ℕ) (due : Bool) (stage : Stage) → IsWorking parents w roles → is_some (status w.limit w.job) ≡ false
-      → place < length w.participants → (participant_at w.participants place).stage ≡ stage → may_finish w.tree (participant_at w.participants place).token ≡ due
+  stage_reported : (roles : List Role) (place : ℕ) (due : Bool) (stage : Stage) → IsWorking parents w roles
+      → is_some (status w.limit w.job) ≡ false
+      → place < length w.participants → (participant_at w.participants place).stage ≡ stage
+      → may_finish w.tree (participant_at w.participants place).token ≡ due
       → IsReported w worker (by_stage (participant_at w.participants place) place due stage)
   stage_reported roles place due Waits is below h at e = tt
   stage_reported roles place due Taken is below h at e = λ k. cc
@@ -66,10 +77,12 @@ module _ (parents : List ℕ) (w : World) (worker : ℕ) (tiers : length parents
   stage_reported roles place due (Joining n) is below h at e =
       let capacity = has_room parents w roles place tiers (few below) is h (sits_at parents w roles worker place is h (Joining n) at).own in
       let step = child_step parents w roles worker place is h n at capacity in
-      call_reported roles place (child_at (participant_at w.participants place).children n).token (call.Join (child_at (participant_at w.participants place).children n).home 1) step.role step.next step.a step.called
+      call_reported roles place (child_at (participant_at w.participants place).children n).token
+      (call.Join (child_at (participant_at w.participants place).children n).home 1) step.role step.next step.a step.called
   stage_reported roles place due (Arriving n) is below h at e =
       let step = arrival_step parents w roles worker place is h n at in
-      call_reported roles place (child_at (participant_at w.participants place).children n).token call.Arrive step.0 step.1.1.0 step.1.1.1.0 step.1.1.1.1
+      call_reported roles place (child_at (participant_at w.participants place).children n).token call.Arrive step.0 step.1.1.0 step.1.1.1.0
+      step.1.1.1.1
   stage_reported roles place true Leaving is below h at e = advance_reported place e
   stage_reported roles place false Leaving is below h at e =
       let step = own_step parents w roles worker place is h at e in
@@ -95,7 +108,9 @@ module _ (parents : List ℕ) (w : World) (worker : ℕ) (tiers : length parents
           (λ q. let l = ltb-true place (length w.participants) e in let z = q.1 in absurd (omega arith))
           (λ q. stage_reported q.1.0 place _ (participant_at w.participants place).stage q.1.1 q.0 (ltb-true place (length w.participants) e) refl refl)
           k
-      by false e = subst (λ (g : ParticipantValue). IsReported w worker (by_participant w g place)) (sym (no_participant_beyond w.participants place (ltb-false place (length w.participants) e))) tt
+      by false e =
+          subst (λ (g : ParticipantValue). IsReported w worker (by_participant w g place))
+          (sym (no_participant_beyond w.participants place (ltb-false place (length w.participants) e))) tt
 
   mode_reported : (m : Mode) → IsKept parents w m → Ready w m → IsReported w worker (by_mode w worker m)
   mode_reported mode.Runs k ready = hand_reported (slice_index_or w.hands worker None) k
@@ -107,7 +122,9 @@ module _ (parents : List ℕ) (w : World) (worker : ℕ) (tiers : length parents
   mode_reported (mode.Forces closer token) k ready = by (worker == closer)
     where
       by : (b : Bool) → IsReported w worker (if b then Some (Ends token) else None)
-      by true = stepped_reported (done_by w worker (Ends token)).0 _ (ap (λ (r : AnswerValue × World). r.0) (force_done w worker closer token ready))
+      by true =
+          stepped_reported (done_by w worker (Ends token)).0 _
+          (ap (λ (r : AnswerValue × World). r.0) (force_done w worker closer token ready))
       by false = tt
   mode_reported mode.Over k ready = tt
 
@@ -121,7 +138,9 @@ module _ (parents : List ℕ) (w : World) (worker : ℕ) (tiers : length parents
 pub next_steps_are_answered : NextStepsAreAnswered
 next_steps_are_answered p parents limit xs x m driven e same h =
     let w : World = reached (initial_world p parents limit) xs in
-    let reported = move_reported parents w (worker_of x) driven.tiers.few (light p parents limit driven xs) (kept p parents limit driven xs) (reached_ready p parents limit xs) in
+    let reported =
+    move_reported parents w (worker_of x) driven.tiers.few (light p parents limit driven xs) (kept p parents limit driven xs)
+    (reached_ready p parents limit xs) in
     let mine : IsReported w (worker_of x) (Some m) = subst (λ (o : Option Move). IsReported w (worker_of x) o) e reported in
     mine
     (sym

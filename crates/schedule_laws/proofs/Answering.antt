@@ -11,8 +11,13 @@ use Rattle.job_participants.specs.ParticipantValue.{ParticipantValue, is_done, i
 use Rattle.schedule_laws.specs.Working.{ComesTo}
 
 -- an answer that is done; that is refused; that is neither
-pub done_answer : (g : ParticipantValue) (a : Played) → is_done a ≡ true → answered g a ≡ record g { stage = next_stage g.stage (length g.children) }
-done_answer g a e = ap (λ (b : Bool). if b then record g { stage = next_stage g.stage (length g.children) } else (if is_refused a then sent_home g g.stage else g)) e
+pub done_answer : (g : ParticipantValue) (a : Played) → is_done a ≡ true
+    → answered g a ≡ record g { stage = next_stage g.stage (length g.children) }
+done_answer g a e =
+    ap
+    (λ (b : Bool). if b then record g { stage = next_stage g.stage (length g.children) }
+    else (if is_refused a then sent_home g g.stage else g))
+    e
 
 refusals : (a : Played) → is_refused a ≡ true → (is_done a ≡ false) × (is_refused a ≡ true)
 refusals GoesOn e = not_both false e refl
@@ -40,7 +45,10 @@ done_stays (MustAdvance phase parties) e = refl
 pub refused_answer : (g : ParticipantValue) (a : Played) → is_refused a ≡ true → answered g a ≡ sent_home g g.stage
 refused_answer g a e =
     let r = refusals a e in
-    ap (λ (b : Bool). if b then record g { stage = next_stage g.stage (length g.children) } else (if is_refused a then sent_home g g.stage else g)) r.0
+    ap
+    (λ (b : Bool). if b then record g { stage = next_stage g.stage (length g.children) }
+    else (if is_refused a then sent_home g g.stage else g))
+    r.0
     ∙ ap (λ (b : Bool). if b then sent_home g g.stage else g) r.1
 
 -- what follows a step, by the role that took it
@@ -58,7 +66,8 @@ claiming_goes home r is = ⊎_elim (λ q. ap is_on_its_way q.1) (λ q. ⊎_elim 
 -- a join is done, or is refused elsewhere than at the tier of the spawner, or goes on
 abbrev pub JoinEnds : ℕ → ℕ → Played → Role → Type 0
 JoinEnds own home a next =
-    ((is_done a ≡ true) × (next ≡ Ready home)) ⊎ ((is_refused a ≡ true) × (home ≢ own) × (next ≡ Out)) ⊎ ((a ≡ GoesOn) × ComesTo own home next)
+    ((is_done a ≡ true) × (next ≡ Ready home)) ⊎ ((is_refused a ≡ true) × (home ≢ own) × (next ≡ Out))
+    ⊎ ((a ≡ GoesOn) × ComesTo own home next)
 
 pub look_next : (now own home : ℕ) (a : Played) (next : Role) → Follows now (Joins home) a next → JoinEnds own home a next
 look_next now own home a next f = inr (inr (f.0, inr (inr (inl f.1))))
@@ -92,7 +101,10 @@ goes_same a = (is_done a ≡ false) × (is_refused a ≡ false)
 
 pub kept_answer : (g : ParticipantValue) (a : Played) → goes_same a → answered g a ≡ g
 kept_answer g a e =
-    ap (λ (b : Bool). if b then record g { stage = next_stage g.stage (length g.children) } else (if is_refused a then sent_home g g.stage else g)) e.0
+    ap
+    (λ (b : Bool). if b then record g { stage = next_stage g.stage (length g.children) }
+    else (if is_refused a then sent_home g g.stage else g))
+    e.0
     ∙ ap (λ (b : Bool). if b then sent_home g g.stage else g) e.1
 
 pub goes_on_same : (a : Played) → a ≡ GoesOn → goes_same a
@@ -102,9 +114,11 @@ must_same : (a : Played) (phase parties : ℕ) → a ≡ MustAdvance phase parti
 must_same a phase parties e = (ap is_done e, ap is_refused e)
 
 abbrev pub PassEnds : ℕ → Passage → Played → Role → Type 0
-PassEnds home passage a next = ((is_done a ≡ true) × (next ≡ Past home passage)) ⊎ (goes_same a × (IsPassing home passage next ⊎ (next ≡ Leads home passage)))
+PassEnds home passage a next =
+    ((is_done a ≡ true) × (next ≡ Past home passage)) ⊎ (goes_same a × (IsPassing home passage next ⊎ (next ≡ Leads home passage)))
 
-pub pass_next : (now home : ℕ) (passage : Passage) (r : Role) (a : Played) (next : Role) → IsPassing home passage r → Follows now r a next → PassEnds home passage a next
+pub pass_next : (now home : ℕ) (passage : Passage) (r : Role) (a : Played) (next : Role) → IsPassing home passage r → Follows now r a next
+    → PassEnds home passage a next
 pass_next now home passage r a next is f = ⊎_elim
     (λ (q : r ≡ Looks home passage). let g : Follows now (Looks home passage) a next = subst (λ (x : Role). Follows now x a next) q f in
     inr (goes_on_same a g.0, inl (inr (inl g.1))))

@@ -115,7 +115,8 @@ record IsGone (s : State) (roles : List Role) (i : ℕ) (role next : Role) : Typ
   cast : IsCast (after s (Go i)) (set roles i next)
   phase : (flat_of (after s (Go i))).phase ≡ (flat_of s).phase
 
-goes : (s : State) (roles : List Role) (i : ℕ) (role : Role) → IsCast s roles → i < length s.views → role_at roles i ≡ role → is_on_its_way role ≡ true
+goes : (s : State) (roles : List Role) (i : ℕ) (role : Role) → IsCast s roles → i < length s.views → role_at roles i ≡ role
+    → is_on_its_way role ≡ true
     → (next : Role) × IsGone s roles i role next
 goes s roles i role cast h e way =
     let step = steps_keep_the_cast s roles i cast h (ap is_on_its_way e ∙ way) in
@@ -132,7 +133,8 @@ goes s roles i role cast h e way =
     )
 
 -- it is on its way already
-pub call_goes_on : (s : State) (roles : List Role) (i : ℕ) (c : Call) (role : Role) → IsCast s roles → i < length s.views → role_at roles i ≡ role
+pub call_goes_on : (s : State) (roles : List Role) (i : ℕ) (c : Call) (role : Role) → IsCast s roles → i < length s.views
+    → role_at roles i ≡ role
     → is_on_its_way role ≡ true → (next : Role) × ((a : Played) × IsCalled s roles i c role next a)
 call_goes_on s roles i c role cast h e way =
     let g = goes s roles i role cast h e way in
@@ -151,7 +153,8 @@ call_goes_on s roles i c role cast h e way =
 
 -- or it begins
 pub call_begins : (s : State) (roles : List Role) (i : ℕ) (c : Call) (role : Role) → IsCast s roles → i < length s.views
-    → Begins (length s.parents) (role_at roles i) c role → is_on_its_way role ≡ true → (next : Role) × ((a : Played) × IsCalled s roles i c role next a)
+    → Begins (length s.parents) (role_at roles i) c role → is_on_its_way role ≡ true
+    → (next : Role) × ((a : Played) × IsCalled s roles i c role next a)
 call_begins s roles i c role cast h b way =
     let start = beginnings_keep_the_cast s roles i c role cast h b in
     let s' : State = after s (Begin i c) in

@@ -38,7 +38,8 @@ record Started (s : State) (i : ℕ) (c : Call) : Type 0 where
 starts : (s : State) (i : ℕ) (c : Call) → IsCore s → i < length s.views → call_at s.calls i ≡ Idle
     → may_call (length s.parents) c (view_at s.views i) ≡ true → Started s i c
 starts s i c core h idle may =
-    let m : may_begin s i c ≡ true = ap (λ b. b && (is_idle (call_at s.calls i) && may_call (length s.parents) c (view_at s.views i))) (lt-ltb i (length s.views) h)
+    let m : may_begin s i c ≡ true =
+    ap (λ b. b && (is_idle (call_at s.calls i) && may_call (length s.parents) c (view_at s.views i))) (lt-ltb i (length s.views) h)
     ∙ (ap (λ p. is_idle p && may_call (length s.parents) c (view_at s.views i)) idle ∙ may) in
     record {
       may = m;
@@ -53,7 +54,8 @@ late_begun s i home c is = record {
   one = is.one;
 }
 
-one_may : (s : State) (i : ℕ) (passage : Passage) → (view_at s.views i).size ≡ 1 → may_call (length s.parents) (call_by passage) (view_at s.views i) ≡ true
+one_may : (s : State) (i : ℕ) (passage : Passage) → (view_at s.views i).size ≡ 1
+    → may_call (length s.parents) (call_by passage) (view_at s.views i) ≡ true
 one_may s i Arrival one = ap (ltb 0) one
 one_may s i Departure one = ap (ltb 0) one
 
@@ -63,12 +65,14 @@ passage_call Departure = tt
 
 begins : (s : State) (roles : List Role) (i : ℕ) (c : Call) (next : Role) → IsCast s roles → i < length s.views → IsCall c → Started s i c
     → Plays (begun s i c) i next
-    → (may_begin s i c ≡ true) × IsCast (after s (Begin i c)) (set roles i next) × ((flat_of (after s (Begin i c))).phase ≡ (flat_of s).phase)
+    → (may_begin s i c ≡ true) × IsCast (after s (Begin i c)) (set roles i next)
+    × ((flat_of (after s (Begin i c))).phase ≡ (flat_of s).phase)
 begins s roles i c next cast h is st p =
     let root = only_advances_move s (Begin i c) cast.core is refl in
     (st.may, keeps_the_cast s roles (Begin i c) next cast is root h (subst (λ (x : State). Plays x i next) (sym st.here) p), root.phase)
 
-ready_of : (s : State) (i home : ℕ) (r : Role) → Plays s i r → (r ≡ Here home) ⊎ (r ≡ Ready home) → IsReady s i home × (call_at s.calls i ≡ Idle)
+ready_of : (s : State) (i home : ℕ) (r : Role) → Plays s i r → (r ≡ Here home) ⊎ (r ≡ Ready home)
+    → IsReady s i home × (call_at s.calls i ≡ Idle)
 ready_of s i home r p e = ⊎_elim
     (λ (q : r ≡ Here home). let is : Plays s i (Here home) = subst (λ (x : Role). Plays s i x) q p in (is.0.ready, is.1))
     (λ (q : r ≡ Ready home). let is : Plays s i (Ready home) = subst (λ (x : Role). Plays s i x) q p in is)
@@ -81,21 +85,32 @@ beginnings_keep_the_cast s roles i c next cast h b =
     (λ q.
     let is : Plays s i (Late q.0) = subst (λ (x : Role). Plays s i x) q.1 p in
     let st = starts s i call.Poll cast.core h is.1 (ap (ltb 0) is.0.one) in
-    subst (λ (x : Role). (may_begin s i c ≡ true) × IsCast (after s (Begin i c)) (set roles i x) × ((flat_of (after s (Begin i c))).phase ≡ (flat_of s).phase)) (sym q.3)
+    subst
+    (λ (x : Role). (may_begin s i c ≡ true) × IsCast (after s (Begin i c)) (set roles i x)
+    × ((flat_of (after s (Begin i c))).phase ≡ (flat_of s).phase))
+    (sym q.3)
     (subst (λ (d : Call). (may_begin s i d ≡ true) × IsCast (after s (Begin i d)) (set roles i (Polls q.0)) × ((flat_of (after s (Begin i d))).phase ≡ (flat_of s).phase)) (sym q.2)
     (begins s roles i call.Poll (Polls q.0) cast h tt st (late_begun s i q.0 call.Poll is.0, ap is_poll st.calls))))
     (λ q. ⊎_elim
     (λ q.
     let is = ready_of s i q.0 (role_at roles i) p q.2 in
     let st = starts s i (call_by q.1) cast.core h is.1 (one_may s i q.1 is.0.late.one) in
-    subst (λ (x : Role). (may_begin s i c ≡ true) × IsCast (after s (Begin i c)) (set roles i x) × ((flat_of (after s (Begin i c))).phase ≡ (flat_of s).phase)) (sym q.4)
+    subst
+    (λ (x : Role). (may_begin s i c ≡ true) × IsCast (after s (Begin i c)) (set roles i x)
+    × ((flat_of (after s (Begin i c))).phase ≡ (flat_of s).phase))
+    (sym q.4)
     (subst (λ (d : Call). (may_begin s i d ≡ true) × IsCast (after s (Begin i d)) (set roles i (Looks q.0 q.1)) × ((flat_of (after s (Begin i d))).phase ≡ (flat_of s).phase)) (sym q.3)
     (begins s roles i (call_by q.1) (Looks q.0 q.1) cast h (passage_call q.1) st
     (record { late = late_begun s i q.0 (call_by q.1) is.0.late; phase = is.0.phase }, st.calls))))
     (λ q.
     let is : Plays s i Out = subst (λ (x : Role). Plays s i x) q.2 p in
-    let st = starts s i (call.Join q.0 1) cast.core h is.1 (ap (λ b. b && eqb (view_at s.views i).size 0) (lt-ltb q.0 (length s.parents) q.1) ∙ eq-eqb (view_at s.views i).size 0 is.0.none) in
-    subst (λ (x : Role). (may_begin s i c ≡ true) × IsCast (after s (Begin i c)) (set roles i x) × ((flat_of (after s (Begin i c))).phase ≡ (flat_of s).phase)) (sym q.4)
+    let st =
+    starts s i (call.Join q.0 1) cast.core h is.1
+    (ap (λ b. b && eqb (view_at s.views i).size 0) (lt-ltb q.0 (length s.parents) q.1) ∙ eq-eqb (view_at s.views i).size 0 is.0.none) in
+    subst
+    (λ (x : Role). (may_begin s i c ≡ true) × IsCast (after s (Begin i c)) (set roles i x)
+    × ((flat_of (after s (Begin i c))).phase ≡ (flat_of s).phase))
+    (sym q.4)
     (subst (λ (d : Call). (may_begin s i d ≡ true) × IsCast (after s (Begin i d)) (set roles i (Joins q.0)) × ((flat_of (after s (Begin i d))).phase ≡ (flat_of s).phase)) (sym q.3)
     (begins s roles i (call.Join q.0 1) (Joins q.0) cast h (let one : 0 < 1 = omega arith in (one, omega arith)) st
     (record { known = is.0.known; none = is.0.none }, st.calls))))
@@ -103,7 +118,8 @@ beginnings_keep_the_cast s roles i c next cast h b =
     b
 
 -- the advance: what each other token does
-others_turn : (s : State) (i j : ℕ) (r : Role) → IsCore s → (flat_of s).ended ≡ false → i < length s.views → (view_at s.views i).errand ≡ Advancing
+others_turn : (s : State) (i j : ℕ) (r : Role) → IsCore s → (flat_of s).ended ≡ false → i < length s.views
+    → (view_at s.views i).errand ≡ Advancing
     → may_finish s i ≡ true → j < length s.views → j ≢ i → is_awaited r ≡ false → is_settled r ≡ true → Plays s j r
     → Plays (after s (Finish i)) j (turned r)
 others_turn s i j Out core going h e may k n a b p =
@@ -242,7 +258,10 @@ new_tokens_are_out s roles cast =
           (λ (last : length s.views ≤ j).
           let here : j ≡ length s.views = omega arith in
           subst (λ (r : Role). Plays (with_token s) j r) (sym (entry_last roles Out Out j (omega arith))) (
-            record { known = k; none = ap (λ (x : View). x.size) (entry_last s.views (new_view (word_at s.words 0).phase) (new_view 0) j here) },
+            record {
+              known = k;
+              none = ap (λ (x : View). x.size) (entry_last s.views (new_view (word_at s.words 0).phase) (new_view 0) j here);
+            },
             entry_last s.calls Idle Idle j (omega arith),
           ))
           (cases_lt j (length s.views));

@@ -61,20 +61,23 @@ module _ (p : Program) (parents : List ℕ) (limit : ℕ) (driven : IsDriven p p
   not_some None e = refl
   not_some (Some x) e = not_both true refl e
 
-  standing : (xs : List JobStep) → is_some (status (reached (initial_world p parents limit) xs).limit (reached (initial_world p parents limit) xs).job) ≡ false
+  standing : (xs : List JobStep)
+      → is_some (status (reached (initial_world p parents limit) xs).limit (reached (initial_world p parents limit) xs).job) ≡ false
       → IsStanding (reached (initial_world p parents limit) xs)
   standing xs e =
       participants_are_the_live_tasks p parents limit xs
       (not_some (status limit (reached (initial_world p parents limit) xs).job)
       (ap (λ (n : ℕ). is_some (status n (reached (initial_world p parents limit) xs).job)) (sym (limited xs)) ∙ e))
 
-  pub light : (xs : List JobStep) → is_some (status (reached (initial_world p parents limit) xs).limit (reached (initial_world p parents limit) xs).job) ≡ false
+  pub light : (xs : List JobStep)
+      → is_some (status (reached (initial_world p parents limit) xs).limit (reached (initial_world p parents limit) xs).job) ≡ false
       → AreFew (reached (initial_world p parents limit) xs)
   light xs e =
       are_few p limit (reached (initial_world p parents limit) xs) driven.starts
       (run_is_of p limit (initial_world p parents limit) xs (initial_is_of p parents limit)) (standing xs e)
 
-  pub kept : (xs : List JobStep) → IsKept parents (reached (initial_world p parents limit) xs) (reached (initial_world p parents limit) xs).mode
+  pub kept : (xs : List JobStep)
+      → IsKept parents (reached (initial_world p parents limit) xs) (reached (initial_world p parents limit) xs).mode
   kept xs =
       run_kept parents (initial_world p parents limit) xs driven.tiers.few
       (λ ys. subst (λ (n : ℕ). n ≤ 2147483648) (sym (limited ys)) driven.few)
@@ -87,7 +90,8 @@ worlds_are_kept p parents limit xs driven = kept p parents limit driven xs
 
 -- Closing misses nothing.
 
-whole : (parents : List ℕ) (w : World) (worker token : ℕ) → w.mode ≡ mode.Advanced worker token → IsKept parents w w.mode → IsWhole w worker token
+whole : (parents : List ℕ) (w : World) (worker token : ℕ) → w.mode ≡ mode.Advanced worker token → IsKept parents w w.mode
+    → IsWhole w worker token
 whole parents w worker token e k =
     let t : IsKept parents w (mode.Advanced worker token) = subst (λ (m : Mode). IsKept parents w m) e k in
     let over : all_over w.participants ≡ true = t.2.1.over in
@@ -130,28 +134,36 @@ parties (s ∷ ss) e =
     spawned_long g = length-map g.spawns (λ (t : Task). t.path)
 
 -- the participants of one task at another stage live on alike
-living_same : (gs : List ParticipantValue) (place : ℕ) (stage : Stage) → living_participants (set gs place (at_stage (participant_at gs place) stage)) ≡ living_participants gs
+living_same : (gs : List ParticipantValue) (place : ℕ) (stage : Stage)
+    → living_participants (set gs place (at_stage (participant_at gs place) stage)) ≡ living_participants gs
 living_same [] place stage = refl
 living_same (g ∷ gs) zero stage = refl
-living_same (g ∷ gs) (suc place) stage = ap (λ (xs : List ParticipantValue). (own_participant g ++ map child_participant g.children) ++ xs) (living_same gs place stage)
+living_same (g ∷ gs) (suc place) stage =
+    ap (λ (xs : List ParticipantValue). (own_participant g ++ map child_participant g.children) ++ xs) (living_same gs place stage)
 
 over_delivered : (stage : Stage) → (stage ≡ Over) ⊎ (stage ≡ Leaving) → is_delivered stage ≡ true
 over_delivered stage e = ⊎_elim (λ q. ap is_delivered q) (λ q. ap is_delivered q) e
 
-counted : (parents : List ℕ) (p : Program) (limit : ℕ) (w : World) (roles : List Role) (worker place : ℕ) → IsWorking parents w roles → IsStanding w → IsOf p limit w
-    → place < length w.participants → (participant_at w.participants place).stage ≡ Leaving → may_finish w.tree (participant_at w.participants place).token ≡ true → IsCounted w
+counted : (parents : List ℕ) (p : Program) (limit : ℕ) (w : World) (roles : List Role) (worker place : ℕ) → IsWorking parents w roles
+    → IsStanding w → IsOf p limit w
+    → place < length w.participants → (participant_at w.participants place).stage ≡ Leaving
+    → may_finish w.tree (participant_at w.participants place).token ≡ true → IsCounted w
 counted parents p limit w roles worker place is stands of h at due = record {
   phase = is.phase;
   members = λ none.
       let ss : List (List ℕ × Segment) = deeds w in
-      let rising : is_rising (live_paths w.job) ≡ true = ap (λ (st : State). is_rising (live_paths st)) of.job.1 ∙ live-paths-rise p limit of.job.0 in
+      let rising : is_rising (live_paths w.job) ≡ true =
+      ap (λ (st : State). is_rising (live_paths st)) of.job.1 ∙ live-paths-rise p limit of.job.0 in
       let paths : map participant_path (living_participants w.participants) ≡ paths_on (deeds w) =
       living_paths w.program w.job.arrays w.job.step w.participants w.job.live stands.paths rising
-      (λ q l. let n = stands.noted q l (over_delivered (participant_at w.participants q).stage (all_delivered parents w roles worker place is h at due q l)) in
+      (λ q l. let n =
+      stands.noted q l
+      (over_delivered (participant_at w.participants q).stage (all_delivered parents w roles worker place is h at due q l)) in
       record { synced = n.synced; children = n.children }) in
       let a : registered (flat_of w.tree) ≡ length (living_participants w.participants) =
       members_live_on parents w roles worker place is h at due ∙ ap length (living_same w.participants place Over) in
-      let b : length (map participant_path (living_participants w.participants)) ≡ length (living_participants w.participants) = length-map (living_participants w.participants) participant_path in
+      let b : length (map participant_path (living_participants w.participants)) ≡ length (living_participants w.participants) =
+      length-map (living_participants w.participants) participant_path in
       let c : length (map participant_path (living_participants w.participants)) ≡ length (paths_on (deeds w)) = ap length paths in
       let d = parties (deeds w) none in
       omega arith;
@@ -161,7 +173,8 @@ abbrev Tells : World → ℕ → Option Move → Type 0
 Tells w worker None = Unit {0}
 Tells w worker (Some m) = (played : Played) → (done_by w worker m).0 ≡ Advanced played → IsCounted w
 
-pub not_called : {A : Type 0} (w : World) (worker place : ℕ) (tree : Tree) (a : TreeAnswer) (played : Played) → (called_by w worker place tree a).0 ≡ Advanced played → A
+pub not_called : {A : Type 0} (w : World) (worker place : ℕ) (tree : Tree) (a : TreeAnswer) (played : Played)
+    → (called_by w worker place tree a).0 ≡ Advanced played → A
 not_called w worker place tree answer.Begun played h = cc
 not_called w worker place tree (answer.Played a) played h = cc
 not_called w worker place tree answer.NotNow played h = cc
@@ -171,7 +184,8 @@ not_forced w tree answer.Begun played h = cc
 not_forced w tree (answer.Played a) played h = cc
 not_forced w tree answer.NotNow played h = cc
 
-pub not_closed : {A : Type 0} (w : World) (worker token : ℕ) (job : State) (o : Option ReportValue) (played : Played) → (closed_as w worker token job o).0 ≡ Advanced played → A
+pub not_closed : {A : Type 0} (w : World) (worker token : ℕ) (job : State) (o : Option ReportValue) (played : Played)
+    → (closed_as w worker token job o).0 ≡ Advanced played → A
 not_closed w worker token job None played h = cc
 not_closed w worker token job (Some r) played h = cc
 
@@ -179,20 +193,27 @@ module _ (parents : List ℕ) (p : Program) (limit : ℕ) (w : World) (worker : 
     (stands : is_some (status w.limit w.job) ≡ false → IsStanding w) where
   calls_tell : (place token : ℕ) (c : Call) → Tells w worker (Some (Calls place token c))
   calls_tell place token c = λ played h.
-      not_called w worker place (after (after w.tree (Begin token c)) (Go token)) (answer_to (after w.tree (Begin token c)) (Go token)) played h
+      not_called w worker place (after (after w.tree (Begin token c)) (Go token)) (answer_to (after w.tree (Begin token c)) (Go token))
+      played h
 
-  stage_tells : (roles : List Role) (place : ℕ) (due : Bool) (stage : Stage) → IsWorking parents w roles → is_some (status w.limit w.job) ≡ false
+  stage_tells : (roles : List Role) (place : ℕ) (due : Bool) (stage : Stage) → IsWorking parents w roles
+      → is_some (status w.limit w.job) ≡ false
       → place < length w.participants → (participant_at w.participants place).stage ≡ stage
-      → may_finish w.tree (participant_at w.participants place).token ≡ due → Tells w worker (by_stage (participant_at w.participants place) place due stage)
+      → may_finish w.tree (participant_at w.participants place).token ≡ due
+      → Tells w worker (by_stage (participant_at w.participants place) place due stage)
   stage_tells roles place due Waits is below h at e = tt
   stage_tells roles place due Taken is below h at e = λ played k. cc
   stage_tells roles place due Polling is below h at e = calls_tell place (participant_at w.participants place).token call.Poll
   stage_tells roles place due (Joining n) is below h at e =
-      calls_tell place (child_at (participant_at w.participants place).children n).token (call.Join (child_at (participant_at w.participants place).children n).home 1)
-  stage_tells roles place due (Arriving n) is below h at e = calls_tell place (child_at (participant_at w.participants place).children n).token call.Arrive
-  stage_tells roles place true Leaving is below h at e = λ played k. counted parents p limit w roles worker place is (stands below) of h at e
+      calls_tell place (child_at (participant_at w.participants place).children n).token
+      (call.Join (child_at (participant_at w.participants place).children n).home 1)
+  stage_tells roles place due (Arriving n) is below h at e =
+      calls_tell place (child_at (participant_at w.participants place).children n).token call.Arrive
+  stage_tells roles place true Leaving is below h at e =
+      λ played k. counted parents p limit w roles worker place is (stands below) of h at e
   stage_tells roles place false Leaving is below h at e =
-      calls_tell place (participant_at w.participants place).token (if (participant_at w.participants place).synced then call.Arrive else call.Leave)
+      calls_tell place (participant_at w.participants place).token
+      (if (participant_at w.participants place).synced then call.Arrive else call.Leave)
   stage_tells roles place due Over is below h at e = tt
 
   taking_tells : (b c : Bool) → Tells w worker (if b then Some (Takes w.taken) else (if c then Some (Closes 0) else None))
@@ -209,7 +230,9 @@ module _ (parents : List ℕ) (p : Program) (limit : ℕ) (w : World) (worker : 
           (λ q. let l = ltb-true place (length w.participants) e in let z = q.1 in absurd (omega arith))
           (λ q. stage_tells q.1.0 place _ (participant_at w.participants place).stage q.1.1 q.0 (ltb-true place (length w.participants) e) refl refl)
           k
-      by false e = subst (λ (g : ParticipantValue). Tells w worker (by_participant w g place)) (sym (no_participant_beyond w.participants place (ltb-false place (length w.participants) e))) tt
+      by false e =
+          subst (λ (g : ParticipantValue). Tells w worker (by_participant w g place))
+          (sym (no_participant_beyond w.participants place (ltb-false place (length w.participants) e))) tt
 
   mode_tells : (m : Mode) → IsKept parents w m → Tells w worker (by_mode w worker m)
   mode_tells mode.Runs k = hand_tells (slice_index_or w.hands worker None) k
@@ -222,11 +245,13 @@ module _ (parents : List ℕ) (p : Program) (limit : ℕ) (w : World) (worker : 
     where
       by : (b : Bool) → Tells w worker (if b then Some (Ends token) else None)
       by true = λ played h.
-          not_forced w (after (after w.tree (Begin token call.Force)) (Go token)) (answer_to (after w.tree (Begin token call.Force)) (Go token)) played h
+          not_forced w (after (after w.tree (Begin token call.Force)) (Go token))
+          (answer_to (after w.tree (Begin token call.Force)) (Go token)) played h
       by false = tt
   mode_tells mode.Over k = tt
 
-  step_tells : (x : JobStep) (played : Played) → worker ≡ worker_of x → IsKept parents w w.mode → answer_of w x ≡ Advanced played → IsCounted w
+  step_tells : (x : JobStep) (played : Played) → worker ≡ worker_of x → IsKept parents w w.mode → answer_of w x ≡ Advanced played
+      → IsCounted w
   step_tells x played mine k h =
       by (move_of w worker) (moves (nat_lt worker 64)) (ap (λ (n : ℕ). (if_asked w x (move_of w n)).0) mine ∙ h)
     where
@@ -234,13 +259,16 @@ module _ (parents : List ℕ) (p : Program) (limit : ℕ) (w : World) (worker : 
       moves true = mode_tells w.mode k
       moves false = tt
 
-      if_so : (m : Move) (b : Bool) → Tells w worker (Some m) → (if b then done_by w worker m else (NotNow, w)).0 ≡ Advanced played → IsCounted w
+      if_so : (m : Move) (b : Bool) → Tells w worker (Some m) → (if b then done_by w worker m else (NotNow, w)).0 ≡ Advanced played
+          → IsCounted w
       if_so m true t e = t played e
       if_so m false t e = cc
 
       by : (o : Option Move) → Tells w worker o → (if_asked w x o).0 ≡ Advanced played → IsCounted w
       by None t e = cc
-      by (Some m) t e = if_so m (kind_of x == kind_for m) t (ap (λ (n : ℕ). (if (kind_of x == kind_for m) then done_by w n m else (NotNow, w)).0) mine ∙ e)
+      by (Some m) t e =
+          if_so m (kind_of x == kind_for m) t
+          (ap (λ (n : ℕ). (if (kind_of x == kind_for m) then done_by w n m else (NotNow, w)).0) mine ∙ e)
 
 pub advances_are_counted : AdvancesAreCounted
 advances_are_counted p parents limit xs x played driven h =

@@ -28,7 +28,8 @@ use Rattle.schedule_laws.proofs.Moving.{is_ready, was_taken, Works}
 same_tree : (t : Tree) → IsSameTree t t
 same_tree t = record { parents = refl; plan = refl; tokens = refl }
 
-pub taking_works : (parents : List ℕ) (w : World) (roles : List Role) (worker : ℕ) → IsWorking parents w roles → w.taken < length w.participants
+pub taking_works : (parents : List ℕ) (w : World) (roles : List Role) (worker : ℕ) → IsWorking parents w roles
+    → w.taken < length w.participants
     → IsWorking parents (done_by w worker (Takes w.taken)).1 roles
 taking_works parents w roles worker is h =
     let place : ℕ = w.taken in
@@ -36,7 +37,8 @@ taking_works parents w roles worker is h =
     let at : g.stage ≡ Waits = is.waits w.taken (omega arith) h in
     let sits : SitsAt Waits roles (length parents) g.token g.home g.children g.synced =
     subst (λ (s : Stage). SitsAt s roles (length parents) g.token g.home g.children g.synced) at (is.sits w.taken h) in
-    turn_works parents w roles roles w.taken (participant_at w.participants w.taken).token (suc w.taken) (at_stage (participant_at w.participants w.taken) Taken) w.tree
+    turn_works parents w roles roles w.taken (participant_at w.participants w.taken).token (suc w.taken)
+    (at_stage (participant_at w.participants w.taken) Taken) w.tree
     (set w.hands worker (Some w.taken)) is h (λ q l. (λ e. absurd (omega arith), omega arith))
     (record {
       mine = own_in (participant_at w.participants w.taken);
@@ -51,7 +53,8 @@ no_children [] h = refl
 no_children (k ∷ ks) h = absurd (h 0 (omega arith))
 
 -- the segment is known: no token yet for what it has spawned
-noted_works : (parents : List ℕ) (w : World) (roles : List Role) (place : ℕ) (synced : Bool) → IsWorking parents w roles → place < length w.participants
+noted_works : (parents : List ℕ) (w : World) (roles : List Role) (place : ℕ) (synced : Bool) → IsWorking parents w roles
+    → place < length w.participants
     → (participant_at w.participants place).stage ≡ Taken → IsWorking parents (noted w place synced) roles
 noted_works parents w roles place synced is h at =
     let g : ParticipantValue = participant_at w.participants place in
@@ -60,7 +63,8 @@ noted_works parents w roles place synced is h at =
     let none : g.children ≡ [] = no_children g.children sits.each in
     let taken = was_taken parents w roles place is h (ap is_ready at) in
     turn_works parents w roles roles place (participant_at w.participants place).token w.taken
-    (record (at_stage (participant_at w.participants place) Polling) { synced = synced; children = [] }) w.tree w.hands is h (λ q l. (λ e. absurd (omega arith), l))
+    (record (at_stage (participant_at w.participants place) Polling) { synced = synced; children = [] }) w.tree w.hands is h
+    (λ q l. (λ e. absurd (omega arith), l))
     (record {
       mine = own_in (participant_at w.participants place);
       same = λ j n. refl;
@@ -86,7 +90,8 @@ leaf_within [] i n a h = h
 leaf_within (l ∷ ls) zero n a h = a.0
 leaf_within (l ∷ ls) (suc i) n a h = leaf_within ls i n a.1 h
 
-pub sum_set_more : {X : Type 0} (f : X → ℕ) (xs : List X) (p m : ℕ) (y d : X) → p < length xs → f y ≡ f (get_or xs p d) + m → sum_by f (set xs p y) ≡ sum_by f xs + m
+pub sum_set_more : {X : Type 0} (f : X → ℕ) (xs : List X) (p m : ℕ) (y d : X) → p < length xs → f y ≡ f (get_or xs p d) + m
+    → sum_by f (set xs p y) ≡ sum_by f xs + m
 sum_set_more f [] p m y d h e = absurd (omega arith)
 sum_set_more f (x ∷ xs) zero m y d h e = let a = sum_by-cons f x xs in let b = sum_by-cons f y xs in omega arith
 sum_set_more f (x ∷ xs) (suc p) m y d h e =
@@ -98,7 +103,8 @@ module _ (parents : List ℕ) (w : World) (roles : List Role) (place : ℕ) (is 
   some : 0 < length parents
   some = let a = is.cast.core.shape.some in let b : length w.tree.parents ≡ length parents = ap length is.built.shape in omega arith
 
-  mine : SitsAt Polling roles (length parents) (participant_at w.participants place).token (participant_at w.participants place).home (participant_at w.participants place).children (participant_at w.participants place).synced
+  mine : SitsAt Polling roles (length parents) (participant_at w.participants place).token (participant_at w.participants place).home
+      (participant_at w.participants place).children (participant_at w.participants place).synced
   mine =
       let g : ParticipantValue = participant_at w.participants place in
       subst (λ (s : Stage). SitsAt s roles (length parents) g.token g.home g.children g.synced) at (is.sits place h)
@@ -115,9 +121,11 @@ module _ (parents : List ℕ) (w : World) (roles : List Role) (place : ℕ) (is 
         own = ⊎_elim (λ e. inl (same g.token ∙ e)) (λ e. inr (same g.token ∙ e)) mine.own;
         each = λ k l. ⊎_elim
             (λ (q : k < length g.children).
-            subst (λ (x : ChildValue). role_at roles' x.token ≡ Out) (sym (entry_before g.children child no_child k q)) (same (child_at g.children k).token ∙ mine.each k q))
+            subst (λ (x : ChildValue). role_at roles' x.token ≡ Out) (sym (entry_before g.children child no_child k q))
+            (same (child_at g.children k).token ∙ mine.each k q))
             (λ (q : length g.children ≤ k).
-            subst (λ (x : ChildValue). role_at roles' x.token ≡ Out) (sym (entry_last g.children child no_child k (omega arith))) (same token ∙ out))
+            subst (λ (x : ChildValue). role_at roles' x.token ≡ Out) (sym (entry_last g.children child no_child k (omega arith)))
+            (same token ∙ out))
             (cases_lt k (length g.children));
         turn = tt;
         homes = λ k l. ⊎_elim
@@ -130,22 +138,29 @@ module _ (parents : List ℕ) (w : World) (roles : List Role) (place : ℕ) (is 
       })
 
   child_count : (path : List ℕ) (token : ℕ) (measure : ℕ → ℕ)
-      → of_participant measure (with_child (participant_at w.participants place) w.leaves path token) ≡ of_participant measure (participant_at w.participants place) + measure token
+      → of_participant measure (with_child (participant_at w.participants place) w.leaves path token)
+      ≡ of_participant measure (participant_at w.participants place) + measure token
   child_count path token measure =
       let g : ParticipantValue = participant_at w.participants place in
-      let a = sum_by_push (λ (k : ChildValue). measure k.token) g.children (record { path = path; token = token; home = preferred w.leaves g.home path }) in omega arith
+      let a =
+      sum_by_push (λ (k : ChildValue). measure k.token) g.children
+      (record { path = path; token = token; home = preferred w.leaves g.home path }) in
+      omega arith
 
   all_sit : (roles' : List Role) (path : List ℕ) (token : ℕ) → ((t : ℕ) → role_at roles' t ≡ role_at roles t) → role_at roles token ≡ Out
       → (q : ℕ) → q < length (set w.participants place (with_child (participant_at w.participants place) w.leaves path token))
-      → Sits roles' (length parents) (participant_at (set w.participants place (with_child (participant_at w.participants place) w.leaves path token)) q)
+      → Sits roles' (length parents)
+      (participant_at (set w.participants place (with_child (participant_at w.participants place) w.leaves path token)) q)
   all_sit roles' path token same out q l =
       let g' : ParticipantValue = with_child (participant_at w.participants place) w.leaves path token in
-      let len : length (set w.participants place g') ≡ length w.participants = length-set w.participants place (with_child (participant_at w.participants place) w.leaves path token) in
+      let len : length (set w.participants place g') ≡ length w.participants =
+      length-set w.participants place (with_child (participant_at w.participants place) w.leaves path token) in
       ⊎_elim
       (λ (e : q ≡ place).
       subst (λ (x : ParticipantValue). Sits roles' (length parents) x)
       (sym (ap (participant_at (set w.participants place (with_child (participant_at w.participants place) w.leaves path token))) e
-      ∙ get_or-set_same w.participants place (with_child (participant_at w.participants place) w.leaves path token) no_participant h)) (child_sits roles' path token same out))
+      ∙ get_or-set_same w.participants place (with_child (participant_at w.participants place) w.leaves path token) no_participant h))
+      (child_sits roles' path token same out))
       (λ (o : q ≢ place).
       let x : ParticipantValue = participant_at w.participants q in
       subst (λ (y : ParticipantValue). Sits roles' (length parents) y)
@@ -153,12 +168,14 @@ module _ (parents : List ℕ) (w : World) (roles : List Role) (place : ℕ) (is 
       (sits_stay x.stage roles roles' (length parents) x.token x.home x.children x.synced (same x.token) (λ k d. same (child_at x.children k).token) (is.sits q (omega arith))))
       (cases_eq q place)
 
-  waits_still : (path : List ℕ) (token q : ℕ) → w.taken ≤ q → q < length (set w.participants place (with_child (participant_at w.participants place) w.leaves path token))
+  waits_still : (path : List ℕ) (token q : ℕ) → w.taken ≤ q
+      → q < length (set w.participants place (with_child (participant_at w.participants place) w.leaves path token))
       → (participant_at (set w.participants place (with_child (participant_at w.participants place) w.leaves path token)) q).stage ≡ Waits
   waits_still path token q a b =
       let len = length-set w.participants place (with_child (participant_at w.participants place) w.leaves path token) in
       let taken = was_taken parents w roles place is h (ap is_ready at) in
-      ap (λ (x : ParticipantValue). x.stage) (get_or-set_other w.participants place q (with_child (participant_at w.participants place) w.leaves path token) no_participant (λ e. absurd (omega arith)))
+      ap (λ (x : ParticipantValue). x.stage)
+      (get_or-set_other w.participants place q (with_child (participant_at w.participants place) w.leaves path token) no_participant (λ e. absurd (omega arith)))
       ∙ is.waits q a (omega arith)
 
   -- a new token, or a free one
@@ -175,7 +192,9 @@ module _ (parents : List ℕ) (w : World) (roles : List Role) (place : ℕ) (is 
           sits = all_sit (roles ++ Out ∷ []) path (length w.tree.views) (out_last roles) out;
           shared = λ measure.
               let a = is.shared measure in
-              let b = sum_set_more (of_participant measure) w.participants place (measure n) (with_child (participant_at w.participants place) w.leaves path (length w.tree.views)) no_participant h
+              let b =
+              sum_set_more (of_participant measure) w.participants place (measure n)
+              (with_child (participant_at w.participants place) w.leaves path (length w.tree.views)) no_participant h
               (child_count path (length w.tree.views) measure) in
               let one : length w.tree.views + 1 ≡ suc (length w.tree.views) = omega arith in
               let c : of_all (length (with_token w.tree).views) measure ≡ of_all (length w.tree.views) measure + measure n =
@@ -190,7 +209,8 @@ module _ (parents : List ℕ) (w : World) (roles : List Role) (place : ℕ) (is 
       still [] a = tt
       still (t ∷ ts) a = (out_last roles t ∙ a.0, still ts a.1)
   child_works path (token ∷ free) e =
-      let outs : AllByRecursion (λ t. role_at roles t ≡ Out) (token ∷ free) = subst (λ (ts : List ℕ). AllByRecursion (λ t. role_at roles t ≡ Out) ts) e is.free in (
+      let outs : AllByRecursion (λ t. role_at roles t ≡ Out) (token ∷ free) =
+      subst (λ (ts : List ℕ). AllByRecursion (λ t. role_at roles t ≡ Out) ts) e is.free in (
         roles,
         record {
           built = record { shape = is.built.shape; plan = is.built.plan; leaves = is.built.leaves };
@@ -199,7 +219,9 @@ module _ (parents : List ℕ) (w : World) (roles : List Role) (place : ℕ) (is 
           sits = all_sit roles path token (λ t. refl) outs.0;
           shared = λ measure.
               let a = is.shared measure in
-              let b = sum_set_more (of_participant measure) w.participants place (measure token) (with_child (participant_at w.participants place) w.leaves path token) no_participant h (child_count path token measure) in
+              let b =
+              sum_set_more (of_participant measure) w.participants place (measure token)
+              (with_child (participant_at w.participants place) w.leaves path token) no_participant h (child_count path token measure) in
               let c : sum_by measure w.free ≡ sum_by measure (token ∷ free) = ap (sum_by measure) e in
               let d = sum_by-cons measure token free in
               omega arith;
@@ -209,21 +231,30 @@ module _ (parents : List ℕ) (w : World) (roles : List Role) (place : ℕ) (is 
       )
 
   -- the participant stays at its stage
-  child_stays : (path free : List ℕ) → (place < length (child_from w place path free).participants) × ((participant_at (child_from w place path free).participants place).stage ≡ Polling)
+  child_stays : (path free : List ℕ)
+      → (place < length (child_from w place path free).participants)
+      × ((participant_at (child_from w place path free).participants place).stage ≡ Polling)
   child_stays path [] = set_stays path (length w.tree.views)
     where
-      set_stays : (path : List ℕ) (token : ℕ) → (place < length (set w.participants place (with_child (participant_at w.participants place) w.leaves path token)))
-          × ((participant_at (set w.participants place (with_child (participant_at w.participants place) w.leaves path token)) place).stage ≡ Polling)
+      set_stays : (path : List ℕ) (token : ℕ)
+          → (place < length (set w.participants place (with_child (participant_at w.participants place) w.leaves path token)))
+          × ((participant_at (set w.participants place (with_child (participant_at w.participants place) w.leaves path token)) place).stage
+          ≡ Polling)
       set_stays path token = (
         (let len = length-set w.participants place (with_child (participant_at w.participants place) w.leaves path token) in omega arith),
-        ap (λ (x : ParticipantValue). x.stage) (get_or-set_same w.participants place (with_child (participant_at w.participants place) w.leaves path token) no_participant h) ∙ at,
+        ap (λ (x : ParticipantValue). x.stage)
+            (get_or-set_same w.participants place (with_child (participant_at w.participants place) w.leaves path token) no_participant h)
+            ∙ at,
       )
   child_stays path (token ∷ free) = (
     (let len = length-set w.participants place (with_child (participant_at w.participants place) w.leaves path token) in omega arith),
-    ap (λ (x : ParticipantValue). x.stage) (get_or-set_same w.participants place (with_child (participant_at w.participants place) w.leaves path token) no_participant h) ∙ at,
+    ap (λ (x : ParticipantValue). x.stage)
+        (get_or-set_same w.participants place (with_child (participant_at w.participants place) w.leaves path token) no_participant h)
+        ∙ at,
   )
 
-children_work : (parents : List ℕ) (w : World) (place : ℕ) (paths : List (List ℕ)) → Works parents w → place < length w.participants → (participant_at w.participants place).stage ≡ Polling
+children_work : (parents : List ℕ) (w : World) (place : ℕ) (paths : List (List ℕ)) → Works parents w → place < length w.participants
+    → (participant_at w.participants place).stage ≡ Polling
     → Works parents (with_children w place paths)
 children_work parents w place [] is h at = is
 children_work parents w place (path ∷ paths) is h at =
@@ -231,14 +262,25 @@ children_work parents w place (path ∷ paths) is h at =
     let stays = child_stays parents w is.0 place is.1 h at path w.free in
     children_work parents (child_from w place path w.free) place paths one stays.0 stays.1
 
-pub delivering_works : (parents : List ℕ) (w : World) (roles : List Role) (worker place : ℕ) → IsWorking parents w roles → place < length w.participants
+pub delivering_works : (parents : List ℕ) (w : World) (roles : List Role) (worker place : ℕ) → IsWorking parents w roles
+    → place < length w.participants
     → (participant_at w.participants place).stage ≡ Taken → Works parents (done_by w worker (Delivers place)).1
 delivering_works parents w roles worker place is h at =
     let s : Segment = deed_of w (participant_at w.participants place).path in
     let synced : Bool = has_synced (deed_of w (participant_at w.participants place).path) in
-    let g' : ParticipantValue = record (at_stage (participant_at w.participants place) Polling) { synced = has_synced (deed_of w (participant_at w.participants place).path); children = [] } in
-    children_work parents (noted w place (has_synced (deed_of w (participant_at w.participants place).path))) place (spawned_paths (deed_of w (participant_at w.participants place).path))
+    let g' : ParticipantValue =
+    record (at_stage (participant_at w.participants place) Polling) {
+      synced =
+          has_synced (deed_of w (participant_at w.participants place).path);
+      children = [];
+    } in
+    children_work parents (noted w place (has_synced (deed_of w (participant_at w.participants place).path))) place
+    (spawned_paths (deed_of w (participant_at w.participants place).path))
     (roles, noted_works parents w roles place (has_synced (deed_of w (participant_at w.participants place).path)) is h at)
-    (let len = length-set w.participants place (record (at_stage (participant_at w.participants place) Polling) { synced = has_synced (deed_of w (participant_at w.participants place).path); children = [] }) in omega arith)
+    (let len =
+    length-set w.participants place
+    (record (at_stage (participant_at w.participants place) Polling) { synced = has_synced (deed_of w (participant_at w.participants place).path); children = [] }) in
+    omega arith)
     (ap (λ (x : ParticipantValue). x.stage) (get_or-set_same w.participants place
-    (record (at_stage (participant_at w.participants place) Polling) { synced = has_synced (deed_of w (participant_at w.participants place).path); children = [] }) no_participant h))
+    (record (at_stage (participant_at w.participants place) Polling) { synced = has_synced (deed_of w (participant_at w.participants place).path); children = [] })
+    no_participant h))

@@ -51,11 +51,13 @@ live_few : (p : Program) (limit n : ℕ) → length p.starts ≤ 4096 → length
 live_few p limit zero h = let a = starts_long p.plans 0 p.starts in omega arith
 live_few p limit (suc n) h = by (status limit (so_far p limit n)) (live_few p limit n h)
   where
-    by : (o : Option Status) → length (so_far p limit n).live ≤ 4096 → length (unless_ended o (so_far p limit n) (superstep p (so_far p limit n))).live ≤ 4096
+    by : (o : Option Status) → length (so_far p limit n).live ≤ 4096
+        → length (unless_ended o (so_far p limit n) (superstep p (so_far p limit n))).live ≤ 4096
     by (Some s) k = k
     by None k = step_few p (so_far p limit n) k
 
-deed_few : (p : Program) (arrays : List (List ℕ × List ℤ)) (step : ℕ) (ts : List Task) (path : List ℕ) → length (deed_in (segments p arrays step ts) path).spawns ≤ 8
+deed_few : (p : Program) (arrays : List (List ℕ × List ℤ)) (step : ℕ) (ts : List Task) (path : List ℕ)
+    → length (deed_in (segments p arrays step ts) path).spawns ≤ 8
 deed_few p arrays step [] path = omega arith
 deed_few p arrays step (t ∷ ts) path = by (bytes_eq t.path path) (deed_few p arrays step ts path)
   where
@@ -78,7 +80,8 @@ are_few p limit w h of stands = record {
       let g : ParticipantValue = participant_at w.participants q in
       let s : Segment = deed_of w (participant_at w.participants q).path in
       let a : length (map child_path g.children) ≡ length g.children = length-map g.children child_path in
-      let b : length (spawned_paths s) ≡ length s.spawns = length-map (deed_of w (participant_at w.participants q).path).spawns (λ (t : Task). t.path) in
+      let b : length (spawned_paths s) ≡ length s.spawns =
+      length-map (deed_of w (participant_at w.participants q).path).spawns (λ (t : Task). t.path) in
       let c : length (map child_path g.children) ≡ length (spawned_paths s) = ap length n.children in
       let e = deed_few w.program w.job.arrays w.job.step w.job.live (participant_at w.participants q).path in
       omega arith;

@@ -24,22 +24,27 @@ use Rattle.schedule_laws.proofs.Claiming.{not_called, not_forced, not_closed, cl
 abbrev IsAdvanced : ℕ → World → Type 0
 IsAdvanced worker v = (token : ℕ) × (v.mode ≡ mode.Advanced worker token)
 
-advanced_is : (w : World) (worker place : ℕ) (tree : Tree) (a : TreeAnswer) (played : Played) → (advanced_by w worker place tree a).0 ≡ Advanced played
+advanced_is : (w : World) (worker place : ℕ) (tree : Tree) (a : TreeAnswer) (played : Played)
+    → (advanced_by w worker place tree a).0 ≡ Advanced played
     → IsAdvanced worker (advanced_by w worker place tree a).1
 advanced_is w worker place tree answer.Begun played h = cc
 advanced_is w worker place tree (answer.Played a) played h = ((participant_at w.participants place).token, refl)
 advanced_is w worker place tree answer.NotNow played h = cc
 
-move_advances : (w : World) (worker : ℕ) (m : Move) (played : Played) → (done_by w worker m).0 ≡ Advanced played → IsAdvanced worker (done_by w worker m).1
+move_advances : (w : World) (worker : ℕ) (m : Move) (played : Played) → (done_by w worker m).0 ≡ Advanced played
+    → IsAdvanced worker (done_by w worker m).1
 move_advances w worker (Takes place) played h = cc
 move_advances w worker (Delivers place) played h = cc
 move_advances w worker (Calls place token c) played h =
-    not_called w worker place (after (after w.tree (Begin token c)) (Go token)) (answer_to (after w.tree (Begin token c)) (Go token)) played h
+    not_called w worker place (after (after w.tree (Begin token c)) (Go token)) (answer_to (after w.tree (Begin token c)) (Go token)) played
+    h
 move_advances w worker (Advances place) played h =
-    advanced_is w worker place (after w.tree (Finish (participant_at w.participants place).token)) (answer_to w.tree (Finish (participant_at w.participants place).token)) played h
+    advanced_is w worker place (after w.tree (Finish (participant_at w.participants place).token))
+    (answer_to w.tree (Finish (participant_at w.participants place).token)) played h
 move_advances w worker (Closes token) played h = not_closed w worker token (next_job w) (report_in w.limit (next_job w)) played h
 move_advances w worker (Ends token) played h =
-    not_forced w (after (after w.tree (Begin token call.Force)) (Go token)) (answer_to (after w.tree (Begin token call.Force)) (Go token)) played h
+    not_forced w (after (after w.tree (Begin token call.Force)) (Go token)) (answer_to (after w.tree (Begin token call.Force)) (Go token))
+    played h
 
 step_advances : (w : World) (x : JobStep) (played : Played) → answer_of w x ≡ Advanced played → IsAdvanced (worker_of x) (world_after w x)
 step_advances w x played h = by (move_of w (worker_of x)) h
@@ -54,7 +59,8 @@ step_advances w x played h = by (move_of w (worker_of x)) h
     by (Some m) k = if_so m (kind_of x == kind_for m) k
 
 -- a close that is its worker's move is answered
-pub closed_answer : {A : Type 0} (w : World) (worker token : ℕ) (o : Option ReportValue) → (closed_as w worker token (next_job w) o).0 ≡ NotNow → A
+pub closed_answer : {A : Type 0} (w : World) (worker token : ℕ) (o : Option ReportValue)
+    → (closed_as w worker token (next_job w) o).0 ≡ NotNow → A
 closed_answer w worker token None h = cc
 closed_answer w worker token (Some r) h = cc
 
@@ -72,4 +78,5 @@ closes_follow_advances p parents limit xs x played driven h =
     let last = reached_last (initial_world p parents limit) xs x in
     let is = step_advances (reached (initial_world p parents limit) xs) x played h in
     let whole = closing_misses_nothing p parents limit (xs ++ x ∷ []) (worker_of x) is.0 driven (ap (λ (v : World). v.mode) last ∙ is.1) in
-    close_answers (world_after w x) (worker_of x) is.0 (subst (λ (v : World). move_of v (worker_of x) ≡ Some (Closes is.0)) last whole.closes)
+    close_answers (world_after w x) (worker_of x) is.0
+    (subst (λ (v : World). move_of v (worker_of x) ≡ Some (Closes is.0)) last whole.closes)

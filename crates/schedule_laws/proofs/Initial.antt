@@ -95,7 +95,8 @@ record IsStarting (parents : List ℕ) (w : World) : Type 0 where
   free : w.free ≡ []
   taken : w.taken ≡ 0
 
-one_starts : (parents : List ℕ) (w : World) (path : List ℕ) → IsTiers parents → IsStarting parents w → length w.participants < 4096 → IsStarting parents (with_start w path)
+one_starts : (parents : List ℕ) (w : World) (path : List ℕ) → IsTiers parents → IsStarting parents w → length w.participants < 4096
+    → IsStarting parents (with_start w path)
 one_starts parents w path tiers is few =
     let n : ℕ = length w.tree.views in
     let home : ℕ = leaf_at w.leaves (length w.participants) in
@@ -108,13 +109,15 @@ one_starts parents w path tiers is few =
     let at : view_at s.views n ≡ new_view (word_at w.tree.words 0).phase =
     entry_last w.tree.views (new_view (word_at w.tree.words 0).phase) (new_view 0) (length w.tree.views) refl in
     let some : 0 < length parents = tiers.shape.some in
-    let tier : home < length parents = leaf_within w.leaves (length w.participants % length w.leaves) (length parents) is.built.leaves some in
+    let tier : home < length parents =
+    leaf_within w.leaves (length w.participants % length w.leaves) (length parents) is.built.leaves some in
     let same : length s.parents ≡ length parents = ap length is.built.shape in
     let capacity : sum_by (λ (v : View). v.size) s.views ≡ sum_by (λ (v : View). v.size) w.tree.views + 0 =
     sum_by_push (λ (v : View). v.size) w.tree.views (new_view (word_at w.tree.words 0).phase) in
     let e1 = is.sizes in let e2 = tiers.few in
     let joined : IsJoined s (run_of (join_alone n home 1) s) n home 1 (moments n (join_alone n home 1) s (flat_of s) []) =
-    joins_are_done_alone s n home 1 (subst IsTiers (sym is.built.shape) tiers) core fresh (omega arith) (ap (λ (v : View). v.size) at) (omega arith) (omega arith) (omega arith) in
+    joins_are_done_alone s n home 1 (subst IsTiers (sym is.built.shape) tiers) core fresh (omega arith) (ap (λ (v : View). v.size) at)
+    (omega arith) (omega arith) (omega arith) in
     let last : Tree = run_of (join_alone n home 1) s in
     let long' : length last.views ≡ length w.tree.views + 1 = joined.tokens ∙ many in
     let rests : call_at last.calls n ≡ Idle = joined.fresh.idle n (omega arith) in
@@ -127,13 +130,16 @@ one_starts parents w path tiers is few =
     let kept = gone_same 16 n begun in
     let start = one_step s (Begin n (call.Join home 1)) in
     let g : ParticipantValue = waiting path n home in
-    let participants' : List ParticipantValue = w.participants ++ waiting path (length w.tree.views) (leaf_at w.leaves (length w.participants)) ∷ [] in
-    let l1 : length participants' ≡ length w.participants + 1 = length-append w.participants (waiting path (length w.tree.views) (leaf_at w.leaves (length w.participants)) ∷ []) in
+    let participants' : List ParticipantValue =
+    w.participants ++ waiting path (length w.tree.views) (leaf_at w.leaves (length w.participants)) ∷ [] in
+    let l1 : length participants' ≡ length w.participants + 1 =
+    length-append w.participants (waiting path (length w.tree.views) (leaf_at w.leaves (length w.participants)) ∷ []) in
     let l2 = is.long in
     let views : length new.views ≡ length w.tree.views + 1 = ap (λ (t : Tree). length t.views) there ∙ long' in
     let now : (flat_of s).phase ≡ 0 = is.phase in
     record {
-      built = record { shape = kept.0 ∙ start.parents ∙ is.built.shape; plan = kept.1 ∙ start.plan ∙ is.built.plan; leaves = is.built.leaves };
+      built =
+          record { shape = kept.0 ∙ start.parents ∙ is.built.shape; plan = kept.1 ∙ start.plan ∙ is.built.plan; leaves = is.built.leaves };
       core = subst IsCore (sym there) joined.core;
       fresh = subst IsFresh (sym there) joined.fresh;
       phase = ap (λ (t : Tree). (flat_of t).phase) there ∙ joined.phase ∙ now;
@@ -155,7 +161,8 @@ one_starts parents w path tiers is few =
           let f : j ≡ length w.tree.views = omega arith in (
             path,
             home,
-            entry_last w.participants g no_participant j e ∙ ap (λ (m : ℕ). waiting path m (leaf_at w.leaves (length w.participants))) (sym f),
+            entry_last w.participants g no_participant j e
+                ∙ ap (λ (m : ℕ). waiting path m (leaf_at w.leaves (length w.participants))) (sym f),
             subst (λ (m : ℕ). IsPlaced home 1 0 (view_at new.views m)) (sym f)
                 (subst (λ (t : Tree). IsPlaced home 1 0 (view_at t.views n)) (sym there)
                 (subst (λ (p : ℕ). IsPlaced home 1 p (view_at last.views n)) now joined.placed)),
@@ -163,11 +170,13 @@ one_starts parents w path tiers is few =
           (cases_lt j (length w.participants));
       sizes =
           let a = joined.sizes in
-          let b : sum_by (λ (v : View). v.size) new.views ≡ sum_by (λ (v : View). v.size) last.views = ap (λ (t : Tree). sum_by (λ (v : View). v.size) t.views) there in
+          let b : sum_by (λ (v : View). v.size) new.views ≡ sum_by (λ (v : View). v.size) last.views =
+          ap (λ (t : Tree). sum_by (λ (v : View). v.size) t.views) there in
           omega arith;
       shared = λ m.
           let a = is.shared m in
-          let b = sum_by_push (of_participant m) w.participants (waiting path (length w.tree.views) (leaf_at w.leaves (length w.participants))) in
+          let b =
+          sum_by_push (of_participant m) w.participants (waiting path (length w.tree.views) (leaf_at w.leaves (length w.participants))) in
           let one : length w.tree.views + 1 ≡ suc (length w.tree.views) = omega arith in
           let c : of_all (length new.views) m ≡ of_all (length w.tree.views) m + m n = ap (λ (k : ℕ). of_all k m) (views ∙ one) in
           omega arith;
@@ -175,7 +184,8 @@ one_starts parents w path tiers is few =
       taken = is.taken;
     }
 
-all_start : (parents : List ℕ) (w : World) (paths : List (List ℕ)) → IsTiers parents → IsStarting parents w → length w.participants + length paths ≤ 4096
+all_start : (parents : List ℕ) (w : World) (paths : List (List ℕ)) → IsTiers parents → IsStarting parents w
+    → length w.participants + length paths ≤ 4096
     → IsStarting parents (with_starts w paths)
 all_start parents w [] tiers is few = is
 all_start parents w (path ∷ paths) tiers is few =
@@ -183,12 +193,14 @@ all_start parents w (path ∷ paths) tiers is few =
     all_start parents (with_start w path) paths tiers (one_starts parents w path tiers is (omega arith)) (omega arith)
 
 -- what starts works
-late_at : (gs : List ParticipantValue) (j : ℕ) → j < length gs → role_at (map (λ (g : ParticipantValue). Late g.home) gs) j ≡ Late (participant_at gs j).home
+late_at : (gs : List ParticipantValue) (j : ℕ) → j < length gs
+    → role_at (map (λ (g : ParticipantValue). Late g.home) gs) j ≡ Late (participant_at gs j).home
 late_at [] j h = absurd (omega arith)
 late_at (g ∷ gs) zero h = refl
 late_at (g ∷ gs) (suc j) h = late_at gs j (omega arith)
 
-start_works : (parents : List ℕ) (w : World) → IsStarting parents w → w.job.step ≡ 0 → IsWorking parents w (map (λ (g : ParticipantValue). Late g.home) w.participants)
+start_works : (parents : List ℕ) (w : World) → IsStarting parents w → w.job.step ≡ 0
+    → IsWorking parents w (map (λ (g : ParticipantValue). Late g.home) w.participants)
 start_works parents w is first =
     let roles : List Role = map (λ (g : ParticipantValue). Late g.home) w.participants in
     let l1 : length roles ≡ length w.participants = length-map w.participants (λ (g : ParticipantValue). Late g.home) in
@@ -233,7 +245,9 @@ starts_long plans number (s ∷ ss) = ap suc (starts_long plans (suc number) ss)
 participants_long : (w : World) (paths : List (List ℕ)) → length (with_starts w paths).participants ≡ length w.participants + length paths
 participants_long w [] = omega arith
 participants_long w (path ∷ paths) =
-    let a = participants_long (with_start w path) paths in let b : length (with_start w path).participants ≡ length w.participants + 1 = length-append w.participants _ in omega arith
+    let a = participants_long (with_start w path) paths in
+    let b : length (with_start w path).participants ≡ length w.participants + 1 = length-append w.participants _ in
+    omega arith
 
 starts_same : (w : World) (paths : List (List ℕ)) → IsSame w (with_starts w paths)
 starts_same w [] = record { mode = refl; limit = refl; job = refl }
@@ -242,7 +256,8 @@ starts_same w (path ∷ paths) = let k = starts_same (with_start w path) paths i
 pub initial_kept : (p : Program) (parents : List ℕ) (limit : ℕ) → IsDriven p parents limit
     → IsKept parents (initial_world p parents limit) (initial_world p parents limit).mode
 initial_kept p parents limit driven =
-    subst (λ m. IsKept parents (initial_world p parents limit) m) (sym (starts_same (empty_world p parents limit) (live_paths (initial p))).mode)
+    subst (λ m. IsKept parents (initial_world p parents limit) m)
+    (sym (starts_same (empty_world p parents limit) (live_paths (initial p))).mode)
     (by (initial p).live refl)
   where
     w : World

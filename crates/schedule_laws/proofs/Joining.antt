@@ -43,7 +43,8 @@ joins_go s i home core going root p =
     )
 
 -- one member at its tier, unarrived, in no call
-pub placed : (s : State) (i home : ℕ) → IsCore s → i < length s.views → RootStays s (after s (Go i)) → (view_then s i).tier ≡ home → (view_then s i).size ≡ 1
+pub placed : (s : State) (i home : ℕ) → IsCore s → i < length s.views → RootStays s (after s (Go i)) → (view_then s i).tier ≡ home
+    → (view_then s i).size ≡ 1
     → (view_then s i).arrived ≡ 0 → (view_then s i).phase ≡ (flat_of s).phase → call_then s i ≡ Idle → Plays (after s (Go i)) i (Ready home)
 placed s i home core h root tier size arrived phase idle =
     let core' = core_after s (Go i) core tt in
@@ -60,7 +61,8 @@ placed s i home core h root tier size arrived phase idle =
     )
 
 -- the join was taken: it is done, or settles the tiers that it has claimed
-participants : (s : State) (i home claimed k phase : ℕ) → IsCore s → i < length s.views → RootStays s (after s (Go i)) → (view_then s i).tier ≡ home
+participants : (s : State) (i home claimed k phase : ℕ) → IsCore s → i < length s.views → RootStays s (after s (Go i))
+    → (view_then s i).tier ≡ home
     → (view_then s i).size ≡ 1 → (view_then s i).arrived ≡ 0 → (view_then s i).phase ≡ (flat_of s).phase → phase ≡ (flat_of s).phase
     → call_then s i ≡ settling k → answer_then s i ≡ unless_claimed k (Done phase) → (next : Role) × Goes s i (Seeks home claimed) next
 participants s i home claimed zero phase core h root tier size arrived now here idle answer =
@@ -80,8 +82,13 @@ refusals false parties phase why = refl
 -- it was refused: it is over, or gives back what it has claimed
 refuses : (s : State) (i home claimed k : ℕ) (a : Played) → i < length s.views → (view_then s i).size ≡ 0 → call_then s i ≡ giving_back k a
     → answer_then s i ≡ unless_claimed k a → is_refused a ≡ true → (next : Role) × Goes s i (Seeks home claimed) next
-refuses s i home claimed zero a h none idle answer denied =
-    (Out, record { follows = inr (inr (inr (inl (ap is_refused answer ∙ denied, refl)))); plays = (record { known = known_after s i h; none = none }, idle) })
+refuses s i home claimed zero a h none idle answer denied = (
+  Out,
+  record {
+    follows = inr (inr (inr (inl (ap is_refused answer ∙ denied, refl))));
+    plays = (record { known = known_after s i h; none = none }, idle);
+  },
+)
 refuses s i home claimed (suc k) a h none idle answer denied = (
   GivesBack,
   record {
@@ -90,7 +97,8 @@ refuses s i home claimed (suc k) a h none idle answer denied = (
   },
 )
 
-seeks_by : (s : State) (i home claimed k t : ℕ) → IsCore s → (flat_of s).ended ≡ false → i < length s.views → RootStays s (after s (Go i)) → t < length s.words → (view_at s.views i).size ≡ 0
+seeks_by : (s : State) (i home claimed k t : ℕ) → IsCore s → (flat_of s).ended ≡ false → i < length s.views → RootStays s (after s (Go i))
+    → t < length s.words → (view_at s.views i).size ≡ 0
     → Gone s i (seek_turn home k 1 t (word_at s.words t) (view_at s.views i)) → (next : Role) × Goes s i (Seeks home claimed) next
 seeks_by s i home claimed k t core going h root within none =
     let w : Fields = word_at s.words t in
@@ -98,13 +106,20 @@ seeks_by s i home claimed k t core going h root within none =
     let p : ℕ = (refused t (word_at s.words t) (view_at s.views i)).phase in
     let Q : Type 0 = (next : Role) × Goes s i (Seeks home claimed) next in
     let over : Turn = record { kind = Look; tier = 0; next = giving_back k (end_shown w); answer = unless_claimed k (end_shown w) } in
-    let no : Turn = record { kind = Refuse home k 1; tier = t; next = giving_back k (refusal t (added k 1) p w); answer = unless_claimed k (refusal t (added k 1) p w) } in
+    let no : Turn =
+    record {
+      kind = Refuse home k 1;
+      tier = t;
+      next = giving_back k (refusal t (added k 1) p w);
+      answer = unless_claimed k (refusal t (added k 1) p w);
+    } in
     let claim : Turn = record { kind = Claim home k 1; tier = t; next = ToSeek home 1; answer = GoesOn } in
     let join : Turn = record { kind = Join home k 1; tier = t; next = settling k; answer = unless_claimed k (Done w.phase) } in
     by_turn (λ r. Gone s i r → Q) w.ended over (cond (is_refusing (added k 1) w) no (cond (is_claimable t w) claim join))
     (λ q. not_both w.ended q (still_going s t core going within))
     (λ _. by_turn (λ r. Gone s i r → Q) (is_refusing (added k 1) w) no (cond (is_claimable t w) claim join)
-    (λ _ g. refuses s i home claimed k (refusal t (added k 1) p w) h (ap (λ (x : View). x.size) g.view ∙ (refused_size t w v ∙ none)) g.call g.answer (refusals (has_no_room (added k 1) w) w.parties p (cause_of t p w)))
+    (λ _ g. refuses s i home claimed k (refusal t (added k 1) p w) h (ap (λ (x : View). x.size) g.view ∙ (refused_size t w v ∙ none)) g.call
+    g.answer (refusals (has_no_room (added k 1) w) w.parties p (cause_of t p w)))
     (λ _. by_turn (λ r. Gone s i r → Q) (is_claimable t w) claim join
     (λ _ g. (
       Seeks home (claimed_by (view_then s i).errand),
@@ -117,7 +132,8 @@ seeks_by s i home claimed k t core going h root within none =
     participants s i home claimed k w.phase core h root (ap (λ (x : View). x.tier) g.view) (ap (λ (x : View). x.size) g.view)
     (ap (λ (x : View). x.arrived) g.view) (ap (λ (x : View). x.phase) g.view ∙ here) here g.call g.answer)))
 
-pub seeks_go : (s : State) (i home claimed : ℕ) → IsCore s → (flat_of s).ended ≡ false → RootStays s (after s (Go i)) → Plays s i (Seeks home claimed)
+pub seeks_go : (s : State) (i home claimed : ℕ) → IsCore s → (flat_of s).ended ≡ false → RootStays s (after s (Go i))
+    → Plays s i (Seeks home claimed)
     → (next : Role) × Goes s i (Seeks home claimed) next
 seeks_go s i home claimed core going root p =
     let k : ℕ = claimed_by (view_at s.views i).errand in
@@ -128,8 +144,10 @@ seeks_go s i home claimed core going root p =
 
 -- what follows a join
 settled_by : (s : State) (i home k : ℕ) → IsCore s → i < length s.views → RootStays s (after s (Go i)) → (view_then s i).tier ≡ home
-    → (view_then s i).size ≡ 1 → (view_then s i).arrived ≡ 0 → (view_then s i).phase ≡ (flat_of s).phase → (view_at s.views i).phase ≡ (flat_of s).phase
-    → call_then s i ≡ settling k → answer_then s i ≡ unless_claimed k (Done (view_at s.views i).phase) → (next : Role) × Goes s i (Settles home) next
+    → (view_then s i).size ≡ 1 → (view_then s i).arrived ≡ 0 → (view_then s i).phase ≡ (flat_of s).phase
+    → (view_at s.views i).phase ≡ (flat_of s).phase
+    → call_then s i ≡ settling k → answer_then s i ≡ unless_claimed k (Done (view_at s.views i).phase)
+    → (next : Role) × Goes s i (Settles home) next
 settled_by s i home zero core h root tier size arrived now here idle answer =
     (Ready home, record { follows = inl (answer ∙ ap Done here, refl); plays = placed s i home core h root tier size arrived now idle })
 settled_by s i home (suc k) core h root tier size arrived now here idle answer =

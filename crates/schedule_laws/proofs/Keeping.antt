@@ -53,7 +53,8 @@ child_same w place path (token ∷ free) = record { mode = refl; limit = refl; j
 children_same : (w : World) (place : ℕ) (paths : List (List ℕ)) → IsSame w (with_children w place paths)
 children_same w place [] = record { mode = refl; limit = refl; job = refl }
 children_same w place (path ∷ paths) =
-    and_then w (child_from w place path w.free) (with_children w place (path ∷ paths)) (child_same w place path w.free) (children_same (child_from w place path w.free) place paths)
+    and_then w (child_from w place path w.free) (with_children w place (path ∷ paths)) (child_same w place path w.free)
+    (children_same (child_from w place path w.free) place paths)
 
 called_same : (w : World) (worker place : ℕ) (tree : Tree) (a : TreeAnswer) → IsSame w (called_by w worker place tree a).1
 called_same w worker place tree answer.Begun = record { mode = refl; limit = refl; job = refl }
@@ -95,35 +96,50 @@ Keeps parents w worker (Some m) = Stands (done_by w worker m).1 → Kept parents
 module _ (parents : List ℕ) (w : World) (worker : ℕ) (few : w.limit ≤ 2147483648) (within : worker < 64) (tiers : length parents ≤ 64)
     (light : is_some (status w.limit w.job) ≡ false → AreFew w) where
   module _ (roles : List Role) (is : IsWorking parents w roles) (below : Below w w.job) (runs : w.mode ≡ mode.Runs) where
-    call_kept : (place token : ℕ) (c : Call) → Works parents (done_by w worker (Calls place token c)).1 → Kept parents (done_by w worker (Calls place token c)).1
+    call_kept : (place token : ℕ) (c : Call) → Works parents (done_by w worker (Calls place token c)).1
+        → Kept parents (done_by w worker (Calls place token c)).1
     call_kept place token c works =
         works_kept parents w (done_by w worker (Calls place token c)).1 runs below
-        (called_same w worker place (after (after w.tree (Begin token c)) (Go token)) (answer_to (after w.tree (Begin token c)) (Go token))) works
+        (called_same w worker place (after (after w.tree (Begin token c)) (Go token)) (answer_to (after w.tree (Begin token c)) (Go token)))
+        works
 
     join_room : (place n : ℕ) → place < length w.participants → (participant_at w.participants place).stage ≡ Joining n
         → (word_at w.tree.words (participant_at w.participants place).home).parties + 1 ≤ 65535
     join_room place n h at =
         has_room parents w roles place tiers (light below) is h (sits_at parents w roles worker place is h (Joining n) at).own
 
-    stage_keeps : (place : ℕ) (due : Bool) (stage : Stage) → place < length w.participants → (participant_at w.participants place).stage ≡ stage
-        → may_finish w.tree (participant_at w.participants place).token ≡ due → Keeps parents w worker (by_stage (participant_at w.participants place) place due stage)
+    stage_keeps : (place : ℕ) (due : Bool) (stage : Stage) → place < length w.participants
+        → (participant_at w.participants place).stage ≡ stage
+        → may_finish w.tree (participant_at w.participants place).token ≡ due
+        → Keeps parents w worker (by_stage (participant_at w.participants place) place due stage)
     stage_keeps place due Waits h at e = tt
     stage_keeps place due Taken h at e = λ s.
         works_kept parents w (done_by w worker (Delivers place)).1 runs below
-        (let k = children_same (noted w place (has_synced (deed_of w (participant_at w.participants place).path))) place (spawned_paths (deed_of w (participant_at w.participants place).path)) in
+        (let k =
+        children_same (noted w place (has_synced (deed_of w (participant_at w.participants place).path))) place
+        (spawned_paths (deed_of w (participant_at w.participants place).path)) in
         record { mode = k.mode; limit = k.limit; job = k.job })
         (delivering_works parents w roles worker place is h at)
-    stage_keeps place due Polling h at e = λ s. call_kept place (participant_at w.participants place).token call.Poll (polling_works parents w roles worker place is h at)
-    stage_keeps place due (Joining n) h at e = λ s. call_kept place (child_at (participant_at w.participants place).children n).token (call.Join (child_at (participant_at w.participants place).children n).home 1)
+    stage_keeps place due Polling h at e =
+        λ s. call_kept place (participant_at w.participants place).token call.Poll (polling_works parents w roles worker place is h at)
+    stage_keeps place due (Joining n) h at e =
+        λ s. call_kept place (child_at (participant_at w.participants place).children n).token
+        (call.Join (child_at (participant_at w.participants place).children n).home 1)
         (joining_works parents w roles worker place is h n at (join_room place n h at))
-    stage_keeps place due (Arriving n) h at e = λ s. call_kept place (child_at (participant_at w.participants place).children n).token call.Arrive (arriving_works parents w roles worker place is h n at)
+    stage_keeps place due (Arriving n) h at e =
+        λ s. call_kept place (child_at (participant_at w.participants place).children n).token call.Arrive
+        (arriving_works parents w roles worker place is h n at)
     stage_keeps place true Leaving h at e = λ s.
-        subst (λ (m : Mode). IsKept parents (done_by w worker (Advances place)).1 m) (sym (advancing_mode parents w roles worker place is h at e)) (
-          advanced_status w worker place (after w.tree (Finish (participant_at w.participants place).token)) (answer_to w.tree (Finish (participant_at w.participants place).token)) below,
+        subst (λ (m : Mode). IsKept parents (done_by w worker (Advances place)).1 m)
+        (sym (advancing_mode parents w roles worker place is h at e)) (
+          advanced_status w worker place (after w.tree (Finish (participant_at w.participants place).token))
+              (answer_to w.tree (Finish (participant_at w.participants place).token)) below,
           within,
           advancing_turns parents w roles worker place is h at e few below,
         )
-    stage_keeps place false Leaving h at e = λ s. call_kept place (participant_at w.participants place).token (if (participant_at w.participants place).synced then call.Arrive else call.Leave)
+    stage_keeps place false Leaving h at e =
+        λ s. call_kept place (participant_at w.participants place).token
+        (if (participant_at w.participants place).synced then call.Arrive else call.Leave)
         (leaving_works parents w roles worker place is h at e)
     stage_keeps place due Over h at e = tt
 
@@ -132,7 +148,8 @@ module _ (parents : List ℕ) (w : World) (worker : ℕ) (few : w.limit ≤ 2147
       where
         by : (b c : Bool) → nat_lt w.taken (length w.participants) ≡ b → c ≡ false
             → Keeps parents w worker (if b then Some (Takes w.taken) else (if c then Some (Closes 0) else None))
-        by true c e f = λ s. works_kept parents w (done_by w worker (Takes w.taken)).1 runs below (record { mode = refl; limit = refl; job = refl })
+        by true c e f =
+            λ s. works_kept parents w (done_by w worker (Takes w.taken)).1 runs below (record { mode = refl; limit = refl; job = refl })
             (roles, taking_works parents w roles worker is (ltb-true w.taken (length w.participants) e))
         by false true e f = not_both true refl f
         by false false e f = tt
@@ -140,25 +157,31 @@ module _ (parents : List ℕ) (w : World) (worker : ℕ) (few : w.limit ≤ 2147
       where
         by : (b : Bool) → nat_lt place (length w.participants) ≡ b → Keeps parents w worker (by_hand w (Some place))
         by true e = stage_keeps place _ (participant_at w.participants place).stage (ltb-true place (length w.participants) e) refl refl
-        by false e = subst (λ (g : ParticipantValue). Keeps parents w worker (by_participant w g place)) (sym (no_participant_beyond w.participants place (ltb-false place (length w.participants) e))) tt
+        by false e =
+            subst (λ (g : ParticipantValue). Keeps parents w worker (by_participant w g place))
+            (sym (no_participant_beyond w.participants place (ltb-false place (length w.participants) e))) tt
 
   -- a job that was over as it began
-  idle_keeps : (hand : Option ℕ) → is_some (status w.limit w.job) ≡ true → length w.participants ≡ 0 → Keeps parents w worker (by_hand w hand)
+  idle_keeps : (hand : Option ℕ) → is_some (status w.limit w.job) ≡ true → length w.participants ≡ 0
+      → Keeps parents w worker (by_hand w hand)
   idle_keeps None over none = by (nat_lt w.taken (length w.participants)) (is_some (status w.limit w.job)) refl
     where
       report : (o : Option Status) → status w.limit w.job ≡ o → is_some o ≡ true
-          → Kept parents (closed_as w worker 0 (unless_ended o w.job (superstep w.program w.job)) (report_in w.limit (unless_ended o w.job (superstep w.program w.job)))).1
+          → Kept parents
+          (closed_as w worker 0 (unless_ended o w.job (superstep w.program w.job)) (report_in w.limit (unless_ended o w.job (superstep w.program w.job)))).1
       report None e k = not_both false k refl
       report (Some s) e k =
           subst (λ (q : Option Status). Kept parents (closed_as w worker 0 w.job (report_with w.job q)).1) (sym e)
           (over_kept parents (closed_as w worker 0 w.job (report_with w.job (Some s))).1 worker 0 s)
 
-      by : (b c : Bool) → nat_lt w.taken (length w.participants) ≡ b → Keeps parents w worker (if b then Some (Takes w.taken) else (if c then Some (Closes 0) else None))
+      by : (b c : Bool) → nat_lt w.taken (length w.participants) ≡ b
+          → Keeps parents w worker (if b then Some (Takes w.taken) else (if c then Some (Closes 0) else None))
       by true c e = let l = ltb-true w.taken (length w.participants) e in absurd (omega arith)
       by false true e = λ s. report (status w.limit w.job) refl over
       by false false e = tt
   idle_keeps (Some place) over none =
-      subst (λ (g : ParticipantValue). Keeps parents w worker (by_participant w g place)) (sym (no_participant_beyond w.participants place (omega arith))) tt
+      subst (λ (g : ParticipantValue). Keeps parents w worker (by_participant w g place))
+      (sym (no_participant_beyond w.participants place (omega arith))) tt
 
   mode_keeps : (m : Mode) → w.mode ≡ m → IsKept parents w m → Keeps parents w worker (by_mode w worker m)
   mode_keeps mode.Runs e k = ⊎_elim
@@ -185,7 +208,9 @@ module _ (parents : List ℕ) (w : World) (worker : ℕ) (few : w.limit ≤ 2147
       ends tree answer.NotNow = subst (λ (m : Mode). IsKept parents (record w { tree = tree }) m) (sym e) tt
 
       by : (b : Bool) → Keeps parents w worker (if b then Some (Ends token) else None)
-      by true = λ s. ends (after (after w.tree (Begin token call.Force)) (Go token)) (answer_to (after w.tree (Begin token call.Force)) (Go token))
+      by true =
+          λ s. ends (after (after w.tree (Begin token call.Force)) (Go token))
+          (answer_to (after w.tree (Begin token call.Force)) (Go token))
       by false = tt
   mode_keeps mode.Over e k = tt
 
@@ -210,7 +235,8 @@ step_kept parents w x few tiers light s k = by (move_of w (worker_of x)) (move_k
     by None h t = k
     by (Some m) h t = if_so m (kind_of x == kind_for m) h t
 
-pub run_kept : (parents : List ℕ) (w : World) (xs : List JobStep) → length parents ≤ 64 → ((ys : List JobStep) → (reached w ys).limit ≤ 2147483648)
+pub run_kept : (parents : List ℕ) (w : World) (xs : List JobStep) → length parents ≤ 64
+    → ((ys : List JobStep) → (reached w ys).limit ≤ 2147483648)
     → ((ys : List JobStep) → is_some (status (reached w ys).limit (reached w ys).job) ≡ false → AreFew (reached w ys))
     → ((ys : List JobStep) → Stands (reached w ys)) → Kept parents w → Kept parents (reached w xs)
 run_kept parents w [] tiers few light s k = k

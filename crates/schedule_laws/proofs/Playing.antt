@@ -135,7 +135,8 @@ sums_alike f g (x ∷ xs) (y ∷ ys) d e l h =
 pub members_are_in_roles : MembersAreInRoles
 members_are_in_roles s roles cast =
     members_are_the_tokens s cast.core
-    ∙ sums_alike (λ (v : View). v.size) members_in s.views roles (new_view 0) Out cast.long (λ i h. size_of s i (role_at roles i) (cast.plays i h))
+    ∙ sums_alike (λ (v : View). v.size) members_in s.views roles (new_view 0) Out cast.long
+    (λ i h. size_of s i (role_at roles i) (cast.plays i h))
 
 -- a token that is still there, with the same view and call
 pub record IsKept (i : ℕ) (s s' : State) : Type 0 where
@@ -160,7 +161,9 @@ late_stays s s' i home same root is = record {
   awaited = record {
     known = same.known;
     rests = ap (λ (v : View). v.errand) same.view ∙ is.awaited.rests;
-    some = subst (λ (n : ℕ). 0 < n) (sym (ap (λ v. absent (flat_of s').phase v) same.view ∙ ap (λ p. absent p (view_at s.views i)) root.phase)) is.awaited.some;
+    some =
+        subst (λ (n : ℕ). 0 < n) (sym (ap (λ v. absent (flat_of s').phase v) same.view ∙ ap (λ p. absent p (view_at s.views i)) root.phase))
+        is.awaited.some;
   };
   tier = ap (λ (v : View). v.tier) same.view ∙ is.tier;
   one = ap (λ (v : View). v.size) same.view ∙ is.one;
@@ -179,7 +182,8 @@ home_within s i home core is =
     let place : (view_at s.views i).tier < length s.parents = (fits_at s i core is.awaited.known).placed (omega arith) in
     subst (λ (n : ℕ). home < n) (sym core.tally.long) (subst (λ (t : ℕ). t < length s.parents) is.tier place)
 
-counted_stays : (s s' : State) (i home : ℕ) (passage : Passage) → IsKept i s s' → RootStays s s' → HasCounted s i home passage → HasCounted s' i home passage
+counted_stays : (s s' : State) (i home : ℕ) (passage : Passage) → IsKept i s s' → RootStays s s' → HasCounted s i home passage
+    → HasCounted s' i home passage
 counted_stays s s' i home Arrival same root is = (
   same.known,
   ap (λ (v : View). v.tier) same.view ∙ is.1,
@@ -195,7 +199,8 @@ counted_stays s s' i home Departure same root is = (
 pub plays_stay : (s s' : State) (i : ℕ) (r : Role) → IsCore s → IsKept i s s' → RootStays s s' → Plays s i r → Plays s' i r
 plays_stay s s' i Out core same root p = (out_stays s s' i same p.0, same.call ∙ p.1)
 plays_stay s s' i (Joins home) core same root p = (out_stays s s' i same p.0, same.call ∙ p.1)
-plays_stay s s' i (Seeks home claimed) core same root p = (out_stays s s' i same p.0, ap (λ (v : View). claimed_by v.errand) same.view ∙ p.1, same.call ∙ p.2)
+plays_stay s s' i (Seeks home claimed) core same root p =
+    (out_stays s s' i same p.0, ap (λ (v : View). claimed_by v.errand) same.view ∙ p.1, same.call ∙ p.2)
 plays_stay s s' i (Settles home) core same root p = (
   same.known,
   ap (λ (v : View). v.tier) same.view ∙ p.1,

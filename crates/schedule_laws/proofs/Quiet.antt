@@ -81,12 +81,19 @@ own_quiet : (i : ℕ) (passage : Passage) → IsQuiet i (own_kind passage)
 own_quiet i Arrival = refl
 own_quiet i Departure = refl
 
-passes_quietly : (i : ℕ) (ps : List ℕ) (own : Passage) (t : ℕ) (passage : Passage) (k : Kind) (here : Progress) (over : Played) (w : Fields) (v : View)
+passes_quietly : (i : ℕ) (ps : List ℕ) (own : Passage) (t : ℕ) (passage : Passage) (k : Kind) (here : Progress) (over : Played) (w : Fields)
+    (v : View)
     → IsQuiet i k → IsQuietTurn i (pass_turn ps own t passage k here over w v)
 passes_quietly i ps own t passage k here over w v q =
     let e : Errand = owed (parent_of ps t) t passage w in
     let wait : Turn = record { kind = Refresh; tier = t; next = here; answer = GoesOn } in
-    let go : Turn = record { kind = k; tier = t; next = goes_on own (owed (parent_of ps t) t passage w); answer = reported v.phase (passed t passage w).parties (owed (parent_of ps t) t passage w) } in
+    let go : Turn =
+    record {
+      kind = k;
+      tier = t;
+      next = goes_on own (owed (parent_of ps t) t passage w);
+      answer = reported v.phase (passed t passage w).parties (owed (parent_of ps t) t passage w);
+    } in
     either_way (IsQuietTurn i) w.ended (last_look over) (cond (lags w v) wait go) refl
     (either_way (IsQuietTurn i) (lags w v) wait go refl q)
 
@@ -101,7 +108,8 @@ quiet_turn i ps ws Idle v e = refl
 quiet_turn i ps ws (Begun (call.Join tier size)) v e =
     let root : Fields = word_at ws 0 in
     let refuses : Bool = eqb tier 0 && is_refusing size root in
-    either_way (IsQuiet i) root.ended Look (cond refuses (Refuse 0 0 size) Look) refl (either_way (IsQuiet i) refuses (Refuse 0 0 size) Look refl refl)
+    either_way (IsQuiet i) root.ended Look (cond refuses (Refuse 0 0 size) Look) refl
+    (either_way (IsQuiet i) refuses (Refuse 0 0 size) Look refl refl)
 quiet_turn i ps ws (Begun call.Arrive) v e = refl
 quiet_turn i ps ws (Begun call.Leave) v e = refl
 quiet_turn i ps ws (Begun call.Poll) v e = refl
@@ -112,7 +120,13 @@ quiet_turn i ps ws (ToSeek tier size) v e =
     let w : Fields = word_at ws t in
     let p : ℕ = (refused t w v).phase in
     let over : Turn = record { kind = Look; tier = 0; next = giving_back k (end_shown w); answer = unless_claimed k (end_shown w) } in
-    let no : Turn = record { kind = Refuse tier k size; tier = t; next = giving_back k (refusal t (added k size) p w); answer = unless_claimed k (refusal t (added k size) p w) } in
+    let no : Turn =
+    record {
+      kind = Refuse tier k size;
+      tier = t;
+      next = giving_back k (refusal t (added k size) p w);
+      answer = unless_claimed k (refusal t (added k size) p w);
+    } in
     let claim : Turn = record { kind = Claim tier k size; tier = t; next = ToSeek tier size; answer = GoesOn } in
     let join : Turn = record { kind = Join tier k size; tier = t; next = settling k; answer = unless_claimed k (Done w.phase) } in
     either_way (IsQuietTurn i) w.ended over (cond (is_refusing (added k size) w) no (cond (is_claimable t w) claim join)) refl
@@ -121,7 +135,8 @@ quiet_turn i ps ws (ToSeek tier size) v e =
 quiet_turn i ps ws Settling v e = settles_quietly i ps v v.errand
 quiet_turn i ps ws (ToGiveBack answer) v e = gives_back_quietly i ps answer v.errand
 quiet_turn i ps ws (Passing passage) v e =
-    passes_quietly i ps passage v.tier passage (own_kind passage) (Passing passage) (end_shown (word_at ws v.tier)) (word_at ws v.tier) v (own_quiet i passage)
+    passes_quietly i ps passage v.tier passage (own_kind passage) (Passing passage) (end_shown (word_at ws v.tier)) (word_at ws v.tier) v
+    (own_quiet i passage)
 quiet_turn i ps ws (Owing own) v e = climbs_quietly i ps own (word_at ws (place ps (Owing own) v)) v v.errand
 quiet_turn i ps ws (Due passage) v e = refl
 quiet_turn i ps ws (Refreshing moved) v e = either_way (IsQuiet i) (lags (word_at ws v.tier) v) Refresh Glance refl refl

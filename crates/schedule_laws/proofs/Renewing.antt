@@ -26,7 +26,8 @@ use Rattle.schedule_laws.proofs.Advancing.{AllOver, running_step}
 
 -- in path order: the same sums, and what is true of each
 
-sum_put : (f : ParticipantValue → ℕ) (g : ParticipantValue) (gs : List ParticipantValue) → sum_by f (put_in participant_path g gs) ≡ f g + sum_by f gs
+sum_put : (f : ParticipantValue → ℕ) (g : ParticipantValue) (gs : List ParticipantValue)
+    → sum_by f (put_in participant_path g gs) ≡ f g + sum_by f gs
 sum_put f g [] = sum_by-cons f g []
 sum_put f g (x ∷ gs) = by (path_lt x.path g.path) (sum_put f g gs)
   where
@@ -41,11 +42,13 @@ sum_order f (g ∷ gs) =
     let a = sum_put f g (in_path_order participant_path gs) in let b = sum_order f gs in let c = sum_by-cons f g gs in omega arith
 
 module _ (P : ParticipantValue → Type 0) where
-  all_put : (g : ParticipantValue) (gs : List ParticipantValue) → P g → AllByRecursion P gs → AllByRecursion P (put_in participant_path g gs)
+  all_put : (g : ParticipantValue) (gs : List ParticipantValue) → P g → AllByRecursion P gs
+      → AllByRecursion P (put_in participant_path g gs)
   all_put g [] h a = (h, tt)
   all_put g (x ∷ gs) h a = by (path_lt x.path g.path) (all_put g gs h a.1)
     where
-      by : (b : Bool) → AllByRecursion P (put_in participant_path g gs) → AllByRecursion P (if b then x ∷ put_in participant_path g gs else g ∷ x ∷ gs)
+      by : (b : Bool) → AllByRecursion P (put_in participant_path g gs)
+          → AllByRecursion P (if b then x ∷ put_in participant_path g gs else g ∷ x ∷ gs)
       by true more = (a.0, more)
       by false more = (h, a)
 
@@ -64,21 +67,27 @@ module _ (P : ParticipantValue → Type 0) where
 
 -- what lives on counts the same, with what is freed
 
-children_sum : (m : ℕ → ℕ) (ks : List ChildValue) → sum_by (of_participant m) (map child_participant ks) ≡ sum_by (λ (k : ChildValue). m k.token) ks
+children_sum : (m : ℕ → ℕ) (ks : List ChildValue)
+    → sum_by (of_participant m) (map child_participant ks) ≡ sum_by (λ (k : ChildValue). m k.token) ks
 children_sum m [] = refl
 children_sum m (k ∷ ks) =
     let a = sum_by-cons (of_participant m) (child_participant k) (map child_participant ks) in
     let b = sum_by-cons (λ (k : ChildValue). m k.token) k ks in let c = children_sum m ks in omega arith
 
-living_sum : (m : ℕ → ℕ) (gs : List ParticipantValue) (free : List ℕ) → sum_by (of_participant m) (living_participants gs) + sum_by m (freed gs free) ≡ sum_by (of_participant m) gs + sum_by m free
+living_sum : (m : ℕ → ℕ) (gs : List ParticipantValue) (free : List ℕ)
+    → sum_by (of_participant m) (living_participants gs) + sum_by m (freed gs free) ≡ sum_by (of_participant m) gs + sum_by m free
 living_sum m [] free = refl
 living_sum m (g ∷ gs) free = by g.synced (living_sum m gs)
   where
-    by : (b : Bool) → ((ts : List ℕ) → sum_by (of_participant m) (living_participants gs) + sum_by m (freed gs ts) ≡ sum_by (of_participant m) gs + sum_by m ts)
-        → sum_by (of_participant m) (((if b then waiting g.path g.token g.home ∷ [] else []) ++ map child_participant g.children) ++ living_participants gs)
+    by : (b : Bool)
+        → ((ts : List ℕ)
+        → sum_by (of_participant m) (living_participants gs) + sum_by m (freed gs ts) ≡ sum_by (of_participant m) gs + sum_by m ts)
+        → sum_by (of_participant m)
+        (((if b then waiting g.path g.token g.home ∷ [] else []) ++ map child_participant g.children) ++ living_participants gs)
         + sum_by m (freed gs (if b then free else g.token ∷ free)) ≡ sum_by (of_participant m) (g ∷ gs) + sum_by m free
     by true rest =
-        let a = sum_by-cons (of_participant m) (waiting g.path g.token g.home) (map child_participant g.children ++ living_participants gs) in
+        let a =
+        sum_by-cons (of_participant m) (waiting g.path g.token g.home) (map child_participant g.children ++ living_participants gs) in
         let b = sum_by-append (of_participant m) (map child_participant g.children) (living_participants gs) in
         let c = children_sum m g.children in let d = rest free in let e = sum_by-cons (of_participant m) g gs in omega arith
     by false rest =
@@ -96,15 +105,18 @@ map_at (r ∷ rs) (suc t) = map_at rs t
 abbrev IsNew : List Role → ℕ → ParticipantValue → Type 0
 IsNew roles tiers g = Sits roles tiers g × (g.stage ≡ Waits)
 
-new : (roles : List Role) (tiers : ℕ) (path : List ℕ) (token home : ℕ) → role_at roles token ≡ Late home → IsNew roles tiers (waiting path token home)
-new roles tiers path token home e = (record { own = e; each = λ k l. absurd (omega arith); turn = tt; homes = λ k l. absurd (omega arith) }, refl)
+new : (roles : List Role) (tiers : ℕ) (path : List ℕ) (token home : ℕ) → role_at roles token ≡ Late home
+    → IsNew roles tiers (waiting path token home)
+new roles tiers path token home e =
+    (record { own = e; each = λ k l. absurd (omega arith); turn = tt; homes = λ k l. absurd (omega arith) }, refl)
 
 own_new : (roles : List Role) (tiers : ℕ) (g : ParticipantValue) (b : Bool) → role_at roles g.token ≡ Past g.home (passage_if b)
     → AllByRecursion (IsNew (map turned roles) tiers) (if b then waiting g.path g.token g.home ∷ [] else [])
 own_new roles tiers g true e = (new (map turned roles) tiers g.path g.token g.home (map_at roles g.token ∙ ap turned e), tt)
 own_new roles tiers g false e = tt
 
-children_new : (roles : List Role) (tiers : ℕ) (ks : List ChildValue) → ((k : ℕ) → k < length ks → role_at roles (child_at ks k).token ≡ Past (child_at ks k).home Arrival)
+children_new : (roles : List Role) (tiers : ℕ) (ks : List ChildValue)
+    → ((k : ℕ) → k < length ks → role_at roles (child_at ks k).token ≡ Past (child_at ks k).home Arrival)
     → AllByRecursion (IsNew (map turned roles) tiers) (map child_participant ks)
 children_new roles tiers [] h = tt
 children_new roles tiers (k ∷ ks) h = (
@@ -112,7 +124,8 @@ children_new roles tiers (k ∷ ks) h = (
   children_new roles tiers ks (λ j l. h (suc j) (omega arith)),
 )
 
-living_new : (roles : List Role) (tiers : ℕ) (gs : List ParticipantValue) → AllOver roles tiers gs → AllByRecursion (IsNew (map turned roles) tiers) (living_participants gs)
+living_new : (roles : List Role) (tiers : ℕ) (gs : List ParticipantValue) → AllOver roles tiers gs
+    → AllByRecursion (IsNew (map turned roles) tiers) (living_participants gs)
 living_new roles tiers [] h = tt
 living_new roles tiers (g ∷ gs) h =
     let s = h 0 (omega arith) in
@@ -121,18 +134,22 @@ living_new roles tiers (g ∷ gs) h =
     (living_new roles tiers gs (λ q l. h (suc q) (omega arith)))
 
 own_free : (roles : List Role) (g : ParticipantValue) (free : List ℕ) (b : Bool) → role_at roles g.token ≡ Past g.home (passage_if b)
-    → AllByRecursion (λ t. role_at (map turned roles) t ≡ Out) free → AllByRecursion (λ t. role_at (map turned roles) t ≡ Out) (if b then free else g.token ∷ free)
+    → AllByRecursion (λ t. role_at (map turned roles) t ≡ Out) free
+    → AllByRecursion (λ t. role_at (map turned roles) t ≡ Out) (if b then free else g.token ∷ free)
 own_free roles g free true e a = a
 own_free roles g free false e a = (map_at roles g.token ∙ ap turned e, a)
 
 freed_out : (roles : List Role) (tiers : ℕ) (gs : List ParticipantValue) (free : List ℕ) → AllOver roles tiers gs
-    → AllByRecursion (λ t. role_at (map turned roles) t ≡ Out) free → AllByRecursion (λ t. role_at (map turned roles) t ≡ Out) (freed gs free)
+    → AllByRecursion (λ t. role_at (map turned roles) t ≡ Out) free
+    → AllByRecursion (λ t. role_at (map turned roles) t ≡ Out) (freed gs free)
 freed_out roles tiers [] free h a = a
 freed_out roles tiers (g ∷ gs) free h a =
     let s = h 0 (omega arith) in
-    freed_out roles tiers gs (if g.synced then free else g.token ∷ free) (λ q l. h (suc q) (omega arith)) (own_free roles g free g.synced s.own a)
+    freed_out roles tiers gs (if g.synced then free else g.token ∷ free) (λ q l. h (suc q) (omega arith))
+    (own_free roles g free g.synced s.own a)
 
-still_out : (roles : List Role) (ts : List ℕ) → AllByRecursion (λ t. role_at roles t ≡ Out) ts → AllByRecursion (λ t. role_at (map turned roles) t ≡ Out) ts
+still_out : (roles : List Role) (ts : List ℕ) → AllByRecursion (λ t. role_at roles t ≡ Out) ts
+    → AllByRecursion (λ t. role_at (map turned roles) t ≡ Out) ts
 still_out roles [] a = tt
 still_out roles (t ∷ ts) a = (map_at roles t ∙ ap turned a.0, still_out roles ts a.1)
 
@@ -199,14 +216,16 @@ closing_works parents w roles is on paths = (running, works)
     step : (next_job w).step ≡ suc w.job.step
     step =
         let one = one_superstep w on in
-        let e : (superstep w.program w.job).fault ≡ None = ap (λ (st : State). st.fault) (sym one.0) ∙ no_fault w.limit (next_job w) running in
+        let e : (superstep w.program w.job).fault ≡ None =
+        ap (λ (st : State). st.fault) (sym one.0) ∙ no_fault w.limit (next_job w) running in
         ap (λ (st : State). st.step) one.0 ∙ step_fault w.program w.job e
 
     some : 0 < length (next_participants w.participants)
     some =
         let a = some_live w.limit (next_job w) running in
         let b : length (live_paths (next_job w)) ≡ length (next_job w).live = length-map (next_job w).live (λ (t : Task). t.path) in
-        let c : length (map participant_path (next_participants w.participants)) ≡ length (next_participants w.participants) = length-map (next_participants w.participants) participant_path in
+        let c : length (map participant_path (next_participants w.participants)) ≡ length (next_participants w.participants) =
+        length-map (next_participants w.participants) participant_path in
         let d : length (map participant_path (next_participants w.participants)) ≡ length (live_paths (next_job w)) = ap length paths in
         omega arith
 
@@ -217,7 +236,9 @@ closing_works parents w roles is on paths = (running, works)
         by false e = refl
         by true e = ⊎_elim
             (λ (q : length (living_participants w.participants) ≡ 0).
-            let none : length (next_participants w.participants) ≡ 0 = ap (λ (gs : List ParticipantValue). length (in_path_order participant_path gs)) (nothing (living_participants w.participants) q) in
+            let none : length (next_participants w.participants) ≡ 0 =
+            ap (λ (gs : List ParticipantValue). length (in_path_order participant_path gs))
+            (nothing (living_participants w.participants) q) in
             absurd (let a = some in omega arith))
             (λ (q : w.limit ≤ suc w.job.step). absurd (let a = running_step w.limit (next_job w) running in let b = step in omega arith))
             (is.last e)
@@ -225,10 +246,13 @@ closing_works parents w roles is on paths = (running, works)
     all : AllOver roles (length parents) w.participants
     all q l =
         let g : ParticipantValue = participant_at w.participants q in
-        subst (λ (s : Stage). SitsAt s roles (length parents) g.token g.home g.children g.synced) (over_at w.participants q is.over l) (is.sits q l)
+        subst (λ (s : Stage). SitsAt s roles (length parents) g.token g.home g.children g.synced) (over_at w.participants q is.over l)
+        (is.sits q l)
 
     fresh : AllByRecursion (IsNew (map turned roles) (length parents)) (next_participants w.participants)
-    fresh = all_order (IsNew (map turned roles) (length parents)) (living_participants w.participants) (living_new roles (length parents) w.participants all)
+    fresh =
+        all_order (IsNew (map turned roles) (length parents)) (living_participants w.participants)
+        (living_new roles (length parents) w.participants all)
 
     works : IsWorking parents (renewed (record w { job = next_job w })) (map turned roles)
     works = record {

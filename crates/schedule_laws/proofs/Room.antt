@@ -78,7 +78,11 @@ weight r = members_in r + climbs r
 sum_both : (rs : List Role) → sum_by weight rs ≡ sum_by members_in rs + sum_by climbs rs
 sum_both [] = refl
 sum_both (r ∷ rs) =
-    let a = sum_by-cons weight r rs in let b = sum_by-cons members_in r rs in let c = sum_by-cons climbs r rs in let d = sum_both rs in omega arith
+    let a = sum_by-cons weight r rs in
+    let b = sum_by-cons members_in r rs in
+    let c = sum_by-cons climbs r rs in
+    let d = sum_both rs in
+    omega arith
 
 -- a task with its spawned ones
 children_light : (roles : List Role) (ks : List ChildValue) → ((k : ℕ) → k < length ks → weight (role_at roles (child_at ks k).token) ≤ 1)
@@ -88,23 +92,28 @@ children_light roles (k ∷ ks) h =
     let a = sum_by-cons (λ (k : ChildValue). weight (role_at roles k.token)) k ks in
     let b = h 0 (omega arith) in let c = children_light roles ks (λ j l. h (suc j) (omega arith)) in omega arith
 
-one_heavy : (roles : List Role) (ks : List ChildValue) (n : ℕ) → ((k : ℕ) → k < length ks → k ≢ n → weight (role_at roles (child_at ks k).token) ≤ 1)
+one_heavy : (roles : List Role) (ks : List ChildValue) (n : ℕ)
+    → ((k : ℕ) → k < length ks → k ≢ n → weight (role_at roles (child_at ks k).token) ≤ 1)
     → ((k : ℕ) → k < length ks → k ≡ n → weight (role_at roles (child_at ks k).token) ≤ 2)
     → sum_by (λ (k : ChildValue). weight (role_at roles k.token)) ks ≤ length ks + 1
 one_heavy roles [] n h i = omega arith
 one_heavy roles (k ∷ ks) zero h i =
     let a = sum_by-cons (λ (k : ChildValue). weight (role_at roles k.token)) k ks in
-    let b = i 0 (omega arith) refl in let c = children_light roles ks (λ j l. h (suc j) (omega arith) (λ e. absurd (omega arith))) in omega arith
+    let b = i 0 (omega arith) refl in
+    let c = children_light roles ks (λ j l. h (suc j) (omega arith) (λ e. absurd (omega arith))) in
+    omega arith
 one_heavy roles (k ∷ ks) (suc n) h i =
     let a = sum_by-cons (λ (k : ChildValue). weight (role_at roles k.token)) k ks in
     let b = h 0 (omega arith) (λ e. absurd (omega arith)) in
-    let c = one_heavy roles ks n (λ j l o. h (suc j) (omega arith) (λ e. o (omega arith))) (λ j l e. i (suc j) (omega arith) (ap suc e)) in omega arith
+    let c = one_heavy roles ks n (λ j l o. h (suc j) (omega arith) (λ e. o (omega arith))) (λ j l e. i (suc j) (omega arith) (ap suc e)) in
+    omega arith
 
 no_children : (ks : List ChildValue) → ((k : ℕ) → k < length ks → ⊥) → length ks ≡ 0
 no_children [] h = refl
 no_children (k ∷ ks) h = absurd (h 0 (omega arith))
 
-passage_weight : (home : ℕ) (passage : Passage) → (weight (Owes home passage) ≤ 2) × (weight (Leads home passage) ≤ 2) × (weight (Past home passage) ≤ 1)
+passage_weight : (home : ℕ) (passage : Passage)
+    → (weight (Owes home passage) ≤ 2) × (weight (Leads home passage) ≤ 2) × (weight (Past home passage) ≤ 1)
 passage_weight home Arrival = (omega arith, omega arith, omega arith)
 passage_weight home Departure = (omega arith, omega arith, omega arith)
 
@@ -117,7 +126,8 @@ coming_light own home r f = ⊎_elim (λ q. is_at r Out 1 q (omega arith)) (λ q
     (λ q. ⊎_elim (λ q. is_at r (Settles home) 1 q (omega arith)) (λ q. is_at r GivesBack 1 q (omega arith)) q) q.1) q) q) f
 
 arriving_light : (home : ℕ) (r : Role) → ArrivesAt home r → weight r ≤ 2
-arriving_light home r f = ⊎_elim (λ q. is_at r (Ready home) 2 q (omega arith)) (λ q. ⊎_elim (λ q. is_at r (Looks home Arrival) 2 q (omega arith))
+arriving_light home r f =
+    ⊎_elim (λ q. is_at r (Ready home) 2 q (omega arith)) (λ q. ⊎_elim (λ q. is_at r (Looks home Arrival) 2 q (omega arith))
     (λ q. ⊎_elim (λ q. is_at r (Passes home Arrival) 2 q (omega arith)) (λ q. is_at r (Owes home Arrival) 2 q (omega arith)) q) q) f
 
 module _ (roles : List Role) (tiers token home : ℕ) (children : List ChildValue) (synced : Bool) where
@@ -127,7 +137,8 @@ module _ (roles : List Role) (tiers token home : ℕ) (children : List ChildValu
   abbrev all : ℕ
   all = weight (role_at roles token) + sum_by (λ (k : ChildValue). weight (role_at roles k.token)) children
 
-  by_stage : (stage : Stage) → SitsAt stage roles tiers token home children synced → (is_delivered stage ≡ true → length children ≤ 8) → all ≤ 10
+  by_stage : (stage : Stage) → SitsAt stage roles tiers token home children synced → (is_delivered stage ≡ true → length children ≤ 8)
+      → all ≤ 10
   by_stage Waits is few =
       let a = is_at (role_at roles token) (Late home) 1 is.own (omega arith) in let b = no_children children is.each in
       let c = children_light roles children (λ k l. absurd (is.each k l)) in omega arith
@@ -135,7 +146,9 @@ module _ (roles : List Role) (tiers token home : ℕ) (children : List ChildValu
       let a = is_at (role_at roles token) (Late home) 1 is.own (omega arith) in let b = no_children children is.each in
       let c = children_light roles children (λ k l. absurd (is.each k l)) in omega arith
   by_stage Polling is few =
-      let a = ⊎_elim (λ q. is_at (role_at roles token) (Late home) 1 q (omega arith)) (λ q. is_at (role_at roles token) (Polls home) 1 q (omega arith)) is.own in
+      let a =
+      ⊎_elim (λ q. is_at (role_at roles token) (Late home) 1 q (omega arith))
+      (λ q. is_at (role_at roles token) (Polls home) 1 q (omega arith)) is.own in
       let b = few refl in
       let c = children_light roles children (λ k l. is_at (child_role k) Out 1 (is.each k l) (omega arith)) in omega arith
   by_stage (Joining n) is few =
@@ -159,38 +172,53 @@ module _ (roles : List Role) (tiers token home : ℕ) (children : List ChildValu
       let a = ⊎_elim (λ q. is_at (role_at roles token) (Here home) 2 q (omega arith))
       (λ q. ⊎_elim (λ q. is_at (role_at roles token) (Looks home (passage_if synced)) 2 q (omega arith))
       (λ q. ⊎_elim (λ q. is_at (role_at roles token) (Passes home (passage_if synced)) 2 q (omega arith))
-      (λ q. ⊎_elim (λ q. is_at (role_at roles token) (Owes home (passage_if synced)) 2 q w.0) (λ q. is_at (role_at roles token) (Leads home (passage_if synced)) 2 q w.1) q) q) q) is.own in
+      (λ q. ⊎_elim (λ q. is_at (role_at roles token) (Owes home (passage_if synced)) 2 q w.0) (λ q. is_at (role_at roles token) (Leads home (passage_if synced)) 2 q w.1) q)
+      q)
+      q)
+      is.own in
       let b = few refl in
-      let c = children_light roles children (λ k l. is_at (child_role k) (Past (child_at children k).home Arrival) 1 (is.each k l) (omega arith)) in omega arith
+      let c =
+      children_light roles children (λ k l. is_at (child_role k) (Past (child_at children k).home Arrival) 1 (is.each k l) (omega arith)) in
+      omega arith
   by_stage Over is few =
       let w = passage_weight home (passage_if synced) in
       let a = is_at (role_at roles token) (Past home (passage_if synced)) 1 is.own w.2 in
       let b = few refl in
-      let c = children_light roles children (λ k l. is_at (child_role k) (Past (child_at children k).home Arrival) 1 (is.each k l) (omega arith)) in omega arith
+      let c =
+      children_light roles children (λ k l. is_at (child_role k) (Past (child_at children k).home Arrival) 1 (is.each k l) (omega arith)) in
+      omega arith
 
-participants_light : (f : ParticipantValue → ℕ) (gs : List ParticipantValue) → ((q : ℕ) → q < length gs → f (participant_at gs q) ≤ 10) → sum_by f gs ≤ 10 * length gs
+participants_light : (f : ParticipantValue → ℕ) (gs : List ParticipantValue) → ((q : ℕ) → q < length gs → f (participant_at gs q) ≤ 10)
+    → sum_by f gs ≤ 10 * length gs
 participants_light f [] h = omega arith
 participants_light f (g ∷ gs) h =
-    let a = sum_by-cons f g gs in let b = h 0 (omega arith) in let c = participants_light f gs (λ q l. h (suc q) (omega arith)) in omega arith
+    let a = sum_by-cons f g gs in
+    let b = h 0 (omega arith) in
+    let c = participants_light f gs (λ q l. h (suc q) (omega arith)) in
+    omega arith
 
 -- at most 4096 live tasks, each with at most 8 spawned ones
 pub record AreFew (w : World) : Type 0 where
   pub participants : length w.participants ≤ 4096
-  pub children : (place : ℕ) → place < length w.participants → is_delivered (participant_at w.participants place).stage ≡ true → length (participant_at w.participants place).children ≤ 8
+  pub children : (place : ℕ) → place < length w.participants → is_delivered (participant_at w.participants place).stage ≡ true
+      → length (participant_at w.participants place).children ≤ 8
 
 pub has_room : (parents : List ℕ) (w : World) (roles : List Role) (place : ℕ) → length parents ≤ 64 → AreFew w → IsWorking parents w roles
-    → place < length w.participants → role_at roles (participant_at w.participants place).token ≡ Here (participant_at w.participants place).home
+    → place < length w.participants
+    → role_at roles (participant_at w.participants place).token ≡ Here (participant_at w.participants place).home
     → (word_at w.tree.words (participant_at w.participants place).home).parties + 1 ≤ 65535
 has_room parents w roles place tiers few is h here =
     let s : State = w.tree in
     let i : ℕ = (participant_at w.participants place).token in
     let home : ℕ = (participant_at w.participants place).home in
-    let known : i < length w.tree.views = known_in w.participants w.free (length w.tree.views) is.shared place i h (own_in (participant_at w.participants place)) in
+    let known : i < length w.tree.views =
+    known_in w.participants w.free (length w.tree.views) is.shared place i h (own_in (participant_at w.participants place)) in
     let p : Plays w.tree i (Here home) = subst (λ (r : Role). Plays w.tree i r) here (is.cast.plays i known) in
     let within = home_within w.tree i home is.cast.core p.0.ready.late in
     let parties = parties_are_few w.tree home is.cast.core within (λ e. is.cast.going) in
     let sizes : sum_by (λ (v : View). v.size) w.tree.views ≡ sum_by members_in roles =
-    sums_alike (λ (v : View). v.size) members_in w.tree.views roles (new_view 0) Out is.cast.long (λ j l. size_of w.tree j (role_at roles j) (is.cast.plays j l)) in
+    sums_alike (λ (v : View). v.size) members_in w.tree.views roles (new_view 0) Out is.cast.long
+    (λ j l. size_of w.tree j (role_at roles j) (is.cast.plays j l)) in
     let climbing : count_by (λ (v : View). is_climbing v.errand) w.tree.views ≡ sum_by climbs roles =
     sums_alike (λ (v : View). one_if v.errand) climbs w.tree.views roles (new_view 0) Out is.cast.long
     (λ j l. climbs_of w.tree j (role_at roles j) is.cast.core l (is.cast.plays j l)) in

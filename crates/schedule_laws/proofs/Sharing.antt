@@ -81,18 +81,27 @@ module _ (participants : List ParticipantValue) (free : List ℕ) (n : ℕ) (sha
   -- a task has it once
   once_in : (p i : ℕ) → p < length participants → of_participant (one i) (participant_at participants p) ≤ 1
   once_in p i h =
-      let a = part (of_participant (one i)) participants p no_participant h in let b = shared (one i) in let c = at_most_one n i in omega arith
+      let a = part (of_participant (one i)) participants p no_participant h in
+      let b = shared (one i) in
+      let c = at_most_one n i in
+      omega arith
 
   -- no other task has it
-  none_in : (p q i : ℕ) → p < length participants → q < length participants → q ≢ p → 1 ≤ of_participant (one i) (participant_at participants p) → of_participant (one i) (participant_at participants q) ≡ 0
+  none_in : (p q i : ℕ) → p < length participants → q < length participants → q ≢ p
+      → 1 ≤ of_participant (one i) (participant_at participants p) → of_participant (one i) (participant_at participants q) ≡ 0
   none_in p q i h k m has =
-      let a = two_parts (of_participant (one i)) participants q p no_participant k h m in let b = shared (one i) in let c = at_most_one n i in omega arith
+      let a = two_parts (of_participant (one i)) participants q p no_participant k h m in
+      let b = shared (one i) in
+      let c = at_most_one n i in
+      omega arith
 
-  pub others_own : (p q i : ℕ) → p < length participants → q < length participants → q ≢ p → 1 ≤ of_participant (one i) (participant_at participants p) → (participant_at participants q).token ≢ i
+  pub others_own : (p q i : ℕ) → p < length participants → q < length participants → q ≢ p
+      → 1 ≤ of_participant (one i) (participant_at participants p) → (participant_at participants q).token ≢ i
   others_own p q i h k m has =
       let a = none_in p q i h k m has in none_of i (participant_at participants q).token (omega arith)
 
-  pub others_child : (p q i j : ℕ) → p < length participants → q < length participants → q ≢ p → 1 ≤ of_participant (one i) (participant_at participants p) → j < length (participant_at participants q).children
+  pub others_child : (p q i j : ℕ) → p < length participants → q < length participants → q ≢ p
+      → 1 ≤ of_participant (one i) (participant_at participants p) → j < length (participant_at participants q).children
       → (child_at (participant_at participants q).children j).token ≢ i
   others_child p q i j h k m has l =
       let a = none_in p q i h k m has in
@@ -100,14 +109,16 @@ module _ (participants : List ParticipantValue) (free : List ℕ) (n : ℕ) (sha
       none_of i (child_at (participant_at participants q).children j).token (omega arith)
 
   -- its token is none of its spawned tasks', and these differ
-  pub child_not_own : (p j : ℕ) → p < length participants → j < length (participant_at participants p).children → (child_at (participant_at participants p).children j).token ≢ (participant_at participants p).token
+  pub child_not_own : (p j : ℕ) → p < length participants → j < length (participant_at participants p).children
+      → (child_at (participant_at participants p).children j).token ≢ (participant_at participants p).token
   child_not_own p j h l =
       let i : ℕ = (participant_at participants p).token in
       let a = once_in p i h in let b = one_itself i in
       let c = part (λ (k : ChildValue). one i k.token) (participant_at participants p).children j no_child l in
       none_of i (child_at (participant_at participants p).children j).token (omega arith)
 
-  pub children_differ : (p j k : ℕ) → p < length participants → j < length (participant_at participants p).children → k < length (participant_at participants p).children → j ≢ k
+  pub children_differ : (p j k : ℕ) → p < length participants → j < length (participant_at participants p).children
+      → k < length (participant_at participants p).children → j ≢ k
       → (child_at (participant_at participants p).children j).token ≢ (child_at (participant_at participants p).children k).token
   children_differ p j k h l m n =
       let i : ℕ = (child_at (participant_at participants p).children k).token in
@@ -116,9 +127,13 @@ module _ (participants : List ParticipantValue) (free : List ℕ) (n : ℕ) (sha
       none_of i (child_at (participant_at participants p).children j).token (omega arith)
 
   -- no free token is a task's
-  pub free_not : (p i : ℕ) → p < length participants → 1 ≤ of_participant (one i) (participant_at participants p) → AllByRecursion (λ t. t ≢ i) free
+  pub free_not : (p i : ℕ) → p < length participants → 1 ≤ of_participant (one i) (participant_at participants p)
+      → AllByRecursion (λ t. t ≢ i) free
   free_not p i h has =
-      let a = part (of_participant (one i)) participants p no_participant h in let b = shared (one i) in let c = at_most_one n i in each free (omega arith)
+      let a = part (of_participant (one i)) participants p no_participant h in
+      let b = shared (one i) in
+      let c = at_most_one n i in
+      each free (omega arith)
     where
       each : (ts : List ℕ) → sum_by (one i) ts ≡ 0 → AllByRecursion (λ t. t ≢ i) ts
       each [] z = tt

@@ -29,7 +29,10 @@ answer_count measure g a = by (is_done a) (is_refused a)
     home Leaving = refl
     home Over = refl
 
-    by : (b c : Bool) → of_participant measure (if b then record g { stage = next_stage g.stage (length g.children) } else (if c then sent_home g g.stage else g)) ≡ of_participant measure g
+    by : (b c : Bool)
+        → of_participant measure
+        (if b then record g { stage = next_stage g.stage (length g.children) } else (if c then sent_home g g.stage else g))
+        ≡ of_participant measure g
     by true c = refl
     by false true = home g.stage
     by false false = refl
@@ -60,7 +63,8 @@ none home = Out
 
 module _ (roles : List Role) (tiers token home : ℕ) (children : List ChildValue) (synced : Bool)
     (homes : (k : ℕ) → k < length children → (child_at children k).home < tiers) (own : role_at roles token ≡ Here home) where
-  pub arriving_sits : (n : ℕ) → n ≤ length children → AreChildren gone Ready roles children n → SitsAt (arriving n (length children)) roles tiers token home children synced
+  pub arriving_sits : (n : ℕ) → n ≤ length children → AreChildren gone Ready roles children n
+      → SitsAt (arriving n (length children)) roles tiers token home children synced
   arriving_sits n l each = by (nat_lt n (length children)) refl
     where
       by : (b : Bool) → nat_lt n (length children) ≡ b → SitsAt (if b then Arriving n else Leaving) roles tiers token home children synced
@@ -74,10 +78,12 @@ module _ (roles : List Role) (tiers token home : ℕ) (children : List ChildValu
           let m : length children ≤ n = ltb-false n (length children) e in
           record { own = inl own; each = λ k h. (each k h).0 (omega arith); turn = tt; homes = homes }
 
-  pub joining_sits : (n : ℕ) → n ≤ length children → AreChildren Ready none roles children n → SitsAt (joining n (length children)) roles tiers token home children synced
+  pub joining_sits : (n : ℕ) → n ≤ length children → AreChildren Ready none roles children n
+      → SitsAt (joining n (length children)) roles tiers token home children synced
   joining_sits n l each = by (nat_lt n (length children)) refl
     where
-      by : (b : Bool) → nat_lt n (length children) ≡ b → SitsAt (if b then Joining n else arriving 0 (length children)) roles tiers token home children synced
+      by : (b : Bool) → nat_lt n (length children) ≡ b
+          → SitsAt (if b then Joining n else arriving 0 (length children)) roles tiers token home children synced
       by true e = record {
         own = own;
         each = λ k h. ((each k h).0, λ q. inl ((each k h).1 (omega arith)), λ q. (each k h).1 (omega arith));
@@ -91,7 +97,8 @@ module _ (roles : List Role) (tiers token home : ℕ) (children : List ChildValu
 -- the step of its token
 module _ (g : ParticipantValue) (roles roles' : List Role) (tiers : ℕ) (next : Role) (a : Played)
     (own : role_at roles' g.token ≡ next)
-    (same : (k : ℕ) → k < length g.children → role_at roles' (child_at g.children k).token ≡ role_at roles (child_at g.children k).token) where
+    (same : (k : ℕ) → k < length g.children
+    → role_at roles' (child_at g.children k).token ≡ role_at roles (child_at g.children k).token) where
   pub after_poll : g.stage ≡ Polling → SitsAt Polling roles tiers g.token g.home g.children g.synced
       → (goes_same a × (next ≡ Polls g.home)) ⊎ ((is_done a ≡ true) × (next ≡ Here g.home)) → Sits roles' tiers (answered g a)
   after_poll at is f = ⊎_elim
@@ -102,13 +109,16 @@ module _ (g : ParticipantValue) (roles roles' : List Role) (tiers : ℕ) (next :
       (λ k h. (λ l. absurd (omega arith), λ l. same k h ∙ is.each k h))))
       f
 
-  pub after_pass : g.stage ≡ Leaving → SitsAt Leaving roles tiers g.token g.home g.children g.synced → PassEnds g.home (passage_if g.synced) a next
+  pub after_pass : g.stage ≡ Leaving → SitsAt Leaving roles tiers g.token g.home g.children g.synced
+      → PassEnds g.home (passage_if g.synced) a next
       → Sits roles' tiers (answered g a)
   after_pass at is f = ⊎_elim
       (λ q. done_sits g a roles' tiers Leaving at q.0
       (record { own = own ∙ q.1; each = λ k h. same k h ∙ is.each k h; turn = tt; homes = is.homes }))
       (λ q. kept_sits g a roles' tiers Leaving at q.0 (record {
-        own = ⊎_elim (λ p. ⊎_elim (λ e. inr (inl (own ∙ e))) (λ p. ⊎_elim (λ e. inr (inr (inl (own ∙ e)))) (λ e. inr (inr (inr (inl (own ∙ e))))) p) p)
+        own =
+            ⊎_elim
+            (λ p. ⊎_elim (λ e. inr (inl (own ∙ e))) (λ p. ⊎_elim (λ e. inr (inr (inl (own ∙ e)))) (λ e. inr (inr (inr (inl (own ∙ e))))) p) p)
             (λ e. inr (inr (inr (inr (own ∙ e))))) q.1;
         each = λ k h. same k h ∙ is.each k h;
         turn = tt;
@@ -119,10 +129,12 @@ module _ (g : ParticipantValue) (roles roles' : List Role) (tiers : ℕ) (next :
 -- a step of the token of a spawned task
 module _ (g : ParticipantValue) (roles roles' : List Role) (tiers n : ℕ) (next : Role) (a : Played)
     (own : role_at roles' g.token ≡ role_at roles g.token) (here : role_at roles' (child_at g.children n).token ≡ next)
-    (same : (k : ℕ) → k < length g.children → k ≢ n → role_at roles' (child_at g.children k).token ≡ role_at roles (child_at g.children k).token) where
+    (same : (k : ℕ) → k < length g.children → k ≢ n
+    → role_at roles' (child_at g.children k).token ≡ role_at roles (child_at g.children k).token) where
   -- at this place, or at another
   place : (P : Role → ℕ → Type 0) (k : ℕ) → k < length g.children → (k ≡ n → P next (child_at g.children n).home)
-      → (k ≢ n → P (role_at roles (child_at g.children k).token) (child_at g.children k).home) → P (role_at roles' (child_at g.children k).token) (child_at g.children k).home
+      → (k ≢ n → P (role_at roles (child_at g.children k).token) (child_at g.children k).home)
+      → P (role_at roles' (child_at g.children k).token) (child_at g.children k).home
   place P k h at other = ⊎_elim
       (λ (e : k ≡ n). subst (λ (m : ℕ). P (role_at roles' (child_at g.children m).token) (child_at g.children m).home) (sym e)
       (subst (λ (r : Role). P r (child_at g.children n).home) (sym here) (at e)))
@@ -183,7 +195,8 @@ module _ (g : ParticipantValue) (roles roles' : List Role) (tiers n : ℕ) (next
       let children' : List ChildValue = set g.children n (record (child_at g.children n) { home = g.home }) in
       let len : length children' ≡ length g.children = length-set g.children n (record (child_at g.children n) { home = g.home }) in
       let turn : n < length g.children = is.turn in
-      let here' : child_at children' n ≡ sent = get_or-set_same g.children n (record (child_at g.children n) { home = g.home }) no_child turn in
+      let here' : child_at children' n ≡ sent =
+      get_or-set_same g.children n (record (child_at g.children n) { home = g.home }) no_child turn in
       let there : (k : ℕ) → k ≢ n → child_at children' k ≡ child_at g.children k =
       λ k o. get_or-set_other g.children n k (record (child_at g.children n) { home = g.home }) no_child o in
       subst (λ (s : Stage). SitsAt s roles' tiers g.token g.home children' g.synced) (sym at) (record {
@@ -213,7 +226,8 @@ module _ (g : ParticipantValue) (roles roles' : List Role) (tiers n : ℕ) (next
       q) f
 
   pub after_arrival : g.stage ≡ Arriving n → SitsAt (Arriving n) roles tiers g.token g.home g.children g.synced
-      → ((is_done a ≡ true) × (next ≡ Past (child_at g.children n).home Arrival)) ⊎ (goes_same a × ArrivesAt (child_at g.children n).home next)
+      → ((is_done a ≡ true) × (next ≡ Past (child_at g.children n).home Arrival))
+      ⊎ (goes_same a × ArrivesAt (child_at g.children n).home next)
       → Sits roles' tiers (answered g a)
   after_arrival at is f = ⊎_elim
       (λ q. done_sits g a roles' tiers (Arriving n) at q.0 (arrived is q.1))

@@ -50,7 +50,8 @@ polls_go s i home core going root p =
     step.goes_on
 
 -- a token in the root's phase that is to pass its tier
-ready_then : (s : State) (i home : ℕ) (passage : Passage) → IsCore s → RootStays s (after s (Go i)) → IsReady s i home → IsSame (view_at s.views i) (view_then s i)
+ready_then : (s : State) (i home : ℕ) (passage : Passage) → IsCore s → RootStays s (after s (Go i)) → IsReady s i home
+    → IsSame (view_at s.views i) (view_then s i)
     → call_then s i ≡ Passing passage → IsReady (after s (Go i)) i home
 ready_then s i home passage core root is same e =
     let core' = core_after s (Go i) core tt in
@@ -65,7 +66,8 @@ ready_then s i home passage core root is same e =
       phase = same.phase ∙ (is.phase ∙ sym root.phase);
     }
 
-looks_go : (s : State) (i home : ℕ) (passage : Passage) → IsCore s → (flat_of s).ended ≡ false → RootStays s (after s (Go i)) → Plays s i (Looks home passage)
+looks_go : (s : State) (i home : ℕ) (passage : Passage) → IsCore s → (flat_of s).ended ≡ false → RootStays s (after s (Go i))
+    → Plays s i (Looks home passage)
     → (next : Role) × Goes s i (Looks home passage) next
 looks_go s i home passage core going root p =
     let step = passes_begin_with_a_look s i passage core going p.0.late.awaited p.0.phase p.1 in (
@@ -80,7 +82,8 @@ looks_go s i home passage core going root p =
 abbrev IsWaiting : State → ℕ → Passage → Type 0
 IsWaiting s i passage = IsSame (view_at s.views i) (view_then s i) × (answer_then s i ≡ GoesOn) × (call_then s i ≡ Passing passage)
 
-waits_or_counts : (s : State) (i : ℕ) (passage : Passage) → IsCore s → i < length s.views → (flat_of s).ended ≡ false → call_at s.calls i ≡ Passing passage
+waits_or_counts : (s : State) (i : ℕ) (passage : Passage) → IsCore s → i < length s.views → (flat_of s).ended ≡ false
+    → call_at s.calls i ≡ Passing passage
     → IsWaiting s i passage ⊎ IsOwnStep s i passage
 waits_or_counts s i passage core h going e =
     let v : View = view_at s.views i in
@@ -88,7 +91,8 @@ waits_or_counts s i passage core h going e =
     let some : (view_at s.views i).arrived < (view_at s.views i).size = fits.1 in
     let fit = fits_at s i core h in
     let within : v.tier < length s.words = subst (λ (n : ℕ). v.tier < n) (sym core.tally.long) (fit.placed (omega arith)) in
-    pass_goes s i passage v.tier passage (own_kind passage) (Passing passage) (end_shown (word_at s.words v.tier)) (IsWaiting s i passage ⊎ IsOwnStep s i passage)
+    pass_goes s i passage v.tier passage (own_kind passage) (Passing passage) (end_shown (word_at s.words v.tier))
+    (IsWaiting s i passage ⊎ IsOwnStep s i passage)
     (still_going s v.tier core going within) (own_errand s i passage)
     (λ g. inl (
       record {
@@ -104,16 +108,23 @@ waits_or_counts s i passage core h going e =
     (gone s i (Passing passage) core h e refl)
 
 -- the member has been counted
-counted_then : (s : State) (i home : ℕ) (passage : Passage) → IsCore s → RootStays s (after s (Go i)) → IsReady s i home → (view_at s.views i).arrived < (view_at s.views i).size
+counted_then : (s : State) (i home : ℕ) (passage : Passage) → IsCore s → RootStays s (after s (Go i)) → IsReady s i home
+    → (view_at s.views i).arrived < (view_at s.views i).size
     → Counts passage (view_at s.views i) (view_then s i) → HasCounted (after s (Go i)) i home passage
 counted_then s i home Arrival core root is some c =
-    let one = is.late.one in
-    (known_after s i is.late.awaited.known, c.0 ∙ is.late.tier, c.1 ∙ is.late.one, c.2 ∙ (is.phase ∙ sym root.phase), (let a = c.3 in omega arith))
+    let one = is.late.one in (
+      known_after s i is.late.awaited.known,
+      c.0 ∙ is.late.tier,
+      c.1 ∙ is.late.one,
+      c.2 ∙ (is.phase ∙ sym root.phase),
+      (let a = c.3 in omega arith),
+    )
 counted_then s i home Departure core root is some c =
     let one = is.late.one in
     (known_after s i is.late.awaited.known, (let a = c.1 in omega arith))
 
-passes_go : (s : State) (i home : ℕ) (passage : Passage) → IsCore s → (flat_of s).ended ≡ false → RootStays s (after s (Go i)) → Plays s i (Passes home passage)
+passes_go : (s : State) (i home : ℕ) (passage : Passage) → IsCore s → (flat_of s).ended ≡ false → RootStays s (after s (Go i))
+    → Plays s i (Passes home passage)
     → (next : Role) × Goes s i (Passes home passage) next
 passes_go s i home passage core going root p =
     let fits = fitting s i (Passing passage) core p.0.late.awaited.known p.1 in
@@ -143,7 +154,8 @@ passes_go s i home passage core going root p =
     (waits_or_counts s i passage core p.0.late.awaited.known going p.1)
 
 -- a climb
-climbed : (s : State) (i home : ℕ) (passage : Passage) → RootStays s (after s (Go i)) → HasCounted s i home passage → IsSame (view_at s.views i) (view_then s i)
+climbed : (s : State) (i home : ℕ) (passage : Passage) → RootStays s (after s (Go i)) → HasCounted s i home passage
+    → IsSame (view_at s.views i) (view_then s i)
     → HasCounted (after s (Go i)) i home passage
 climbed s i home Arrival root is same =
     (known_after s i is.0, same.tier ∙ is.1, same.size ∙ is.2, same.phase ∙ (is.3 ∙ sym root.phase), same.arrived ∙ is.4)
@@ -153,7 +165,8 @@ known_by : (s : State) (i home : ℕ) (passage : Passage) → HasCounted s i hom
 known_by s i home Arrival is = is.0
 known_by s i home Departure is = is.0
 
-owes_go : (s : State) (i home : ℕ) (passage : Passage) → IsCore s → (flat_of s).ended ≡ false → RootStays s (after s (Go i)) → Plays s i (Owes home passage)
+owes_go : (s : State) (i home : ℕ) (passage : Passage) → IsCore s → (flat_of s).ended ≡ false → RootStays s (after s (Go i))
+    → Plays s i (Owes home passage)
     → (next : Role) × Goes s i (Owes home passage) next
 owes_go s i home passage core going root p =
     let step = climbs_keep_members s i passage core (known_by s i home passage p.0) p.1 in

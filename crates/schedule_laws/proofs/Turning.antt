@@ -41,7 +41,8 @@ pub record IsNext (w : World) (roles roles' : List Role) (tiers place i : ℕ) (
   pub count : (measure : ℕ → ℕ) → of_participant measure g ≡ of_participant measure (participant_at w.participants place)
   pub sits : Sits roles' tiers g
 
-pub next_sits : (w : World) (roles roles' : List Role) (tiers place i n : ℕ) (g : ParticipantValue) → AreShared w.participants w.free n → place < length w.participants
+pub next_sits : (w : World) (roles roles' : List Role) (tiers place i n : ℕ) (g : ParticipantValue) → AreShared w.participants w.free n
+    → place < length w.participants
     → ((q : ℕ) → q < length w.participants → Sits roles tiers (participant_at w.participants q)) → IsNext w roles roles' tiers place i g
     → (q : ℕ) → q < length (set w.participants place g) → Sits roles' tiers (participant_at (set w.participants place g) q)
 next_sits w roles roles' tiers place i n g shared h sits is q l =
@@ -49,7 +50,8 @@ next_sits w roles roles' tiers place i n g shared h sits is q l =
     let m : q < length w.participants = omega arith in
     ⊎_elim
     (λ (e : q ≡ place).
-    subst (λ (x : ParticipantValue). Sits roles' tiers x) (sym (ap (participant_at (set w.participants place g)) e ∙ get_or-set_same w.participants place g no_participant h)) is.sits)
+    subst (λ (x : ParticipantValue). Sits roles' tiers x)
+    (sym (ap (participant_at (set w.participants place g)) e ∙ get_or-set_same w.participants place g no_participant h)) is.sits)
     (λ (o : q ≢ place).
     let x : ParticipantValue = participant_at w.participants q in
     subst (λ (y : ParticipantValue). Sits roles' tiers y) (sym (get_or-set_other w.participants place q g no_participant o))
@@ -62,19 +64,26 @@ next_sits w roles roles' tiers place i n g shared h sits is q l =
 pub next_shared : (w : World) (roles roles' : List Role) (tiers place i n : ℕ) (g : ParticipantValue) → AreShared w.participants w.free n
     → IsNext w roles roles' tiers place i g → AreShared (set w.participants place g) w.free n
 next_shared w roles roles' tiers place i n g shared is = λ measure.
-    let a = sum_set_same (of_participant measure) w.participants place g no_participant (is.count measure) in let b = shared measure in omega arith
+    let a = sum_set_same (of_participant measure) w.participants place g no_participant (is.count measure) in
+    let b = shared measure in
+    omega arith
 
-pub next_free : (w : World) (roles roles' : List Role) (tiers place i n : ℕ) (g : ParticipantValue) → AreShared w.participants w.free n → place < length w.participants
-    → AllByRecursion (λ t. role_at roles t ≡ Out) w.free → IsNext w roles roles' tiers place i g → AllByRecursion (λ t. role_at roles' t ≡ Out) w.free
+pub next_free : (w : World) (roles roles' : List Role) (tiers place i n : ℕ) (g : ParticipantValue) → AreShared w.participants w.free n
+    → place < length w.participants
+    → AllByRecursion (λ t. role_at roles t ≡ Out) w.free → IsNext w roles roles' tiers place i g
+    → AllByRecursion (λ t. role_at roles' t ≡ Out) w.free
 next_free w roles roles' tiers place i n g shared h free is = each w.free free (free_not w.participants w.free n shared place i h is.mine)
   where
-    each : (ts : List ℕ) → AllByRecursion (λ t. role_at roles t ≡ Out) ts → AllByRecursion (λ t. t ≢ i) ts → AllByRecursion (λ t. role_at roles' t ≡ Out) ts
+    each : (ts : List ℕ) → AllByRecursion (λ t. role_at roles t ≡ Out) ts → AllByRecursion (λ t. t ≢ i) ts
+        → AllByRecursion (λ t. role_at roles' t ≡ Out) ts
     each [] a b = tt
     each (t ∷ ts) a b = (is.same t b.0 ∙ a.0, each ts a.1 b.1)
 
-pub turn_works : (parents : List ℕ) (w : World) (roles roles' : List Role) (place i taken : ℕ) (g : ParticipantValue) (tree : State) (hands : List (Option ℕ))
+pub turn_works : (parents : List ℕ) (w : World) (roles roles' : List Role) (place i taken : ℕ) (g : ParticipantValue) (tree : State)
+    (hands : List (Option ℕ))
     → IsWorking parents w roles → place < length w.participants → ((q : ℕ) → taken ≤ q → (q ≢ place) × (w.taken ≤ q))
-    → IsNext w roles roles' (length parents) place i g → IsCast tree roles' → (flat_of tree).phase ≡ (flat_of w.tree).phase → IsSameTree w.tree tree
+    → IsNext w roles roles' (length parents) place i g → IsCast tree roles' → (flat_of tree).phase ≡ (flat_of w.tree).phase
+    → IsSameTree w.tree tree
     → IsWorking parents (record (with_participant w place g) { tree = tree; hands = hands; taken = taken }) roles'
 turn_works parents w roles roles' place i taken g tree hands is h rest next cast phase same =
     let len : length (set w.participants place g) ≡ length w.participants = length-set w.participants place g in
@@ -89,5 +98,6 @@ turn_works parents w roles roles' place i taken g tree hands is h rest next cast
       free = next_free w roles roles' (length parents) place i n g is.shared h is.free next;
       waits = λ q a b.
           let k : q < length w.participants = omega arith in
-          ap (λ (x : ParticipantValue). x.stage) (get_or-set_other w.participants place q g no_participant (rest q a).0) ∙ is.waits q (rest q a).1 k;
+          ap (λ (x : ParticipantValue). x.stage) (get_or-set_other w.participants place q g no_participant (rest q a).0)
+          ∙ is.waits q (rest q a).1 k;
     }

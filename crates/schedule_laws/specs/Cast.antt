@@ -58,7 +58,8 @@ abbrev pub Follows : ℕ → Role → Played → Role → Type 0
 Follows now Out answer next = ⊥
 Follows now (Joins home) answer next = (answer ≡ GoesOn) × (next ≡ Seeks home 0)
 Follows now (Seeks home claimed) answer next = ((answer ≡ Done now) × (next ≡ Ready home)) ⊎ ((answer ≡ GoesOn) × (next ≡ Settles home))
-    ⊎ ((answer ≡ GoesOn) × ((more : ℕ) × (next ≡ Seeks home more))) ⊎ ((is_refused answer ≡ true) × (next ≡ Out)) ⊎ ((answer ≡ GoesOn) × (next ≡ GivesBack))
+    ⊎ ((answer ≡ GoesOn) × ((more : ℕ) × (next ≡ Seeks home more))) ⊎ ((is_refused answer ≡ true) × (next ≡ Out))
+    ⊎ ((answer ≡ GoesOn) × (next ≡ GivesBack))
 Follows now (Settles home) answer next = ((answer ≡ Done now) × (next ≡ Ready home)) ⊎ ((answer ≡ GoesOn) × (next ≡ Settles home))
 Follows now GivesBack answer next = ((is_refused answer ≡ true) × (next ≡ Out)) ⊎ ((answer ≡ GoesOn) × (next ≡ GivesBack))
 Follows now (Late home) answer next = ⊥
@@ -67,9 +68,12 @@ Follows now (Polls home) answer next =
 Follows now (Ready home) answer next = ⊥
 Follows now (Here home) answer next = ⊥
 Follows now (Looks home passage) answer next = (answer ≡ GoesOn) × (next ≡ Passes home passage)
-Follows now (Passes home passage) answer next = ((answer ≡ GoesOn) × (next ≡ Passes home passage)) ⊎ ((answer ≡ Done now) × (next ≡ Past home passage))
-    ⊎ ((answer ≡ GoesOn) × (next ≡ Owes home passage)) ⊎ (((parties : ℕ) × (answer ≡ MustAdvance now parties)) × (next ≡ Leads home passage))
-Follows now (Owes home passage) answer next = (((phase : ℕ) × (answer ≡ Done phase)) × (next ≡ Past home passage)) ⊎ ((answer ≡ GoesOn) × (next ≡ Owes home passage))
+Follows now (Passes home passage) answer next =
+    ((answer ≡ GoesOn) × (next ≡ Passes home passage)) ⊎ ((answer ≡ Done now) × (next ≡ Past home passage))
+    ⊎ ((answer ≡ GoesOn) × (next ≡ Owes home passage))
+    ⊎ (((parties : ℕ) × (answer ≡ MustAdvance now parties)) × (next ≡ Leads home passage))
+Follows now (Owes home passage) answer next =
+    (((phase : ℕ) × (answer ≡ Done phase)) × (next ≡ Past home passage)) ⊎ ((answer ≡ GoesOn) × (next ≡ Owes home passage))
     ⊎ (((parties : ℕ) × (phase : ℕ) × (answer ≡ MustAdvance phase parties)) × (next ≡ Leads home passage))
 Follows now (Leads home passage) answer next = ⊥
 Follows now (Past home passage) answer next = ⊥
@@ -117,7 +121,8 @@ NobodyLeads =
 -- If one token leads no other climbs, or leads.
 abbrev pub LeadersAreAlone : Type 0
 LeadersAreAlone =
-    (s : State) (roles : List Role) (token other home : ℕ) (passage : Passage) → IsCast s roles → token < length s.views → other < length s.views
+    (s : State) (roles : List Role) (token other home : ℕ) (passage : Passage) → IsCast s roles → token < length s.views
+    → other < length s.views
     → other ≢ token → is_leading (role_at roles token) ≡ true
     → (role_at roles other ≡ Owes home passage) ⊎ (role_at roles other ≡ Leads home passage) → ⊥
 

@@ -79,7 +79,8 @@ AdvancesAreCounted =
 -- A spawned task's join at the tier of its spawner is never refused.
 abbrev pub SpawnsHaveRoomAtHome : Type 0
 SpawnsHaveRoomAtHome =
-    (p : Program) (parents : List ℕ) (limit : ℕ) (xs : List JobStep) (x : JobStep) (place token : ℕ) (played : Played) → IsDriven p parents limit
+    (p : Program) (parents : List ℕ) (limit : ℕ) (xs : List JobStep) (x : JobStep) (place token : ℕ) (played : Played)
+    → IsDriven p parents limit
     → move_of (reached (initial_world p parents limit) xs) (worker_of x)
     ≡ Some (Calls place token (call.Join (participant_at (reached (initial_world p parents limit) xs).participants place).home 1))
     → answer_of (reached (initial_world p parents limit) xs) x ≡ Stepped played → is_refused played ≡ false

@@ -20,14 +20,17 @@ use Rattle.schedule_laws.specs.Laws.{IsDriven}
 abbrev pub alone : Program
 alone = record { arrays = []; plans = record { ahead = Done; locals = 0 } ∷ []; starts = record { body = 0; arg = pos 0 } ∷ [] }
 
--- One worker on one tier: the task is taken, delivered, polls, and leaves; as the last it advances the root, and its worker closes the round.
+-- One worker on one tier: the task is taken, delivered, polls, and leaves; as the last it advances the root, and its worker closes the
+-- round.
 abbrev pub one_worker : List JobStep
 one_worker = Take 0 ∷ Deliver 0 ∷ Tree 0 ∷ Tree 0 ∷ Tree 0 ∷ Advance 0 ∷ Close 0 ∷ Take 0 ∷ []
 
 abbrev pub answers_one : List AnswerValue
 answers_one =
     Took (0 ∷ []) ∷ Delivered ∷ Stepped (IsDone 0) ∷ Stepped GoesOn ∷ Stepped (MustAdvance 0 0) ∷ Advanced (IsDone 0)
-    ∷ Finished (record { prints = []; records = record { phase = 0; parties = 1; left = 1; spawned = 0 } ∷ []; arrays = []; status = Ended 1 }) ∷ NotNow ∷ []
+    ∷ Finished
+    (record { prints = []; records = record { phase = 0; parties = 1; left = 1; spawned = 0 } ∷ []; arrays = []; status = Ended 1 })
+    ∷ NotNow ∷ []
 
 -- two tasks that take another superstep
 abbrev pub pair : Program
@@ -37,8 +40,8 @@ pair = record {
   starts = record { body = 0; arg = pos 0 } ∷ record { body = 0; arg = pos 0 } ∷ [];
 }
 
--- Two workers on two leaves: the first task arrives at its leaf, and climbs to the root; nobody closes before the other has, who advances the
--- root. Only the worker that advanced closes, and then the tasks are ready again.
+-- Two workers on two leaves: the first task arrives at its leaf, and climbs to the root; nobody closes before the other has, who advances
+-- the root. Only the worker that advanced closes, and then the tasks are ready again.
 abbrev pub two_workers : List JobStep
 two_workers =
     Take 0 ∷ Take 1 ∷ Deliver 0 ∷ Deliver 1 ∷ Tree 0 ∷ Tree 0 ∷ Tree 0 ∷ Tree 0 ∷ Close 0 ∷ Take 0
@@ -46,8 +49,10 @@ two_workers =
 
 abbrev pub answers_two : List AnswerValue
 answers_two =
-    Took (0 ∷ []) ∷ Took (1 ∷ []) ∷ Delivered ∷ Delivered ∷ Stepped (IsDone 0) ∷ Stepped GoesOn ∷ Stepped GoesOn ∷ Stepped (IsDone 0) ∷ NotNow ∷ NotNow
-    ∷ Stepped (IsDone 0) ∷ Stepped GoesOn ∷ Stepped GoesOn ∷ Stepped (MustAdvance 0 2) ∷ NotNow ∷ Advanced (IsDone 0) ∷ NotNow ∷ Closed ∷ Took (0 ∷ []) ∷ []
+    Took (0 ∷ []) ∷ Took (1 ∷ []) ∷ Delivered ∷ Delivered ∷ Stepped (IsDone 0) ∷ Stepped GoesOn ∷ Stepped GoesOn ∷ Stepped (IsDone 0)
+    ∷ NotNow ∷ NotNow
+    ∷ Stepped (IsDone 0) ∷ Stepped GoesOn ∷ Stepped GoesOn ∷ Stepped (MustAdvance 0 2) ∷ NotNow ∷ Advanced (IsDone 0) ∷ NotNow ∷ Closed
+    ∷ Took (0 ∷ []) ∷ []
 
 -- a task that spawns one and goes on, one that goes on, and one that divides by zero
 abbrev pub uneven : Program

@@ -21,7 +21,8 @@ passage_if false = Departure
 
 -- a token that is to take such a passage from its tier, or is on its way
 abbrev pub IsOwnPassing : ℕ → Passage → Role → Type 0
-IsOwnPassing home passage own = (own ≡ Here home) ⊎ (own ≡ Looks home passage) ⊎ (own ≡ Passes home passage) ⊎ (own ≡ Owes home passage) ⊎ (own ≡ Leads home passage)
+IsOwnPassing home passage own =
+    (own ≡ Here home) ⊎ (own ≡ Looks home passage) ⊎ (own ≡ Passes home passage) ⊎ (own ≡ Owes home passage) ⊎ (own ≡ Leads home passage)
 
 -- the role of a task's token, by how far the task has come
 abbrev pub OwnFits : Stage → ℕ → Bool → Role → Type 0
@@ -66,7 +67,8 @@ HasTurn _ _ = Unit {0}
 -- a number of tiers
 pub record SitsAt (stage : Stage) (roles : List Role) (tiers token home : ℕ) (children : List ChildValue) (synced : Bool) : Type 0 where
   pub own : OwnFits stage home synced (role_at roles token)
-  pub each : (number : ℕ) → number < length children → ChildFits stage home number (child_at children number).home (role_at roles (child_at children number).token)
+  pub each : (number : ℕ) → number < length children
+      → ChildFits stage home number (child_at children number).home (role_at roles (child_at children number).token)
   pub turn : HasTurn stage (length children)
   pub homes : (number : ℕ) → number < length children → (child_at children number).home < tiers
 
@@ -84,7 +86,8 @@ of_all (suc n) measure = of_all n measure + measure n
 -- Each token up to a number is a live task's, or a spawned one's, or free, and it is so once: by any measure they count
 -- the same.
 abbrev pub AreShared : List ParticipantValue → List ℕ → ℕ → Type 0
-AreShared participants free tokens = (measure : ℕ → ℕ) → sum_by (of_participant measure) participants + sum_by measure free ≡ of_all tokens measure
+AreShared participants free tokens =
+    (measure : ℕ → ℕ) → sum_by (of_participant measure) participants + sum_by measure free ≡ of_all tokens measure
 
 -- what no step of a superstep changes
 pub record IsBuilt (parents : List ℕ) (w : World) : Type 0 where

@@ -11,7 +11,8 @@ use Rattle.job_program.proofs.Starts.{starts_begin}
 use Rattle.step_core.specs.Laws.{LivePathsRise}
 
 pub live-paths-rise : LivePathsRise
-live-paths-rise p limit k = program.live-paths-rise (job_says p.plans) (numbers p.plans) (stays p.plans) p.arrays (starts p) limit k (starts_begin p)
+live-paths-rise p limit k =
+    program.live-paths-rise (job_says p.plans) (numbers p.plans) (stays p.plans) p.arrays (starts p) limit k (starts_begin p)
 
 pub reached_rises : (r : RoundValue) → IsRound r → is_rising (live_paths (state_of r)) ≡ true
 reached_rises r h = ap (λ (x : State). is_rising (live_paths x)) h.reached.1 ∙ live-paths-rise (program_of r.job) r.limit h.reached.0

@@ -109,7 +109,9 @@ one_more r c st e =
     let q = c.round.reached.1 in
     let p = program_of r.job in (
       suc n,
-      e ∙ ap (superstep p) q ∙ sym (goes (job_says p.plans) p.arrays (starts p) (status r.limit (so_far p r.limit n)) (so_far p r.limit n) (superstep p (so_far p r.limit n)) (ap (status r.limit) (sym q) ∙ c.run)),
+      e ∙ ap (superstep p) q
+          ∙ sym
+          (goes (job_says p.plans) p.arrays (starts p) (status r.limit (so_far p r.limit n)) (so_far p r.limit n) (superstep p (so_far p r.limit n)) (ap (status r.limit) (sym q) ∙ c.run)),
     )
 
 -- a superstep by what was delivered
@@ -124,7 +126,8 @@ EndsBy r f = IsRound (with_fault r f) × ((new : RoundValue) → new ≡ with_fa
 by_fault : (r : RoundValue) → Closes r → (f : ℕ × List ℕ) → next_state r ≡ ended_by (state_of r) f → EndsBy r f
 by_fault r c f e = (
   record { reached = one_more r c (ended_by (state_of r) f) (sym e); fits = c.round.fits; few = c.round.few },
-  λ new is. subst (λ (x : RoundValue). Opens x r.job r.limit (next_state r)) (sym is) (record { job = refl; limit = refl; state = sym e; none_yet = λ h. cc }),
+  λ new is. subst (λ (x : RoundValue). Opens x r.job r.limit (next_state r)) (sym is)
+      (record { job = refl; limit = refl; state = sym e; none_yet = λ h. cc }),
 )
 
 not_many : (ts : List Task) → nat_lt 4096 (length ts) ≡ false → too_many ts ≡ None
@@ -134,12 +137,14 @@ are_many : (ts : List Task) → nat_lt 4096 (length ts) ≡ true → too_many ts
 are_many ts b = ap (λ (t : Bool). if t then Some (7, []) else None) b
 
 -- the next live tasks as the code has them
-pub next_mapped : (ps : List Plan) (ss : List SlotValue) → map (task_of ps) (in_path_order path_in (living_in ss)) ≡ next_live (delivered (slots_of ps ss))
+pub next_mapped : (ps : List Plan) (ss : List SlotValue)
+    → map (task_of ps) (in_path_order path_in (living_in ss)) ≡ next_live (delivered (slots_of ps ss))
 next_mapped ps ss =
     put_all_mapped path_in (λ (t : Task). t.path) (task_of ps) (λ t. refl) (living_in ss) []
     ∙ ap (in_path_order (λ (t : Task). t.path)) (living_mapped ps ss)
 
-next_length : (r : RoundValue) (xs : List SlotValue) → xs ≡ map fresh_slot (in_path_order path_in (living_in r.slots)) → length (next_live (deeds r)) ≡ length xs
+next_length : (r : RoundValue) (xs : List SlotValue) → xs ≡ map fresh_slot (in_path_order path_in (living_in r.slots))
+    → length (next_live (deeds r)) ≡ length xs
 next_length r xs e =
     let ps = plans r.job.bodies in
     ap length (sym (next_mapped ps r.slots))
@@ -167,9 +172,20 @@ gone_further r c none fits xs ex le a ea prints ep records er =
     let k : next_state r ≡ gone_on (state_of r) (deeds r) (next_live (deeds r)) =
     by_delivered r c ∙ (λ i. closed (state_of r) (deeds r) (or_next (none i) (or_next (not_many (next_live (deeds r)) b i) (fits i)))) in
     let slots : slots_of ps xs ≡ map fresh (map (task_of ps) ts) = ap (slots_of ps) ex ∙ fresh_mapped ps ts in
-    let live : map task_in (slots_of ps xs) ≡ next_live (deeds r) = ap (map task_in) slots ∙ fresh_tasks (map (task_of ps) ts) ∙ next_mapped ps r.slots in
+    let live : map task_in (slots_of ps xs) ≡ next_live (deeds r) =
+    ap (map task_in) slots ∙ fresh_tasks (map (task_of ps) ts) ∙ next_mapped ps r.slots in
     let s : state_of (record r { step = r.step + 1; arrays = a; slots = xs; prints = prints; records = records }) ≡ next_state r =
-    (λ i. record { step = r.step + 1; arrays = ea i; live = live i; prints = ep i; records = er i; fault = no_fault (job_says (program_of r.job).plans) (program_of r.job).arrays (starts (program_of r.job)) r.limit (state_of r) c.run i }) ∙ sym k in (
+    (λ i.
+    record {
+      step = r.step + 1;
+      arrays = ea i;
+      live = live i;
+      prints = ep i;
+      records = er i;
+      fault =
+          no_fault (job_says (program_of r.job).plans) (program_of r.job).arrays (starts (program_of r.job)) r.limit (state_of r) c.run i;
+    })
+    ∙ sym k in (
       record {
         reached = one_more r c _ s;
         fits = subst (AllFit ps a (r.step + 1)) (sym slots) (fresh_fit ps a (r.step + 1) (map (task_of ps) ts));
@@ -202,9 +218,12 @@ more_reported fs gs f e = ap all_counts e ∙ by fs
     by (g ∷ gs) = ap (λ (xs : List PhaseRecord). g.counts ∷ xs) (by gs)
 
 -- as the code keeps it
-pub went_on : (job : JobValue) (limit step : ℕ) (arrays : List (List ℕ × List ℤ)) (slots : List SlotValue) (finished : List FinishedValue) (fault : Option (ℕ × List ℕ))
-    → Closes (whole job limit step arrays slots finished fault) → first_fault (deeds (whole job limit step arrays slots finished fault)) ≡ None
-    → overflow arrays (deeds (whole job limit step arrays slots finished fault)) ≡ None → (xs : List SlotValue) → xs ≡ map fresh_slot (in_path_order path_in (living_in slots)) → length xs ≤ 4096
+pub went_on : (job : JobValue) (limit step : ℕ) (arrays : List (List ℕ × List ℤ)) (slots : List SlotValue) (finished : List FinishedValue)
+    (fault : Option (ℕ × List ℕ))
+    → Closes (whole job limit step arrays slots finished fault)
+    → first_fault (deeds (whole job limit step arrays slots finished fault)) ≡ None
+    → overflow arrays (deeds (whole job limit step arrays slots finished fault)) ≡ None → (xs : List SlotValue)
+    → xs ≡ map fresh_slot (in_path_order path_in (living_in slots)) → length xs ≤ 4096
     → (a : List (List ℕ × List ℤ)) → a ≡ landed (joined (map log_of (deeds (whole job limit step arrays slots finished fault)))) arrays
     → (fs : List FinishedValue) → fs ≡ finished ++ finished_by step (deeds (whole job limit step arrays slots finished fault)) ∷ []
     → IsClosed (whole job limit step arrays slots finished fault) (whole job limit (step + 1) a xs fs fault)
@@ -246,7 +265,8 @@ pub ends_faulted : {r : RoundValue} {ss : List SlotValue} {fault : Option (ℕ �
 ends_faulted {r = r} {f = f} at some =
     by_fault r at.closes f
     (by_delivered r at.closes
-    ∙ ap (λ o. closed (state_of r) (deeds r) (or_next o (or_next (too_many (next_live (deeds r))) (overflow r.arrays (deeds r))))) (at.first ∙ some))
+    ∙ ap (λ o. closed (state_of r) (deeds r) (or_next o (or_next (too_many (next_live (deeds r))) (overflow r.arrays (deeds r)))))
+    (at.first ∙ some))
 
 -- one in which none was found, but after which too many would live, is ended by that, and tells so
 pub ends_by_many : {r : RoundValue} {ss : List SlotValue} {fault : Option (ℕ × List ℕ)} {n : ℕ} {f : ℕ × List ℕ}
@@ -288,32 +308,39 @@ few_outcome r now e none fits xs ex le =
 
 -- one in which neither was found is ended by the first put that overflows, if one does, and tells so
 pub ends_by_over : (r now : RoundValue) → r ≡ now → Closes r → first_fault (deeds r) ≡ None → (xs : List SlotValue)
-    → xs ≡ map fresh_slot (in_path_order path_in (living_in r.slots)) → length xs ≤ 4096 → (f : ℕ × List ℕ) → Some f ≡ overflow r.arrays (deeds r)
+    → xs ≡ map fresh_slot (in_path_order path_in (living_in r.slots)) → length xs ≤ 4096 → (f : ℕ × List ℕ)
+    → Some f ≡ overflow r.arrays (deeds r)
     → EndsBy r f × (Overflowed ≡ outcome_of now.arrays (deeds now))
 ends_by_over r now e c none xs ex le f over =
     let l = next_length r xs ex in
     let b : nat_lt 4096 (length (next_live (deeds r))) ≡ false = grind arith in (
       by_fault r c f
-          (by_delivered r c ∙ (λ i. closed (state_of r) (deeds r) (or_next (none i) (or_next (not_many (next_live (deeds r)) b i) (sym over i))))),
+          (by_delivered r c
+          ∙ (λ i. closed (state_of r) (deeds r) (or_next (none i) (or_next (not_many (next_live (deeds r)) b i) (sym over i))))),
       sym (ap (λ (x : RoundValue). outcome_of x.arrays (deeds x)) (sym e)
           ∙ (λ i. outcome_by (none i) (not_many (next_live (deeds r)) b i) (sym over i))),
     )
 
 -- a round in which nothing but rooms changed is the same
-pub over_now : (job : JobValue) (limit step : ℕ) {a b : List (List ℕ × List ℤ)} → b ≡ a → {xs ys : List SlotValue} → ys ≡ xs → {fs gs : List FinishedValue} → gs ≡ fs
-    → (fault : Option (ℕ × List ℕ)) (f : ℕ × List ℕ) → IsRound (with_fault (whole job limit step a xs fs fault) f) → IsRound (with_fault (whole job limit step b ys gs fault) f)
+pub over_now : (job : JobValue) (limit step : ℕ) {a b : List (List ℕ × List ℤ)} → b ≡ a → {xs ys : List SlotValue} → ys ≡ xs
+    → {fs gs : List FinishedValue} → gs ≡ fs
+    → (fault : Option (ℕ × List ℕ)) (f : ℕ × List ℕ) → IsRound (with_fault (whole job limit step a xs fs fault) f)
+    → IsRound (with_fault (whole job limit step b ys gs fault) f)
 over_now job limit step ea ex ef fault f h = subst IsRound (sym (λ i. with_fault (whole job limit step (ea i) (ex i) (ef i) fault) f)) h
 
-pub over_opens : (job : JobValue) (limit step : ℕ) {a b : List (List ℕ × List ℤ)} → b ≡ a → {xs ys : List SlotValue} → ys ≡ xs → {fs gs : List FinishedValue} → gs ≡ fs
+pub over_opens : (job : JobValue) (limit step : ℕ) {a b : List (List ℕ × List ℤ)} → b ≡ a → {xs ys : List SlotValue} → ys ≡ xs
+    → {fs gs : List FinishedValue} → gs ≡ fs
     → (fault : Option (ℕ × List ℕ)) (f : ℕ × List ℕ) (now new : RoundValue) → whole job limit step a xs fs fault ≡ now
-    → EndsBy (whole job limit step a xs fs fault) f → new ≡ with_fault (whole job limit step b ys gs fault) f → Opens new now.job now.limit (next_state now)
+    → EndsBy (whole job limit step a xs fs fault) f → new ≡ with_fault (whole job limit step b ys gs fault) f
+    → Opens new now.job now.limit (next_state now)
 over_opens job limit step ea ex ef fault f now new is ends e =
     subst (λ (r : RoundValue). Opens new r.job r.limit (next_state r)) is
     (ends.1 new (e ∙ (λ i. with_fault (whole job limit step (ea i) (ex i) (ef i) fault) f)))
 
 -- a round as it opens
 pub opened : (job : JobValue) (limit : ℕ) (arrays : List (List ℕ × List ℤ)) (slots : List SlotValue)
-    → arrays ≡ job.arrays → slots_of (plans job.bodies) slots ≡ map fresh (start_tasks (plans job.bodies) 0 job.starts) → length job.starts ≤ 4096
+    → arrays ≡ job.arrays → slots_of (plans job.bodies) slots ≡ map fresh (start_tasks (plans job.bodies) 0 job.starts)
+    → length job.starts ≤ 4096
     → IsRound (whole job limit 0 arrays slots [] None) × Opens (whole job limit 0 arrays slots [] None) job limit (initial (program_of job))
 opened job limit arrays slots ea es le =
     let ps = plans job.bodies in
@@ -348,12 +375,15 @@ opened job limit arrays slots ea es le =
 pub opened_so : (job : JobValue) (limit : ℕ) (arrays : List (List ℕ × List ℤ)) (slots : List SlotValue) (finished : List FinishedValue)
     → arrays ≡ job.arrays → finished ≡ [] → (bodies : List BodyValue) → bodies ≡ job.bodies → (starts : List Start) → starts ≡ job.starts
     → slots_of (plans bodies) slots ≡ map fresh (start_tasks (plans bodies) 0 starts) → length job.starts ≤ 4096
-    → IsRound (whole job limit 0 arrays slots finished None) × Opens (whole job limit 0 arrays slots finished None) job limit (initial (program_of job))
+    → IsRound (whole job limit 0 arrays slots finished None)
+    × Opens (whole job limit 0 arrays slots finished None) job limit (initial (program_of job))
 opened_so job limit arrays slots finished ea ef bodies eb starts es h le =
     let at : slots_of (plans job.bodies) slots ≡ map fresh (start_tasks (plans job.bodies) 0 job.starts) =
     ap (λ (b : List BodyValue). slots_of (plans b) slots) (sym eb) ∙ h
     ∙ (λ i. map fresh (start_tasks (plans (eb i)) 0 (es i))) in
-    subst (λ (fs : List FinishedValue). IsRound (whole job limit 0 arrays slots fs None) × Opens (whole job limit 0 arrays slots fs None) job limit (initial (program_of job)))
+    subst
+    (λ (fs : List FinishedValue). IsRound (whole job limit 0 arrays slots fs None)
+    × Opens (whole job limit 0 arrays slots fs None) job limit (initial (program_of job)))
     (sym ef) (opened job limit arrays slots ea at le)
 
 pub is_there : {A : Type 0} {o : Option A} {x : A} → o ≡ Some x → IsSome o

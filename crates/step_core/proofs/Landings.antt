@@ -35,7 +35,8 @@ paths_in p st [] = refl
 paths_in p st (t ∷ ts) = ap (λ (xs : List (List ℕ)). t.path ∷ xs) (paths_in p st ts)
 
 -- the log of a live task is one of the logs
-log_there : (p : Program) (st : State) (ts : List Task) (t : Task) (k : ℕ) → k < length ts → slice_index_or ts k t ≡ t → Contains (logs_in p st ts) (log_by p st t)
+log_there : (p : Program) (st : State) (ts : List Task) (t : Task) (k : ℕ) → k < length ts → slice_index_or ts k t ≡ t
+    → Contains (logs_in p st ts) (log_by p st t)
 log_there p st [] t k lt at = absurd (omega arith)
 log_there p st (u ∷ us) t zero lt at = (0, omega arith, ap (λ (x : Task). log_by p st x) at)
 log_there p st (u ∷ us) t (suc k) lt at =
@@ -48,7 +49,8 @@ record IsLogOf (p : Program) (st : State) (ts : List Task) (e : Log) : Type 0 wh
   pub lives : Contains ts task
   pub log : log_by p st task ≡ e
 
-log_from : (p : Program) (st : State) (ts : List Task) (e : Log) (k : ℕ) → k < length (logs_in p st ts) → slice_index_or (logs_in p st ts) k e ≡ e → IsLogOf p st ts e
+log_from : (p : Program) (st : State) (ts : List Task) (e : Log) (k : ℕ) → k < length (logs_in p st ts)
+    → slice_index_or (logs_in p st ts) k e ≡ e → IsLogOf p st ts e
 log_from p st [] e k lt at = absurd (omega arith)
 log_from p st (u ∷ us) e zero lt at = record { task = u; lives = (0, omega arith, refl); log = at }
 log_from p st (u ∷ us) e (suc k) lt at =
@@ -56,7 +58,8 @@ log_from p st (u ∷ us) e (suc k) lt at =
     record { task = more.task; lives = (suc more.lives.0, omega (arith, more.lives.1), more.lives.2); log = more.log }
 
 -- a superstep without a fault lands what its tasks put
-lands : (st : State) (ss : List (List ℕ × Segment)) (f : Option (ℕ × List ℕ)) → (closed st ss f).fault ≡ None → (closed st ss f).arrays ≡ landed (joined (map log_of ss)) st.arrays
+lands : (st : State) (ss : List (List ℕ × Segment)) (f : Option (ℕ × List ℕ)) → (closed st ss f).fault ≡ None
+    → (closed st ss f).arrays ≡ landed (joined (map log_of ss)) st.arrays
 lands st ss (Some f) h = cc
 lands st ss None h = refl
 
@@ -87,8 +90,10 @@ set_within (x ∷ xs) back q set =
 
 pub later-path-wins : LaterPathWins
 later-path-wins p limit n t front back q set ok lives puts last later =
-    ap (λ arrays. cell_at arrays q.array (pos q.index)) (lands st (segments p st.arrays st.step st.live) (fault_in st.arrays (segments p st.arrays st.step st.live)) ok)
-    ∙ landings.later-path-wins st.arrays (logs_in p st st.live) (log_by p st t) q.array q.index rising (log_there p st st.live t lives.0 lives.1 lives.2) put none
+    ap (λ arrays. cell_at arrays q.array (pos q.index))
+    (lands st (segments p st.arrays st.step st.live) (fault_in st.arrays (segments p st.arrays st.step st.live)) ok)
+    ∙ landings.later-path-wins st.arrays (logs_in p st st.live) (log_by p st t) q.array q.index rising
+    (log_there p st st.live t lives.0 lives.1 lives.2) put none
     ∙ ap (λ (ps : List Put). cell_at (landed ps st.arrays) q.array (pos q.index)) puts
     ∙ landings.last-set-wins st.arrays front back q (holds_within (is_to_cell st.arrays) front back q cells) set last
   where
@@ -120,7 +125,8 @@ none_both : (xs ys : List Put) (a i : ℕ) → has_put xs a i ≡ false → has_
 none_both [] ys a i h k = k
 none_both (x ∷ xs) ys a i h k = none_or (is_to a i x) (has_put xs a i) (has_put (xs ++ ys) a i) h (λ m. none_both xs ys a i m k)
 
-none_joined : (p : Program) (st : State) (ts : List Task) (a i : ℕ) → ((u : Task) → Contains ts u → has_put (deed p st u).puts a i ≡ false) → has_put (joined (logs_in p st ts)) a i ≡ false
+none_joined : (p : Program) (st : State) (ts : List Task) (a i : ℕ) → ((u : Task) → Contains ts u → has_put (deed p st u).puts a i ≡ false)
+    → has_put (joined (logs_in p st ts)) a i ≡ false
 none_joined p st [] a i h = refl
 none_joined p st (t ∷ ts) a i h =
     none_both (deed p st t).puts (joined (logs_in p st ts)) a i (h t (0, omega arith, refl))
@@ -129,6 +135,9 @@ none_joined p st (t ∷ ts) a i h =
 pub others-keep-their-values : OthersKeepTheirValues
 others-keep-their-values p st a i h = by (fault_in st.arrays (segments p st.arrays st.step st.live))
   where
-    by : (f : Option (ℕ × List ℕ)) → cell_at (closed st (segments p st.arrays st.step st.live) f).arrays a (pos i) ≡ cell_at st.arrays a (pos i)
+    by : (f : Option (ℕ × List ℕ))
+        → cell_at (closed st (segments p st.arrays st.step st.live) f).arrays a (pos i) ≡ cell_at st.arrays a (pos i)
     by (Some f) = refl
-    by None = landings.others-keep-their-values st.arrays (joined (map log_of (segments p st.arrays st.step st.live))) a i (none_joined p st st.live a i h)
+    by None =
+        landings.others-keep-their-values st.arrays (joined (map log_of (segments p st.arrays st.step st.live))) a i
+        (none_joined p st st.live a i h)

@@ -99,7 +99,9 @@ closed_step st ss None = omega arith
 -- no more supersteps than were asked for
 at_most : (p : Program) (limit k : ℕ) → (so_far p limit k).step ≤ k
 at_most p limit zero = omega arith
-at_most p limit (suc k) = by (status limit (so_far p limit k)) (at_most p limit k) (closed_step st (segments p st.arrays st.step st.live) (fault_in st.arrays (segments p st.arrays st.step st.live)))
+at_most p limit (suc k) =
+    by (status limit (so_far p limit k)) (at_most p limit k)
+    (closed_step st (segments p st.arrays st.step st.live) (fault_in st.arrays (segments p st.arrays st.step st.live)))
   where
     st : State
     st = so_far p limit k
@@ -156,7 +158,8 @@ one_adds p limit k = by (status limit st)
     by (Some s) = adds_same st
 
 more_adds : (p : Program) (limit m k : ℕ) → Adds (so_far p limit m) (so_far p limit (k + m))
-more_adds p limit m zero = let e : m ≡ zero + m = omega arith in subst (λ n. Adds (so_far p limit m) (so_far p limit n)) e (adds_same (so_far p limit m))
+more_adds p limit m zero = let e : m ≡ zero + m = omega arith in
+    subst (λ n. Adds (so_far p limit m) (so_far p limit n)) e (adds_same (so_far p limit m))
 more_adds p limit m (suc k) =
     let e : suc (k + m) ≡ suc k + m = omega arith in
     let a = more_adds p limit m k in
@@ -164,7 +167,8 @@ more_adds p limit m (suc k) =
     subst (λ n. Adds (so_far p limit m) (so_far p limit n)) e
     record {
       prints = begins (so_far p limit m).prints (so_far p limit (k + m)).prints (so_far p limit (suc (k + m))).prints a.prints b.prints;
-      records = begins (so_far p limit m).records (so_far p limit (k + m)).records (so_far p limit (suc (k + m))).records a.records b.records;
+      records =
+          begins (so_far p limit m).records (so_far p limit (k + m)).records (so_far p limit (suc (k + m))).records a.records b.records;
     }
 
 pub longer-limits-only-add : LongerLimitsOnlyAdd
@@ -202,7 +206,8 @@ length_ordered [] = refl
 length_ordered (t ∷ ts) = length_put t (in_path_order (λ (u : Task). u.path) ts) ∙ ap suc (length_ordered ts)
 
 -- a task that doesn't fault syncs or stops
-one_tallies : (path : List ℕ) (a : After) (later : Option (ℕ × List ℕ)) → or_later later path a ≡ None → (later ≡ None) × (length (synced a) + stopped a ≡ 1)
+one_tallies : (path : List ℕ) (a : After) (later : Option (ℕ × List ℕ)) → or_later later path a ≡ None
+    → (later ≡ None) × (length (synced a) + stopped a ≡ 1)
 one_tallies path (Synced t) later h = (h, refl)
 one_tallies path Stopped later h = (h, refl)
 one_tallies path (Faulted f) later h = cc
@@ -220,7 +225,8 @@ none_of : (a b : Option (ℕ × List ℕ)) → or_next a b ≡ None → a ≡ No
 none_of None b h = refl
 none_of (Some f) b h = cc
 
-closed_tallies : (st : State) (ss : List (List ℕ × Segment)) (f : Option (ℕ × List ℕ)) → fault_in st.arrays ss ≡ f → (closed st ss f).fault ≡ None
+closed_tallies : (st : State) (ss : List (List ℕ × Segment)) (f : Option (ℕ × List ℕ)) → fault_in st.arrays ss ≡ f
+    → (closed st ss f).fault ≡ None
     → length (closed st ss f).live + (record_of st.step ss).left ≡ (record_of st.step ss).parties
 closed_tallies st ss (Some f) e h = cc
 closed_tallies st ss None e h =
@@ -232,15 +238,18 @@ pub records-agree : RecordsAgree
 records-agree p st h =
     closed_tallies st (segments p st.arrays st.step st.live) (fault_in st.arrays (segments p st.arrays st.step st.live)) refl h
 
-living_paths : (p : Program) (a : List (List ℕ × List ℤ)) (n : ℕ) (ts : List Task) → map (λ (t : Task). t.path) (living_on (segments p a n ts)) ≡ paths_on (segments p a n ts)
+living_paths : (p : Program) (a : List (List ℕ × List ℤ)) (n : ℕ) (ts : List Task)
+    → map (λ (t : Task). t.path) (living_on (segments p a n ts)) ≡ paths_on (segments p a n ts)
 living_paths p a n [] = refl
 living_paths p a n (t ∷ ts) =
     let g = segment_of p.plans t a n in
     map-append (λ (t : Task). t.path) (synced g.after ++ g.spawns) (living_on (segments p a n ts))
     ∙ (λ i. (map-append (λ (t : Task). t.path) (synced g.after) g.spawns i) ++ living_paths p a n ts i)
-    ∙ ap (λ (xs : List (List ℕ)). (xs ++ spawned_paths g) ++ paths_on (segments p a n ts)) (by g.after (λ u e. (stays-the-same-task p.plans t u a n e).0))
+    ∙ ap (λ (xs : List (List ℕ)). (xs ++ spawned_paths g) ++ paths_on (segments p a n ts))
+    (by g.after (λ u e. (stays-the-same-task p.plans t u a n e).0))
   where
-    by : (x : After) → ((u : Task) → x ≡ Synced u → u.path ≡ t.path) → map (λ (t : Task). t.path) (synced x) ≡ (if is_synced x then t.path ∷ [] else [])
+    by : (x : After) → ((u : Task) → x ≡ Synced u → u.path ≡ t.path)
+        → map (λ (t : Task). t.path) (synced x) ≡ (if is_synced x then t.path ∷ [] else [])
     by (Synced u) h = ap (λ (q : List ℕ). q ∷ []) (h u refl)
     by Stopped h = refl
     by (Faulted f) h = refl
@@ -256,9 +265,11 @@ next-live-synced-or-spawned p st = by (fault_in st.arrays ss)
         put_all_mapped (λ (t : Task). t.path) (λ (path : List ℕ). path) (λ (t : Task). t.path) (λ t. refl) (living_on ss) []
         ∙ ap (in_path_order (λ (path : List ℕ). path)) (living_paths p st.arrays st.step st.live)
 
-    by : (o : Option (ℕ × List ℕ)) → (closed st ss o).fault ≡ None → live_paths (closed st ss o) ≡ in_path_order (λ (path : List ℕ). path) (paths_on ss)
+    by : (o : Option (ℕ × List ℕ)) → (closed st ss o).fault ≡ None
+        → live_paths (closed st ss o) ≡ in_path_order (λ (path : List ℕ). path) (paths_on ss)
     by (Some f) h = cc
     by None h = all
 
 pub formats-mean-the-same : FormatsMeanTheSame
-formats-mean-the-same j k limit arrays bodies starts = λ i. report_of (record { arrays = arrays i; plans = plans (bodies i); starts = starts i }) limit
+formats-mean-the-same j k limit arrays bodies starts =
+    λ i. report_of (record { arrays = arrays i; plans = plans (bodies i); starts = starts i }) limit

@@ -29,7 +29,8 @@ running r h run =
     let k : r.step ≡ n = ap (λ (x : State). x.step) e ∙ g.step in
     e ∙ g.same ∙ ap (state_at (program_of r.job)) (sym k)
 
-pub slot_task : (ps : List Plan) (ss : List SlotValue) (p : ℕ) (s : SlotValue) → slice_get ss p ≡ Some s → slice_get (map task_in (slots_of ps ss)) p ≡ Some (task_of ps s.task)
+pub slot_task : (ps : List Plan) (ss : List SlotValue) (p : ℕ) (s : SlotValue) → slice_get ss p ≡ Some s
+    → slice_get (map task_in (slots_of ps ss)) p ≡ Some (task_of ps s.task)
 slot_task ps [] p s h = cc
 slot_task ps (x ∷ xs) zero s h = let e : x ≡ s = cc in ap (λ (y : SlotValue). Some (task_of ps y.task)) e
 slot_task ps (x ∷ xs) (suc p) s h = slot_task ps xs p s h
@@ -74,7 +75,8 @@ same_tasks ps [] p s g at = refl
 same_tasks ps (x ∷ xs) zero s g at = let e : s ≡ x = cc in ap (λ (y : SlotValue). task_of ps y.task ∷ map task_in (slots_of ps xs)) e
 same_tasks ps (x ∷ xs) (suc p) s g at = ap (λ ts. task_of ps x.task ∷ ts) (same_tasks ps xs p s g at)
 
-pub set_is_with : (ss : List SlotValue) (p : ℕ) (s : SlotValue) (g : SegmentValue) → slice_get ss p ≡ Some s → slice_set ss p record { task = s.task; done = Some g } ≡ with_segment ss p g
+pub set_is_with : (ss : List SlotValue) (p : ℕ) (s : SlotValue) (g : SegmentValue) → slice_get ss p ≡ Some s
+    → slice_set ss p record { task = s.task; done = Some g } ≡ with_segment ss p g
 set_is_with [] p s g at = refl
 set_is_with (x ∷ xs) zero s g at = let e : s ≡ x = cc in ap (λ (y : SlotValue). record { task = y.task; done = Some g } ∷ xs) e
 set_is_with (x ∷ xs) (suc p) s g at = ap (λ ts. x ∷ ts) (set_is_with xs p s g at)
@@ -84,9 +86,13 @@ pub kept : (r : RoundValue) → IsRound r → (p : ℕ) (s : SlotValue) (g : Seg
     → meant (plans r.job.bodies) g ≡ segment_of (plans r.job.bodies) (task_of (plans r.job.bodies) s.task) r.arrays r.step
     → IsRound (with_slots r (slice_set r.slots p record { task = s.task; done = Some g }))
 kept r h p s g at e =
-    let l : length (slice_set r.slots p record { task = s.task; done = Some g }) ≡ length r.slots = length-set r.slots p record { task = s.task; done = Some g } in
+    let l : length (slice_set r.slots p record { task = s.task; done = Some g }) ≡ length r.slots =
+    length-set r.slots p record { task = s.task; done = Some g } in
     record {
-      reached = (h.reached.0, ap (λ (ts : List Task). record (state_of r) { live = ts }) (same_tasks (plans r.job.bodies) r.slots p s g at) ∙ h.reached.1);
+      reached = (
+        h.reached.0,
+        ap (λ (ts : List Task). record (state_of r) { live = ts }) (same_tasks (plans r.job.bodies) r.slots p s g at) ∙ h.reached.1,
+      );
       fits = fits_more (plans r.job.bodies) r.arrays r.step r.slots p s g h.fits at e;
       few = subst (λ k. k ≤ 4096) (sym l) h.few;
     }
@@ -105,36 +111,44 @@ some_there (x ∷ xs) zero lt = (x, refl)
 some_there (x ∷ xs) (suc p) lt = some_there xs p (omega (arith, lt))
 
 pub here : (r : RoundValue) (job : JobValue) (step place q : ℕ) (path : List ℕ) (g : SegmentValue) → job ≡ r.job → step ≡ r.step → place ≡ q
-    → deed_at (program_of job) step place ≡ Some (path, meant (plans job.bodies) g) → deed_at (program_of r.job) r.step q ≡ Some (path, meant (plans r.job.bodies) g)
+    → deed_at (program_of job) step place ≡ Some (path, meant (plans job.bodies) g)
+    → deed_at (program_of r.job) r.step q ≡ Some (path, meant (plans r.job.bodies) g)
 here r job step place q path g j s p k =
     sym (λ i. deed_at (program_of (j i)) (s i) (p i)) ∙ k ∙ ap (λ (x : JobValue). Some (path, meant (plans x.bodies) g)) j
 
 -- the slot of its place is for its task
-pub for_task : (r : RoundValue) (job : JobValue) (step place q : ℕ) (path : List ℕ) (s : SlotValue) (g : SegmentValue) → IsRound r → status_in r ≡ None
+pub for_task : (r : RoundValue) (job : JobValue) (step place q : ℕ) (path : List ℕ) (s : SlotValue) (g : SegmentValue) → IsRound r
+    → status_in r ≡ None
     → job ≡ r.job → step ≡ r.step → place ≡ q → slice_get r.slots q ≡ Some s
     → deed_at (program_of job) step place ≡ Some (path, meant (plans job.bodies) g) → s.task.path ≡ path
 for_task r job step place q path s g h run j e p at k =
-    ap (λ (x : List ℕ × Segment). x.0) (delivered_is r h run q s path (meant (plans r.job.bodies) g) at (here r job step place q path g j e p k))
+    ap (λ (x : List ℕ × Segment). x.0)
+    (delivered_is r h run q s path (meant (plans r.job.bodies) g) at (here r job step place q path g j e p k))
 
 -- the paths of the live tasks
-pub paths_at : (ps : List Plan) (ss : List SlotValue) → map path_in (map task_at ss) ≡ map (λ (t : Task). t.path) (map task_in (slots_of ps ss))
+pub paths_at : (ps : List Plan) (ss : List SlotValue)
+    → map path_in (map task_at ss) ≡ map (λ (t : Task). t.path) (map task_in (slots_of ps ss))
 paths_at ps [] = refl
 paths_at ps (s ∷ ss) = ap (λ (xs : List (List ℕ)). s.task.path ∷ xs) (paths_at ps ss)
 
 -- a delivery leaves the tasks
-pub tasks_stay : (ps : List Plan) (ss : List SlotValue) (p : ℕ) (g : SegmentValue) → map task_in (slots_of ps (with_segment ss p g)) ≡ map task_in (slots_of ps ss)
+pub tasks_stay : (ps : List Plan) (ss : List SlotValue) (p : ℕ) (g : SegmentValue)
+    → map task_in (slots_of ps (with_segment ss p g)) ≡ map task_in (slots_of ps ss)
 tasks_stay ps [] p g = refl
 tasks_stay ps (s ∷ ss) zero g = refl
 tasks_stay ps (s ∷ ss) (suc p) g = ap (λ (ts : List Task). task_of ps s.task ∷ ts) (tasks_stay ps ss p g)
 
 -- what is known at a place stands there
-pub place_there : (r : RoundValue) → IsRound r → status_in r ≡ None → (p : ℕ) (x : List ℕ × Segment) → deed_at (program_of r.job) r.step p ≡ Some x → p < length r.slots
+pub place_there : (r : RoundValue) → IsRound r → status_in r ≡ None → (p : ℕ) (x : List ℕ × Segment)
+    → deed_at (program_of r.job) r.step p ≡ Some x → p < length r.slots
 place_there r h run p x d =
     let e = running r h run in
-    let k : deed_of (program_of r.job) (state_of r) (slice_get (state_of r).live p) ≡ Some x = ap (λ (s : State). deed_of (program_of r.job) s (slice_get s.live p)) e ∙ d in
+    let k : deed_of (program_of r.job) (state_of r) (slice_get (state_of r).live p) ≡ Some x =
+    ap (λ (s : State). deed_of (program_of r.job) s (slice_get s.live p)) e ∙ d in
     by r.slots p k
   where
-    by : (ss : List SlotValue) (p : ℕ) → deed_of (program_of r.job) (state_of r) (slice_get (map task_in (slots_of (plans r.job.bodies) ss)) p) ≡ Some x → p < length ss
+    by : (ss : List SlotValue) (p : ℕ)
+        → deed_of (program_of r.job) (state_of r) (slice_get (map task_in (slots_of (plans r.job.bodies) ss)) p) ≡ Some x → p < length ss
     by [] p h = cc
     by (s ∷ ss) zero h = omega arith
     by (s ∷ ss) (suc p) h = let l = by ss p h in omega (arith, l)
@@ -148,7 +162,8 @@ pub record Meets (r : RoundValue) (d : DeliveryValue) : Type 0 where
   pub known : IsDelivery d
 
 -- of a round as it is kept, where it is known as it is seen
-pub meets : (r now : RoundValue) → IsRound r → r ≡ now → status_in now ≡ None → (d : DeliveryValue) → d.job ≡ now.job → d.step ≡ r.step → IsDelivery d → Meets r d
+pub meets : (r now : RoundValue) → IsRound r → r ≡ now → status_in now ≡ None → (d : DeliveryValue) → d.job ≡ now.job → d.step ≡ r.step
+    → IsDelivery d → Meets r d
 meets r now h e run d job step known = record {
   round = h;
   run = ap status_in e ∙ run;
@@ -164,7 +179,8 @@ takes r now h e run d t known =
     let k : Takes r d = subst (λ (x : RoundValue). Takes x d) (sym e) t in
     (meets r now h e run d t.ordered.0 k.step known, k.first)
 
-met_deed : (r : RoundValue) (d : DeliveryValue) → Meets r d → deed_at (program_of r.job) r.step d.place ≡ Some (d.path, meant (plans r.job.bodies) d.segment)
+met_deed : (r : RoundValue) (d : DeliveryValue) → Meets r d
+    → deed_at (program_of r.job) r.step d.place ≡ Some (d.path, meant (plans r.job.bodies) d.segment)
 met_deed r d m = here r d.job d.step d.place d.place d.path d.segment m.job m.step refl m.known
 
 -- its place is one of the round's
@@ -176,8 +192,11 @@ met_slot r d m = some_there r.slots d.place (met_below r d m)
 
 is_ordered : (r : RoundValue) (d : DeliveryValue) → Meets r d → IsOrdered r d
 is_ordered r d m =
-    let x = met_slot r d m in
-    (m.job, subst (IsFor d.path) (sym x.1) (for_task r d.job d.step d.place d.place d.path x.0 d.segment m.round m.run m.job m.step refl x.1 m.known))
+    let x = met_slot r d m in (
+      m.job,
+      subst (IsFor d.path) (sym x.1)
+          (for_task r d.job d.step d.place d.place d.path x.0 d.segment m.round m.run m.job m.step refl x.1 m.known),
+    )
 
 pub is_double : (r now : RoundValue) → r ≡ now → (d : DeliveryValue) → Meets r d → is_done (slice_get r.slots d.place) ≡ true
     → (d.step ≡ now.step) × IsOrdered now d × (is_done (slice_get now.slots d.place) ≡ true)
@@ -206,7 +225,8 @@ met_fewer r d m f = by r.slots d.place (met_below r d m) f
     gone None h = refl
     gone (Some g) h = cc
 
-    by : (ss : List SlotValue) (p : ℕ) → p < length ss → is_done (slice_get ss p) ≡ false → missing_in (with_segment ss p d.segment) + 1 ≡ missing_in ss
+    by : (ss : List SlotValue) (p : ℕ) → p < length ss → is_done (slice_get ss p) ≡ false
+        → missing_in (with_segment ss p d.segment) + 1 ≡ missing_in ss
     by [] p lt h = absurd (omega (arith, lt))
     by (x ∷ ss) zero lt h = let k = gone x.done h in omega (arith, k)
     by (x ∷ ss) (suc p) lt h = let l = by ss p (omega (arith, lt)) h in omega (arith, l)
@@ -215,7 +235,8 @@ pub all_missing : (ts : List TaskValue) → missing_in (map fresh_slot ts) ≡ l
 all_missing [] = refl
 all_missing (t ∷ ts) = let l = all_missing ts in omega (arith, l)
 
-pub task_there : (ss : List SlotValue) (p : ℕ) (s : SlotValue) (t : TaskValue) → slice_get ss p ≡ Some s → t ≡ s.task → option_map task_at (slice_get ss p) ≡ Some t
+pub task_there : (ss : List SlotValue) (p : ℕ) (s : SlotValue) (t : TaskValue) → slice_get ss p ≡ Some s → t ≡ s.task
+    → option_map task_at (slice_get ss p) ≡ Some t
 task_there ss p s t at e = ap (option_map task_at) at ∙ ap Some (sym e)
 
 pub none_first : (ps : List Plan) (ss : List SlotValue) → missing_in ss ≡ 0 → first_missing (slots_of ps ss) ≡ None

@@ -27,7 +27,8 @@ module _ (seen : ℕ → List (List ℕ × List ℤ) → ℕ → Type 0) (p : Pr
   -- the history and the job say the same of each state
   same : (n : ℕ) → n ≤ length h.history → gm.so_far (says_by job_frame 4096 h.history) p.arrays (starts p) limit n ≡ so_far p limit n
   same n le =
-      so_far_same job_frame (JobMay p.plans) 4096 (job.segment_of p.plans) (λ t arrays step g e. e) p.arrays (starts p) limit (starts_begin p) outcome living h n le
+      so_far_same job_frame (JobMay p.plans) 4096 (job.segment_of p.plans) (λ t arrays step g e. e) p.arrays (starts p) limit
+      (starts_begin p) outcome living h n le
 
   over : status limit (so_far p limit (length h.history)) ≡ Some outcome.status
   over = ap (status limit) (sym (same (length h.history) (omega arith))) ∙ h.ended
@@ -41,11 +42,14 @@ module _ (seen : ℕ → List (List ℕ × List ℤ) → ℕ → Type 0) (p : Pr
       by false e =
           let le = ltb-false _ _ e in
           let back : (n - length h.history) + length h.history ≡ n = omega (arith, le) in
-          let stays = ended_stays (job_says p.plans) p.arrays (starts p) limit (length h.history) (n - length h.history) outcome.status over in
-          let wrong : None ≡ Some outcome.status = sym run ∙ ap (λ (k : ℕ). status limit (so_far p limit k)) (sym back) ∙ ap (status limit) stays ∙ over in
+          let stays =
+          ended_stays (job_says p.plans) p.arrays (starts p) limit (length h.history) (n - length h.history) outcome.status over in
+          let wrong : None ≡ Some outcome.status =
+          sym run ∙ ap (λ (k : ℕ). status limit (so_far p limit k)) (sym back) ∙ ap (status limit) stays ∙ over in
           absurd cc
 
-  pub saw_all : ((n : ℕ) → n < length h.history → OfState seen (gm.so_far (says_by job_frame 4096 h.history) p.arrays (starts p) limit n)) → SawAll seen p limit
+  pub saw_all : ((n : ℕ) → n < length h.history → OfState seen (gm.so_far (says_by job_frame 4096 h.history) p.arrays (starts p) limit n))
+      → SawAll seen p limit
   saw_all went n run =
       let lt = begun n run in
       let st = so_far p limit n in
@@ -58,7 +62,9 @@ pub record Leaves (seen : ℕ → List (List ℕ × List ℤ) → ℕ → Type 0
   pub saw : SawAll seen p limit
 
 module _ (seen : ℕ → List (List ℕ × List ℤ) → ℕ → Type 0) (limit : ℕ) (outcome : ReportValue) (living : List job.Task) where
-  leaves_from : (p : Program) → HasRunTo (λ step arrays tasks. ⊥) seen job_frame (JobMay p.plans) 4096 p.arrays (starts p) limit outcome living → Leaves seen p limit outcome
+  leaves_from : (p : Program)
+      → HasRunTo (λ step arrays tasks. ⊥) seen job_frame (JobMay p.plans) 4096 p.arrays (starts p) limit outcome living
+      → Leaves seen p limit outcome
   leaves_from p h = by h.stopped
     where
       at : Leaves seen p h.taken outcome
@@ -70,7 +76,8 @@ module _ (seen : ℕ → List (List ℕ × List ℤ) → ℕ → Type 0) (limit 
 
   pub job_leaves : (j : JobValue) (arrays : List (List ℕ × List ℤ)) (ts : List TaskValue)
       → arrays ≡ j.arrays → map (task_of (plans j.bodies)) ts ≡ start_tasks (plans j.bodies) 0 j.starts
-      → HasRunTo (λ step arrays tasks. ⊥) seen job_frame (JobMay (plans j.bodies)) 4096 arrays (map (task_of (plans j.bodies)) ts) limit outcome living
+      → HasRunTo (λ step arrays tasks. ⊥) seen job_frame (JobMay (plans j.bodies)) 4096 arrays (map (task_of (plans j.bodies)) ts) limit
+      outcome living
       → Leaves seen (program_of j) limit outcome
   job_leaves j arrays ts ea et h =
       leaves_from (program_of j)

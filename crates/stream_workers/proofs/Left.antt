@@ -18,11 +18,14 @@ use Rattle.stretch_queue.specs.Hooked.{bare}
 use Rattle.stretch_queue.specs.Watched.{HasLeftKept, LeavesAs}
 
 -- it wasn't stopped, so it has ended by itself
-pub left_streamed : (j : JobValue) (limit : ℕ) (mark : TableId) (w : LogValue (SuperstepStartValue JobProgram TaskValue)) (given : ℕ) (outcome : ReportValue) (tasks : List TaskValue)
-    → HasLeftKept job_reading (λ v stopped. (stopped ≡ false) × IsRunOf j limit v.log) mark w given outcome tasks → (w.name ≡ mark) × HasLeft job_reading w.log given outcome tasks
+pub left_streamed : (j : JobValue) (limit : ℕ) (mark : TableId) (w : LogValue (SuperstepStartValue JobProgram TaskValue)) (given : ℕ)
+    (outcome : ReportValue) (tasks : List TaskValue)
+    → HasLeftKept job_reading (λ v stopped. (stopped ≡ false) × IsRunOf j limit v.log) mark w given outcome tasks
+    → (w.name ≡ mark) × HasLeft job_reading w.log given outcome tasks
 left_streamed j limit mark w given outcome tasks h = by h.last h.stopped h.of_mark h.keeps h.leaves
   where
-    by : (v : StretchesValue JobProgram TaskValue) (stopped : Bool) → v.name ≡ mark → (stopped ≡ false) × IsRunOf j limit (bare v).log → LeavesAs job_reading v stopped w given outcome tasks
+    by : (v : StretchesValue JobProgram TaskValue) (stopped : Bool) → v.name ≡ mark → (stopped ≡ false) × IsRunOf j limit (bare v).log
+        → LeavesAs job_reading v stopped w given outcome tasks
         → (w.name ≡ mark) × HasLeft job_reading w.log given outcome tasks
     by v true m k l = absurd (no k.0)
       where

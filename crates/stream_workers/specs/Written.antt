@@ -22,4 +22,5 @@ CauseOn old new _ = new ≡ old
 -- what a writer holds so far: the lines of the first `written` supersteps, if nothing has failed; and how often it has failed
 abbrev pub HasWritten : Program → ℕ → Option (List ℕ) → ℕ → Option (List ℕ) → ℕ → ℕ → Option StreamFault → Type 0
 HasWritten p limit old before new after written None = Appends old new (lines_of p limit written) × (after ≡ before)
-HasWritten p limit old before new after written (Some fault) = Streams p limit old new (Err fault) × StreamCause {T = JobStatus} before after (Err fault)
+HasWritten p limit old before new after written (Some fault) =
+    Streams p limit old new (Err fault) × StreamCause {T = JobStatus} before after (Err fault)

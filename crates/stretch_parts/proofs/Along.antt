@@ -13,7 +13,8 @@ both false b h = cc
 
 module _ {S : Type 0} where
   -- the one at this place, and those after it
-  pub next_part : (parts : List (Option (PartValue S))) (k : ℕ) (s : Option (PartValue S)) → k < length parts → s ≡ get_or parts k s → drop k parts ≡ s ∷ drop (k + 1) parts
+  pub next_part : (parts : List (Option (PartValue S))) (k : ℕ) (s : Option (PartValue S)) → k < length parts → s ≡ get_or parts k s
+      → drop k parts ≡ s ∷ drop (k + 1) parts
   next_part parts k s lt e =
       let one : suc k ≡ k + 1 = omega arith in
       drop-cons parts k s lt ∙ (λ i. sym e i ∷ drop (one i) parts)
@@ -23,15 +24,19 @@ module _ {S : Type 0} where
   covers_below done end at [] h = grind arith
   covers_below done end at (None ∷ ss) h = cc
   covers_below done end at (Some part ∷ ss) h =
-      let l = covers_below done end (at + length part.tasks) ss (both ((part.first == at) && is_done done part.done) (covers done end (at + length part.tasks) ss) h).1 in
+      let l =
+      covers_below done end (at + length part.tasks) ss
+      (both ((part.first == at) && is_done done part.done) (covers done end (at + length part.tasks) ss) h).1 in
       omega (arith, l)
 
   -- one that isn't where it is to be
   pub stops_here : (done : Bool) (end at : ℕ) (part : PartValue S) (ss : List (Option (PartValue S)))
-      → ((part.first == at) && is_done done part.done && nat_le (at + length part.tasks) end) ≡ false → covers done end at (Some part ∷ ss) ≡ false
+      → ((part.first == at) && is_done done part.done && nat_le (at + length part.tasks) end) ≡ false
+      → covers done end at (Some part ∷ ss) ≡ false
   stops_here done end at part ss h = by ((part.first == at) && is_done done part.done) (covers done end (at + length part.tasks) ss) refl h
     where
-      by : (a b : Bool) → b ≡ covers done end (at + length part.tasks) ss → (a && nat_le (at + length part.tasks) end) ≡ false → (a && b) ≡ false
+      by : (a b : Bool) → b ≡ covers done end (at + length part.tasks) ss → (a && nat_le (at + length part.tasks) end) ≡ false
+          → (a && b) ≡ false
       by false b e n = refl
       by true false e n = refl
       by true true e n =
@@ -96,7 +101,8 @@ module _ {A : Type 0} (f : A → A) where
     pub next : drop k parts ≡ s ∷ drop (k + 1) parts
     pub set : (t : A) → t ≡ f s → slice_set halves k t ≡ half (k + 1) parts
 
-  pub half_next : (k : ℕ) (parts halves : List A) (s : A) → halves ≡ half k parts → k < length halves → s ≡ get_or halves k s → IsNext k parts halves s
+  pub half_next : (k : ℕ) (parts halves : List A) (s : A) → halves ≡ half k parts → k < length halves → s ≡ get_or halves k s
+      → IsNext k parts halves s
   half_next k parts halves s e lt g =
       let one : suc k ≡ k + 1 = omega arith in
       let l = ap length e in
@@ -108,18 +114,21 @@ module _ {A : Type 0} (f : A → A) where
 
 module _ {S A : Type 0} (g : PartValue S → List A) where
   -- what the next one has is moved after what those before it had
-  pub in_turn_more : (old new total : List A) (k : ℕ) (parts : List (Option (PartValue S))) (s : Option (PartValue S)) → new ≡ old ++ of_slot g s → drop k parts ≡ s ∷ drop (k + 1) parts
+  pub in_turn_more : (old new total : List A) (k : ℕ) (parts : List (Option (PartValue S))) (s : Option (PartValue S))
+      → new ≡ old ++ of_slot g s → drop k parts ≡ s ∷ drop (k + 1) parts
       → old ++ in_turn g (drop k parts) ≡ total → new ++ in_turn g (drop (k + 1) parts) ≡ total
   in_turn_more old new total k parts s e n h =
       ap (λ (xs : List A). xs ++ in_turn g (drop (k + 1) parts)) e ∙ append_assoc old (of_slot g s) (in_turn g (drop (k + 1) parts))
       ∙ ap (λ (ss : List (Option (PartValue S))). old ++ in_turn g ss) (sym n) ∙ h
 
-  pub in_turn_all : (old total : List A) (k : ℕ) (parts : List (Option (PartValue S))) → drop k parts ≡ [] → old ++ in_turn g (drop k parts) ≡ total → old ≡ total
+  pub in_turn_all : (old total : List A) (k : ℕ) (parts : List (Option (PartValue S))) → drop k parts ≡ []
+      → old ++ in_turn g (drop k parts) ≡ total → old ≡ total
   in_turn_all old total k parts n h = sym (append-nil old) ∙ ap (λ (ss : List (Option (PartValue S))). old ++ in_turn g ss) (sym n) ∙ h
 
 module _ {S : Type 0} where
   -- none of the tasks of stretches moved, so none of these did
-  none_behind : (k : ℕ) (parts : List (Option (PartValue S))) → left_in (deeds_in parts) ≡ 0 → spawned_in (deeds_in parts) ≡ 0 → (left_in (deeds_in (drop k parts)) ≡ 0) × (spawned_in (deeds_in (drop k parts)) ≡ 0)
+  none_behind : (k : ℕ) (parts : List (Option (PartValue S))) → left_in (deeds_in parts) ≡ 0 → spawned_in (deeds_in parts) ≡ 0
+      → (left_in (deeds_in (drop k parts)) ≡ 0) × (spawned_in (deeds_in (drop k parts)) ≡ 0)
   none_behind zero parts a b = (a, b)
   none_behind (suc k) [] a b = (a, b)
   none_behind (suc k) (s ∷ parts) a b =
@@ -127,7 +136,8 @@ module _ {S : Type 0} where
       let m = spawned_append (of_slot (λ part. part.deeds) s) (deeds_in parts) in
       none_behind k parts (omega (arith, a, l)) (omega (arith, b, m))
 
-  pub none_here : (k : ℕ) (parts rest : List (Option (PartValue S))) (s : Option (PartValue S)) → drop k parts ≡ s ∷ rest → left_in (deeds_in parts) ≡ 0 → spawned_in (deeds_in parts) ≡ 0
+  pub none_here : (k : ℕ) (parts rest : List (Option (PartValue S))) (s : Option (PartValue S)) → drop k parts ≡ s ∷ rest
+      → left_in (deeds_in parts) ≡ 0 → spawned_in (deeds_in parts) ≡ 0
       → (left_in (of_slot (λ part. part.deeds) s) ≡ 0) × (spawned_in (of_slot (λ part. part.deeds) s) ≡ 0)
   none_here k parts rest s e a b =
       let n = none_behind k parts a b in

@@ -7,8 +7,10 @@ use Rattle.stretch_parts.specs.Parts.{AreFresh, fresh_part, tasks_in}
 module _ {S : Type 0} where
   -- ---- they are fresh, one after another, and no task is lost
 
-  turned : (parts more : List (Option (PartValue S))) (part now : (PartValue S)) → part ≡ now → more ≡ parts ++ Some part ∷ [] → reverse more ≡ Some now ∷ reverse parts
-  turned parts more part now e m = ap reverse m ∙ reverse-append parts (Some part ∷ []) ∙ ap (λ (x : (PartValue S)). Some x ∷ reverse parts) e
+  turned : (parts more : List (Option (PartValue S))) (part now : (PartValue S)) → part ≡ now → more ≡ parts ++ Some part ∷ []
+      → reverse more ≡ Some now ∷ reverse parts
+  turned parts more part now e m =
+      ap reverse m ∙ reverse-append parts (Some part ∷ []) ∙ ap (λ (x : (PartValue S)). Some x ∷ reverse parts) e
 
   pub none_fresh : (at : ℕ) (parts : List (Option (PartValue S))) → parts ≡ [] → AreFresh at (reverse parts)
   none_fresh at parts e = subst (λ (ss : List (Option (PartValue S))). AreFresh at (reverse ss)) (sym e) tt
@@ -16,20 +18,24 @@ module _ {S : Type 0} where
   pub none_cut : (tasks : List S) (parts : List (Option (PartValue S))) → parts ≡ [] → tasks ++ tasks_in (reverse parts) ≡ tasks
   none_cut tasks parts e = ap (λ (ss : List (Option (PartValue S))). tasks ++ tasks_in (reverse ss)) e ∙ append-nil tasks
 
-  pub fresh_front : (at end : ℕ) (tasks : List S) (parts more : List (Option (PartValue S))) (part : (PartValue S)) → AreFresh end (reverse parts)
+  pub fresh_front : (at end : ℕ) (tasks : List S) (parts more : List (Option (PartValue S))) (part : (PartValue S))
+      → AreFresh end (reverse parts)
       → part ≡ fresh_part at tasks → more ≡ parts ++ Some part ∷ [] → end ≡ at + length tasks → AreFresh at (reverse more)
   fresh_front at end tasks parts more part h e m c =
       subst (AreFresh at) (sym (turned parts more part (fresh_part at tasks) e m))
       (refl {A = PartValue S}, subst (λ (n : ℕ). AreFresh n (reverse parts)) c h)
 
   -- those in front go on to where the stretch that was cut off begins
-  pub fresh_cut : (from at : ℕ) (tasks front behind : List S) (parts more : List (Option (PartValue S))) (part : (PartValue S)) → AreFresh (from + length tasks) (reverse parts)
-      → part ≡ fresh_part (from + at) behind → more ≡ parts ++ Some part ∷ [] → front ≡ take at tasks → behind ≡ drop at tasks → at ≤ length tasks
+  pub fresh_cut : (from at : ℕ) (tasks front behind : List S) (parts more : List (Option (PartValue S))) (part : (PartValue S))
+      → AreFresh (from + length tasks) (reverse parts)
+      → part ≡ fresh_part (from + at) behind → more ≡ parts ++ Some part ∷ [] → front ≡ take at tasks → behind ≡ drop at tasks
+      → at ≤ length tasks
       → AreFresh (from + length front) (reverse more)
   fresh_cut from at tasks front behind parts more part h e m ef eb le =
       let l : length behind ≡ length tasks - at = ap length eb ∙ length-drop at tasks in
       let k : length front ≡ at = ap length ef ∙ length-take-le at tasks le in
-      subst (λ (n : ℕ). AreFresh (from + n) (reverse more)) (sym k) (fresh_front (from + at) (from + length tasks) behind parts more part h e m (omega (arith, l, le)))
+      subst (λ (n : ℕ). AreFresh (from + n) (reverse more)) (sym k)
+      (fresh_front (from + at) (from + length tasks) behind parts more part h e m (omega (arith, l, le)))
 
   pub tasks_front : (at : ℕ) (tasks : List S) (parts more : List (Option (PartValue S))) (part : (PartValue S))
       → part ≡ fresh_part at tasks → more ≡ parts ++ Some part ∷ [] → tasks_in (reverse more) ≡ tasks ++ tasks_in (reverse parts)

@@ -26,19 +26,25 @@ over_sets xs ps qs e h =
 
 module _ {S : Type 0} where
   -- of the one at this place, and of those after it
-  pub sets_next : (parts : List (Option (PartValue S))) (k : ℕ) (s : Option (PartValue S)) → drop k parts ≡ s ∷ drop (k + 1) parts → list_all is_set (puts_in (drop k parts)) ≡ true
+  pub sets_next : (parts : List (Option (PartValue S))) (k : ℕ) (s : Option (PartValue S)) → drop k parts ≡ s ∷ drop (k + 1) parts
+      → list_all is_set (puts_in (drop k parts)) ≡ true
       → (list_all is_set (of_slot (λ part. part.puts) s) ≡ true) × (list_all is_set (puts_in (drop (k + 1) parts)) ≡ true)
   sets_next parts k s e h =
-      let cut = ap (λ (ss : List (Option (PartValue S))). list_all is_set (puts_in ss)) e ∙ list_all-append is_set (of_slot (λ part. part.puts) s) (puts_in (drop (k + 1) parts)) in
+      let cut =
+      ap (λ (ss : List (Option (PartValue S))). list_all is_set (puts_in ss)) e
+      ∙ list_all-append is_set (of_slot (λ part. part.puts) s) (puts_in (drop (k + 1) parts)) in
       both (list_all is_set (of_slot (λ part. part.puts) s)) (list_all is_set (puts_in (drop (k + 1) parts))) (sym cut ∙ h)
 
-  pub landed_next : {total : Arrays} (xs ys : Arrays) (parts : List (Option (PartValue S))) (k : ℕ) (s : Option (PartValue S)) → drop k parts ≡ s ∷ drop (k + 1) parts
-      → ys ≡ landed (of_slot (λ part. part.puts) s) xs → landed (puts_in (drop k parts)) xs ≡ total → landed (puts_in (drop (k + 1) parts)) ys ≡ total
+  pub landed_next : {total : Arrays} (xs ys : Arrays) (parts : List (Option (PartValue S))) (k : ℕ) (s : Option (PartValue S))
+      → drop k parts ≡ s ∷ drop (k + 1) parts
+      → ys ≡ landed (of_slot (λ part. part.puts) s) xs → landed (puts_in (drop k parts)) xs ≡ total
+      → landed (puts_in (drop (k + 1) parts)) ys ≡ total
   landed_next xs ys parts k s e to h =
       ap (landed (puts_in (drop (k + 1) parts))) to ∙ sym (landed_append (of_slot (λ part. part.puts) s) (puts_in (drop (k + 1) parts)) xs)
       ∙ ap (λ (ss : List (Option (PartValue S))). landed (puts_in ss) xs) (sym e) ∙ h
 
-  pub landed_last : {total : Arrays} (xs : Arrays) (rest : List (Option (PartValue S))) → rest ≡ [] → landed (puts_in rest) xs ≡ total → xs ≡ total
+  pub landed_last : {total : Arrays} (xs : Arrays) (rest : List (Option (PartValue S))) → rest ≡ [] → landed (puts_in rest) xs ≡ total
+      → xs ≡ total
   landed_last xs rest e h = sym (landed_none xs) ∙ ap (λ (ss : List (Option (PartValue S))). landed (puts_in ss) xs) (sym e) ∙ h
 
   -- no puts are left

@@ -16,7 +16,8 @@ module _ {S : Type 0} where
     pub tasks : all_of rs ++ tasks_in (reverse parts) ≡ all_in ps
     pub many : end ≡ length (all_of rs)
 
-  pub made_begins : (ps rs : List (Piece S)) (parts : List (Option (PartValue S))) (count : ℕ) → rs ≡ reverse ps → parts ≡ [] → AreEmpty ps → length (all_in ps) ≡ count → IsMade ps count rs parts
+  pub made_begins : (ps rs : List (Piece S)) (parts : List (Option (PartValue S))) (count : ℕ) → rs ≡ reverse ps → parts ≡ [] → AreEmpty ps
+      → length (all_in ps) ≡ count → IsMade ps count rs parts
   made_begins ps rs parts count e n h c =
       let all : all_of rs ≡ all_in ps = ap all_of e ∙ of_reversed ps in
       record {
@@ -27,15 +28,19 @@ module _ {S : Type 0} where
       }
 
   -- the next piece
-  pub record IsPiece (ps : List (Piece S)) (end from : ℕ) (front : List (Piece S)) (p : Piece S) (parts : List (Option (PartValue S))) : Type 0 where
+  pub record IsPiece (ps : List (Piece S)) (end from : ℕ) (front : List (Piece S)) (p : Piece S)
+      (parts : List (Option (PartValue S))) : Type 0 where
     pub inside : length p.tasks.items ≤ end
     pub sum : from ≡ end - length p.tasks.items → from + length p.tasks.items ≡ end
     pub part : p.part ≡ fresh_part 0 []
     pub fresh : from ≡ end - length p.tasks.items → AreFresh (from + length p.tasks.items) (reverse parts)
-    pub next : (rest : List S) (qs more : List (Option (PartValue S))) (part : PartValue S) → from ≡ end - length p.tasks.items → AreFresh (from + length rest) (reverse qs)
-        → rest ++ tasks_in (reverse qs) ≡ p.tasks.items ++ tasks_in (reverse parts) → part ≡ fresh_part from rest → more ≡ qs ++ Some part ∷ [] → IsMade ps from front more
+    pub next : (rest : List S) (qs more : List (Option (PartValue S))) (part : PartValue S) → from ≡ end - length p.tasks.items
+        → AreFresh (from + length rest) (reverse qs)
+        → rest ++ tasks_in (reverse qs) ≡ p.tasks.items ++ tasks_in (reverse parts) → part ≡ fresh_part from rest
+        → more ≡ qs ++ Some part ∷ [] → IsMade ps from front more
 
-  pub piece_next : (ps : List (Piece S)) (end from : ℕ) (rs front : List (Piece S)) (p : Piece S) (parts : List (Option (PartValue S))) → IsMade ps end rs parts → rs ≡ front ++ p ∷ [] → IsPiece ps end from front p parts
+  pub piece_next : (ps : List (Piece S)) (end from : ℕ) (rs front : List (Piece S)) (p : Piece S) (parts : List (Option (PartValue S)))
+      → IsMade ps end rs parts → rs ≡ front ++ p ∷ [] → IsPiece ps end from front p parts
   piece_next ps end from rs front p parts h e =
       let all : all_of rs ≡ all_of front ++ p.tasks.items = ap all_of e ∙ of_last front p in
       let long = ap length all ∙ length-append (all_of front) p.tasks.items in
@@ -53,11 +58,13 @@ module _ {S : Type 0} where
           fresh = fresh_front from (from + length rest) rest qs more part r is m refl;
           tasks =
               ap (λ (ts : List S). all_of front ++ ts) (tasks_front from rest qs more part is m ∙ t)
-              ∙ sym (append_assoc (all_of front) p.tasks.items (tasks_in (reverse parts))) ∙ ap (λ (ts : List S). ts ++ tasks_in (reverse parts)) (sym all) ∙ h.tasks;
+              ∙ sym (append_assoc (all_of front) p.tasks.items (tasks_in (reverse parts)))
+              ∙ ap (λ (ts : List S). ts ++ tasks_in (reverse parts)) (sym all) ∙ h.tasks;
           many = omega (arith, f, long, many);
         };
       }
 
-  pub made_ends : (ps : List (Piece S)) (end : ℕ) (rs : List (Piece S)) (parts : List (Option (PartValue S))) → IsMade ps end rs parts → length rs ≡ 0 → AreFresh 0 (reverse parts) × (tasks_in (reverse parts) ≡ all_in ps)
+  pub made_ends : (ps : List (Piece S)) (end : ℕ) (rs : List (Piece S)) (parts : List (Option (PartValue S))) → IsMade ps end rs parts
+      → length rs ≡ 0 → AreFresh 0 (reverse parts) × (tasks_in (reverse parts) ≡ all_in ps)
   made_ends ps end [] parts h n = (subst (λ (k : ℕ). AreFresh k (reverse parts)) h.many h.fresh, h.tasks)
   made_ends ps end (r ∷ rs) parts h n = absurd (omega (arith, n))

@@ -85,11 +85,13 @@ module _ {A : Type 0} (path : A → List ℕ) where
 
   -- ---- strays pass by a list of tasks
 
-  pass_each : (ts ws zs : List A) → AllByRecursion (λ t. ComesFirst t ws) ts → IsInOrder path ws → put_all path ws (ts ++ zs) ≡ ts ++ put_all path ws zs
+  pass_each : (ts ws zs : List A) → AllByRecursion (λ t. ComesFirst t ws) ts → IsInOrder path ws
+      → put_all path ws (ts ++ zs) ≡ ts ++ put_all path ws zs
   pass_each [] ws zs h s = refl
   pass_each (t ∷ ts) ws zs h s = task_next t ws (ts ++ zs) h.0 s ∙ ap (λ (xs : List A). t ∷ xs) (pass_each ts ws zs h.1 s)
 
-  comes_before : (l w : A) (ws ts : List A) → path_lt (path l) (path w) ≡ true → AllByRecursion (λ t. path_lt (path l) (path t) ≡ false) ts → AllByRecursion (λ t. ComesFirst t (w ∷ ws)) ts
+  comes_before : (l w : A) (ws ts : List A) → path_lt (path l) (path w) ≡ true → AllByRecursion (λ t. path_lt (path l) (path t) ≡ false) ts
+      → AllByRecursion (λ t. ComesFirst t (w ∷ ws)) ts
   comes_before l w ws [] h k = tt
   comes_before l w ws (t ∷ ts) h k = (lt_from (path t) (path l) (path w) h k.0, comes_before l w ws ts h k.1)
 
@@ -114,14 +116,22 @@ module _ {A : Type 0} (path : A → List ℕ) where
 
   -- all strays pass by, if the first comes after the last of the tasks
   pub passes : (ts ws : List A) → IsInOrder path ts → IsInOrder path ws → PassesBy path (reverse ts) ws → Receives path ts ts ws ws
-  passes ts ws s o p = record { front = []; cut = refl; all = λ zs. sym (pass_each ts ws zs (subst (AllByRecursion (λ t. ComesFirst t ws)) (reverse-reverse ts) (each (reverse ts) ws (subst (IsInOrder path) (sym (reverse-reverse ts)) s) p)) o) }
+  passes ts ws s o p =
+      record {
+        front = [];
+        cut = refl;
+        all =
+            λ zs. sym
+            (pass_each ts ws zs (subst (AllByRecursion (λ t. ComesFirst t ws)) (reverse-reverse ts) (each (reverse ts) ws (subst (IsInOrder path) (sym (reverse-reverse ts)) s) p)) o);
+      }
     where
       each : (bs vs : List A) → IsInOrder path (reverse bs) → PassesBy path bs vs → AllByRecursion (λ t. ComesFirst t vs) (reverse bs)
       each [] vs s p = tt
       each (l ∷ rest) [] s p = none_first (reverse (l ∷ rest))
       each (l ∷ rest) (w ∷ vs) s p =
           subst (AllByRecursion (λ t. ComesFirst t (w ∷ vs))) (sym (turned l rest))
-          (each_append (λ t. ComesFirst t (w ∷ vs)) (reverse rest) (l ∷ []) (comes_before l w vs (reverse rest) p (none_after_last (reverse rest) l (subst (IsInOrder path) (turned l rest) s))) (p, tt))
+          (each_append (λ t. ComesFirst t (w ∷ vs)) (reverse rest) (l ∷ [])
+          (comes_before l w vs (reverse rest) p (none_after_last (reverse rest) l (subst (IsInOrder path) (turned l rest) s))) (p, tt))
 
   -- ---- tasks move between the end of a list and the strays behind it
 
@@ -142,9 +152,11 @@ module _ {A : Type 0} (path : A → List ℕ) where
   within None t b = tt
   within (Some p) t b = lt_asym (path t) p b
 
-  pub end_within : (low : Option (List ℕ)) (strays rest tasks new : List A) → HasMovedLast strays rest tasks new → IsFirstBefore path low (reverse strays) → IsEndWithin path low (reverse new)
+  pub end_within : (low : Option (List ℕ)) (strays rest tasks new : List A) → HasMovedLast strays rest tasks new
+      → IsFirstBefore path low (reverse strays) → IsEndWithin path low (reverse new)
   end_within low strays rest tasks new h b =
-      subst (IsEndWithin path low) (sym (first_there new tasks h.last h.moved)) (within low h.last (subst (IsFirstBefore path low) (first_there strays rest h.last h.cut) b))
+      subst (IsEndWithin path low) (sym (first_there new tasks h.last h.moved))
+      (within low h.last (subst (IsFirstBefore path low) (first_there strays rest h.last h.cut) b))
 
   pub some_first : (low : Option (List ℕ)) (strays : List A) → IsFirstBefore path low (reverse strays) → 0 < length strays
   some_first low [] b = absurd b
@@ -160,9 +172,11 @@ module _ {A : Type 0} (path : A → List ℕ) where
     pub left : (rest : List A) → out ++ put_all path ws (ts ++ rest) ≡ put_all path waited (all ++ rest)
 
   pub merge_begins : (ts ws out : List A) → out ≡ [] → IsInOrder path ws → Merges ts ws out ts ws
-  merge_begins ts ws out e s = record { front = []; cut = refl; order = s; left = λ rest. ap (λ (xs : List A). xs ++ put_all path ws (ts ++ rest)) e }
+  merge_begins ts ws out e s =
+      record { front = []; cut = refl; order = s; left = λ rest. ap (λ (xs : List A). xs ++ put_all path ws (ts ++ rest)) e }
 
-  merge_stray : (all waited out new ts ws : List A) (t w : A) → Merges all waited out (t ∷ ts) (w ∷ ws) → path_lt (path t) (path w) ≡ false → new ≡ out ++ w ∷ [] → Merges all waited new (t ∷ ts) ws
+  merge_stray : (all waited out new ts ws : List A) (t w : A) → Merges all waited out (t ∷ ts) (w ∷ ws) → path_lt (path t) (path w) ≡ false
+      → new ≡ out ++ w ∷ [] → Merges all waited new (t ∷ ts) ws
   merge_stray all waited out new ts ws t w m h e = record {
     front = m.front ++ w ∷ [];
     cut = m.cut ∙ sym (append_assoc m.front (w ∷ []) ws);
@@ -174,7 +188,8 @@ module _ {A : Type 0} (path : A → List ℕ) where
         ∙ m.left rest;
   }
 
-  merge_task : (all waited out new ts ws : List A) (t : A) → Merges all waited out (t ∷ ts) ws → ComesFirst t ws → new ≡ out ++ t ∷ [] → Merges all waited new ts ws
+  merge_task : (all waited out new ts ws : List A) (t : A) → Merges all waited out (t ∷ ts) ws → ComesFirst t ws → new ≡ out ++ t ∷ []
+      → Merges all waited new ts ws
   merge_task all waited out new ts ws t m h e = record {
     front = m.front;
     cut = m.cut;
@@ -189,27 +204,33 @@ module _ {A : Type 0} (path : A → List ℕ) where
   last_first : (xs rest : List A) (x : A) → xs ≡ rest ++ x ∷ [] → reverse xs ≡ x ∷ reverse rest
   last_first xs rest x e = ap reverse e ∙ reverse-append rest (x ∷ [])
 
-  stray_step : (all waited out new ts ws : List A) (w : A) → Merges all waited out ts (w ∷ ws) → IsStrayNext path ts (w ∷ ws) → new ≡ out ++ w ∷ [] → Merges all waited new ts ws
+  stray_step : (all waited out new ts ws : List A) (w : A) → Merges all waited out ts (w ∷ ws) → IsStrayNext path ts (w ∷ ws)
+      → new ≡ out ++ w ∷ [] → Merges all waited new ts ws
   stray_step all waited out new [] ws w m n e = absurd n
   stray_step all waited out new (t ∷ ts) ws w m n e = merge_stray all waited out new ts ws t w m n e
 
   -- the next is a stray
-  pub stray_moved : (all waited out new tasks strays rest : List A) → Merges all waited out (reverse tasks) (reverse strays) → IsStrayNext path (reverse tasks) (reverse strays)
+  pub stray_moved : (all waited out new tasks strays rest : List A) → Merges all waited out (reverse tasks) (reverse strays)
+      → IsStrayNext path (reverse tasks) (reverse strays)
       → HasMovedLast strays rest out new → Merges all waited new (reverse tasks) (reverse rest)
   stray_moved all waited out new tasks strays rest m n h =
       let e = last_first strays rest h.last h.cut in
-      stray_step all waited out new (reverse tasks) (reverse rest) h.last (subst (Merges all waited out (reverse tasks)) e m) (subst (IsStrayNext path (reverse tasks)) e n) h.moved
+      stray_step all waited out new (reverse tasks) (reverse rest) h.last (subst (Merges all waited out (reverse tasks)) e m)
+      (subst (IsStrayNext path (reverse tasks)) e n) h.moved
 
-  task_step : (all waited out new ts ws : List A) (t : A) → Merges all waited out (t ∷ ts) ws → PassesBy path (t ∷ ts) ws → new ≡ out ++ t ∷ [] → Merges all waited new ts ws
+  task_step : (all waited out new ts ws : List A) (t : A) → Merges all waited out (t ∷ ts) ws → PassesBy path (t ∷ ts) ws
+      → new ≡ out ++ t ∷ [] → Merges all waited new ts ws
   task_step all waited out new ts [] t m n e = merge_task all waited out new ts [] t m tt e
   task_step all waited out new ts (w ∷ ws) t m n e = merge_task all waited out new ts (w ∷ ws) t m n e
 
   -- the next is a task
-  pub task_moved : (all waited out new tasks rest ws : List A) → Merges all waited out (reverse tasks) ws → PassesBy path (reverse tasks) ws → HasMovedLast tasks rest out new
+  pub task_moved : (all waited out new tasks rest ws : List A) → Merges all waited out (reverse tasks) ws → PassesBy path (reverse tasks) ws
+      → HasMovedLast tasks rest out new
       → Merges all waited new (reverse rest) ws
   task_moved all waited out new tasks rest ws m n h =
       let e = last_first tasks rest h.last h.cut in
-      task_step all waited out new (reverse rest) ws h.last (subst (λ (xs : List A). Merges all waited out xs ws) e m) (subst (λ (xs : List A). PassesBy path xs ws) e n) h.moved
+      task_step all waited out new (reverse rest) ws h.last (subst (λ (xs : List A). Merges all waited out xs ws) e m)
+      (subst (λ (xs : List A). PassesBy path xs ws) e n) h.moved
 
   -- there is one
   pub stray_there : (ts strays : List A) → IsStrayNext path ts (reverse strays) → 0 < length strays
@@ -217,7 +238,8 @@ module _ {A : Type 0} (path : A → List ℕ) where
   stray_there (t ∷ ts) [] n = absurd n
   stray_there (t ∷ ts) (w ∷ strays) n = omega arith
 
-  pub merge_ends : (all waited out tasks ws : List A) → Merges all waited out (reverse tasks) ws → length tasks ≡ 0 → Receives path all out waited ws
+  pub merge_ends : (all waited out tasks ws : List A) → Merges all waited out (reverse tasks) ws → length tasks ≡ 0
+      → Receives path all out waited ws
   merge_ends all waited out [] ws m n = record { front = m.front; cut = m.cut; all = m.left }
   merge_ends all waited out (t ∷ tasks) ws m n = absurd (omega (arith, n))
 
@@ -226,14 +248,17 @@ module _ {A : Type 0} (path : A → List ℕ) where
   none_acc : (f y : A) (ys : List A) → path_lt (path y) (path f) ≡ false → IsInOrder path (y ∷ ys) → NoneBefore path (path f) (y ∷ ys)
   none_acc f y ys h s = (h, none_earlier path (path y) (path f) ys h s.0)
 
-  each_low : (bs : List A) (y : A) (ys : List A) → IsInOrder path (reverse bs) → IsEndWithin path (Some (path y)) bs → IsInOrder path (y ∷ ys)
+  each_low : (bs : List A) (y : A) (ys : List A) → IsInOrder path (reverse bs) → IsEndWithin path (Some (path y)) bs
+      → IsInOrder path (y ∷ ys)
       → AllByRecursion (λ f. NoneBefore path (path f) (y ∷ ys)) (reverse bs)
   each_low [] y ys s h o = tt
   each_low (l ∷ rest) y ys s h o =
       subst (AllByRecursion (λ f. NoneBefore path (path f) (y ∷ ys))) (sym (turned l rest))
-      (each_append (λ f. NoneBefore path (path f) (y ∷ ys)) (reverse rest) (l ∷ []) (front (reverse rest) (none_after_last (reverse rest) l (subst (IsInOrder path) (turned l rest) s))) (none_acc l y ys h o, tt))
+      (each_append (λ f. NoneBefore path (path f) (y ∷ ys)) (reverse rest) (l ∷ [])
+      (front (reverse rest) (none_after_last (reverse rest) l (subst (IsInOrder path) (turned l rest) s))) (none_acc l y ys h o, tt))
     where
-      front : (ts : List A) → AllByRecursion (λ t. path_lt (path l) (path t) ≡ false) ts → AllByRecursion (λ f. NoneBefore path (path f) (y ∷ ys)) ts
+      front : (ts : List A) → AllByRecursion (λ t. path_lt (path l) (path t) ≡ false) ts
+          → AllByRecursion (λ f. NoneBefore path (path f) (y ∷ ys)) ts
       front [] k = tt
       front (t ∷ ts) k = (none_acc t y ys (not_lt (path y) (path l) (path t) h k.0) o, front ts k.1)
 
@@ -241,7 +266,8 @@ module _ {A : Type 0} (path : A → List ℕ) where
   none_nothing [] = tt
   none_nothing (t ∷ ts) = (tt, none_nothing ts)
 
-  both_none : (ts ws acc : List A) → IsInOrder path (ts ++ ws) → AllByRecursion (λ f. NoneBefore path (path f) acc) ts → AllByRecursion (λ f. NoneBefore path (path f) (put_all path ws acc)) ts
+  both_none : (ts ws acc : List A) → IsInOrder path (ts ++ ws) → AllByRecursion (λ f. NoneBefore path (path f) acc) ts
+      → AllByRecursion (λ f. NoneBefore path (path f) (put_all path ws acc)) ts
   both_none [] ws acc s h = tt
   both_none (t ∷ ts) ws acc s h = (none_all path (path t) ws acc (last ts s.0) h.0, both_none ts ws acc s.1 h.1)
     where
@@ -250,13 +276,16 @@ module _ {A : Type 0} (path : A → List ℕ) where
       last (x ∷ xs) n = last xs n.1
 
   -- tasks of which the last doesn't come after the first of others stay in front of these; those behind them are put in their places
-  pub fits_before : (ts ws acc : List A) (low : Option (List ℕ)) → IsInOrder path (ts ++ ws) → IsInOrder path acc → low ≡ slice_get (map path acc) 0 → IsEndWithin path low (reverse ts)
+  pub fits_before : (ts ws acc : List A) (low : Option (List ℕ)) → IsInOrder path (ts ++ ws) → IsInOrder path acc
+      → low ≡ slice_get (map path acc) 0 → IsEndWithin path low (reverse ts)
       → put_all path (ts ++ ws) acc ≡ ts ++ put_all path ws acc
   fits_before ts ws acc low s o l h =
       put_all_append path ts ws acc
-      ∙ fronts path ts (put_all path ws acc) (sorted_front path ts ws s) (both_none ts ws acc s (by acc o (subst (λ (x : Option (List ℕ)). IsEndWithin path x (reverse ts)) l h)))
+      ∙ fronts path ts (put_all path ws acc) (sorted_front path ts ws s)
+      (both_none ts ws acc s (by acc o (subst (λ (x : Option (List ℕ)). IsEndWithin path x (reverse ts)) l h)))
     where
-      by : (ys : List A) → IsInOrder path ys → IsEndWithin path (slice_get (map path ys) 0) (reverse ts) → AllByRecursion (λ f. NoneBefore path (path f) ys) ts
+      by : (ys : List A) → IsInOrder path ys → IsEndWithin path (slice_get (map path ys) 0) (reverse ts)
+          → AllByRecursion (λ f. NoneBefore path (path f) ys) ts
       by [] o h = none_nothing ts
       by (y ∷ ys) o h =
           subst (AllByRecursion (λ f. NoneBefore path (path f) (y ∷ ys))) (reverse-reverse ts)
@@ -265,16 +294,20 @@ module _ {A : Type 0} (path : A → List ℕ) where
   -- ---- what is in order already
 
   again : (xs : List A) → in_path_order path (in_path_order path xs) ≡ in_path_order path xs
-  again xs = fronts path (in_path_order path xs) [] (sorted_all path xs [] tt) (none_nothing (in_path_order path xs)) ∙ append-nil (in_path_order path xs)
+  again xs =
+      fronts path (in_path_order path xs) [] (sorted_all path xs [] tt) (none_nothing (in_path_order path xs))
+      ∙ append-nil (in_path_order path xs)
 
   pub put_ordered : (xs acc : List A) → put_all path (in_path_order path xs) acc ≡ put_all path xs acc
-  put_ordered xs acc = sym (merged_puts path (in_path_order path xs) acc) ∙ ap (λ (zs : List A). merged path zs acc) (again xs) ∙ merged_puts path xs acc
+  put_ordered xs acc =
+      sym (merged_puts path (in_path_order path xs) acc) ∙ ap (λ (zs : List A). merged path zs acc) (again xs) ∙ merged_puts path xs acc
 
   pub in_order : (xs : List A) → IsInOrder path (in_path_order path xs)
   in_order xs = sorted_all path xs [] tt
 
   -- a stretch's next tasks are put in front, its strays in their places
-  pub placed : (living ts ws acc new all : List A) (low : Option (List ℕ)) → ts ++ ws ≡ in_path_order path living → IsInOrder path acc → low ≡ slice_get (map path acc) 0 → IsEndWithin path low (reverse ts)
+  pub placed : (living ts ws acc new all : List A) (low : Option (List ℕ)) → ts ++ ws ≡ in_path_order path living → IsInOrder path acc
+      → low ≡ slice_get (map path acc) 0 → IsEndWithin path low (reverse ts)
       → new ≡ put_all path ws acc → all ≡ ts ++ new → all ≡ put_all path living acc
   placed living ts ws acc new all low e o l h n a =
       a ∙ ap (λ (xs : List A). ts ++ xs) n

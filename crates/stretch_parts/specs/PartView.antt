@@ -16,4 +16,6 @@ part_of i = record {
 }
 
 abbrev pub IsPartInside : {S : Type 0} → (S → List ℕ) → Inside S → Type 0
-IsPartInside path i = IsKept path i.state.value.settled i.state.value.tasks.items (reverse i.state.value.spare.waiting.items) i.state.value.notes.items i.state.value.done
+IsPartInside path i =
+    IsKept path i.state.value.settled i.state.value.tasks.items (reverse i.state.value.spare.waiting.items) i.state.value.notes.items
+    i.state.value.done

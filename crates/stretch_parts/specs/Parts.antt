@@ -16,7 +16,8 @@ pub record Reading (S T : Type 0) : Type 1 where
   pub meant : S → T
   pub path : S → List ℕ
 
-abbrev pub reading_of : {Q S T : Type 0} → (Q → Frame T) → (Q → T → List (List ℕ × List ℤ) → ℕ → Segment T → Type 0) → (Q → S → T) → (S → List ℕ) → Q → Reading S T
+abbrev pub reading_of : {Q S T : Type 0} → (Q → Frame T) → (Q → T → List (List ℕ × List ℤ) → ℕ → Segment T → Type 0) → (Q → S → T)
+    → (S → List ℕ) → Q → Reading S T
 reading_of frame may meant path q = record { frame = frame q; may = may q; meant = meant q; path = path }
 
 module _ {S : Type 0} where
@@ -28,7 +29,8 @@ module _ {S T : Type 0} where
   -- these tasks ran at this step over these arrays, and this is what they left; or the first fault of theirs is known
   abbrev pub HasRun : Reading S T → List (List ℕ × List ℤ) → ℕ → List S → PartValue S → Type 0
   HasRun r arrays step olds part =
-      HasDoneRange r.frame r.may r.meant r.path arrays step part.fault 0 (length olds) [] part.puts olds part.tasks [] part.deeds [] part.prints
+      HasDoneRange r.frame r.may r.meant r.path arrays step part.fault 0 (length olds) [] part.puts olds part.tasks [] part.deeds []
+      part.prints
 
   -- none of these tasks has run, or all have
   abbrev pub HasDone : Reading S T → List (List ℕ × List ℤ) → ℕ → Bool → List S → PartValue S → Type 0

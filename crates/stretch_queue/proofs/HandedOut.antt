@@ -20,7 +20,8 @@ module _ {T : Type 0} where
   each_here P [] t h k = absurd k
   each_here P (u ∷ ts) t h k = ⊎_elim (λ e. subst P e h.0) (λ l. each_here P ts t h.1 l) k
 
-  pub each_if : (P : TicketEntry T → Type 0) (b : Bool) (u : TicketEntry T) (rest : List (TicketEntry T)) → (b ≡ false → P u) → Each P rest → Each P (if b then rest else u ∷ rest)
+  pub each_if : (P : TicketEntry T → Type 0) (b : Bool) (u : TicketEntry T) (rest : List (TicketEntry T)) → (b ≡ false → P u) → Each P rest
+      → Each P (if b then rest else u ∷ rest)
   each_if P true u rest h k = k
   each_if P false u rest h k = (h refl, k)
 
@@ -28,49 +29,68 @@ module _ {T : Type 0} where
   each_without P key [] h = tt
   each_without P key (u ∷ ts) h = each_if P (key == u.key) u (without key ts) (λ _. h.0) (each_without P key ts h.1)
 
-  apart_if : (b : Bool) (u : TicketEntry T) (rest : List (TicketEntry T)) → Each (λ x. x.number ≢ u.number) rest → AreApart rest → AreApart (if b then rest else u ∷ rest)
+  apart_if : (b : Bool) (u : TicketEntry T) (rest : List (TicketEntry T)) → Each (λ x. x.number ≢ u.number) rest → AreApart rest
+      → AreApart (if b then rest else u ∷ rest)
   apart_if true u rest h k = k
   apart_if false u rest h k = (h, k)
 
   apart_without : (key : ℕ) (ts : List (TicketEntry T)) → AreApart ts → AreApart (without key ts)
   apart_without key [] h = tt
-  apart_without key (u ∷ ts) h = apart_if (key == u.key) u (without key ts) (each_without (λ x. x.number ≢ u.number) key ts h.0) (apart_without key ts h.1)
+  apart_without key (u ∷ ts) h =
+      apart_if (key == u.key) u (without key ts) (each_without (λ x. x.number ≢ u.number) key ts h.0) (apart_without key ts h.1)
 
-  each_both : (P Q R : TicketEntry T → Type 0) (ts : List (TicketEntry T)) → ((t : TicketEntry T) → P t → Q t → R t) → Each P ts → Each Q ts → Each R ts
+  each_both : (P Q R : TicketEntry T → Type 0) (ts : List (TicketEntry T)) → ((t : TicketEntry T) → P t → Q t → R t) → Each P ts → Each Q ts
+      → Each R ts
   each_both P Q R [] f h k = tt
   each_both P Q R (t ∷ ts) f h k = (f t h.0 k.0, each_both P Q R ts f h.1 k.1)
 
   -- the others have other numbers
-  others_apart : (ts : List (TicketEntry T)) (t : TicketEntry T) → AreApart ts → IsOut t ts → Each (λ u. u.number ≢ t.number) (without t.key ts)
+  others_apart : (ts : List (TicketEntry T)) (t : TicketEntry T) → AreApart ts → IsOut t ts
+      → Each (λ u. u.number ≢ t.number) (without t.key ts)
   others_apart [] t h k = absurd k
   others_apart (u ∷ ts) t h k =
-      ⊎_elim (λ e. each_if (λ x. x.number ≢ t.number) (t.key == u.key) u (without t.key ts) (λ n. absurd (same_key t.key u.key (sym (ap (λ (x : TicketEntry T). x.key) e)) n))
+      ⊎_elim
+      (λ e. each_if (λ x. x.number ≢ t.number) (t.key == u.key) u (without t.key ts) (λ n. absurd (same_key t.key u.key (sym (ap (λ (x : TicketEntry T). x.key) e)) n))
       (each_without (λ x. x.number ≢ t.number) t.key ts (subst (λ (x : TicketEntry T). Each (λ y. y.number ≢ x.number) ts) e h.0)))
-      (λ l. each_if (λ x. x.number ≢ t.number) (t.key == u.key) u (without t.key ts) (λ _ same. each_here (λ x. x.number ≢ u.number) ts t h.0 l (sym same)) (others_apart ts t h.1 l)) k
+      (λ l. each_if (λ x. x.number ≢ t.number) (t.key == u.key) u (without t.key ts) (λ _ same. each_here (λ x. x.number ≢ u.number) ts t h.0 l (sym same)) (others_apart ts t h.1 l))
+      k
 
   -- one that is out is of this superstep
-  pub found : (out : ℕ → Bool) (step : ℕ) (ts : List (TicketEntry T)) (t : TicketEntry T) → AreOut out step ts → IsOut t ts → (t.step ≡ step) × (out t.number ≡ true)
+  pub found : (out : ℕ → Bool) (step : ℕ) (ts : List (TicketEntry T)) (t : TicketEntry T) → AreOut out step ts → IsOut t ts
+      → (t.step ≡ step) × (out t.number ≡ true)
   found out step ts t h k = each_here (λ u. (u.step ≡ step) × (out u.number ≡ true)) ts t h.0 k
 
   -- one more goes out
-  pub one_more : (was now : ℕ → Bool) (step step' at key number : ℕ) (known : T) (ts : List (TicketEntry T)) → AreOut was step ts → was number ≡ false → now number ≡ true
+  pub one_more : (was now : ℕ → Bool) (step step' at key number : ℕ) (known : T) (ts : List (TicketEntry T)) → AreOut was step ts
+      → was number ≡ false → now number ≡ true
       → ((k : ℕ) → was k ≡ true → now k ≡ true) → step' ≡ step → at ≡ step' → AreOut now step' (ticket_entry key at number known ∷ ts)
   one_more was now step step' at key number known ts h free gone others same here = (
-    ((here, gone), each_both (λ t. (t.step ≡ step) × (was t.number ≡ true)) (λ t. (t.step ≡ step) × (was t.number ≡ true)) (λ t. (t.step ≡ step') × (now t.number ≡ true)) ts (λ t a b. (a.0 ∙ sym same, others t.number a.1)) h.0 h.0),
-    (each_both (λ t. (t.step ≡ step) × (was t.number ≡ true)) (λ t. (t.step ≡ step) × (was t.number ≡ true)) (λ t. t.number ≢ number) ts (λ t a b e. not_both (was t.number) a.1 (ap was e ∙ free)) h.0 h.0, h.1),
+    (
+      (here, gone),
+      each_both (λ t. (t.step ≡ step) × (was t.number ≡ true)) (λ t. (t.step ≡ step) × (was t.number ≡ true))
+          (λ t. (t.step ≡ step') × (now t.number ≡ true)) ts (λ t a b. (a.0 ∙ sym same, others t.number a.1)) h.0 h.0,
+    ),
+    (
+      each_both (λ t. (t.step ≡ step) × (was t.number ≡ true)) (λ t. (t.step ≡ step) × (was t.number ≡ true)) (λ t. t.number ≢ number) ts
+          (λ t a b e. not_both (was t.number) a.1 (ap was e ∙ free)) h.0 h.0,
+      h.1,
+    ),
   )
 
   -- one comes back
   pub one_less : (was now : ℕ → Bool) (step step' : ℕ) (ts : List (TicketEntry T)) (t : TicketEntry T) → AreOut was step ts → IsOut t ts
       → ((k : ℕ) → was k ≡ true → k ≢ t.number → now k ≡ true) → step' ≡ step → AreOut now step' (without t.key ts)
   one_less was now step step' ts t h k others same = (
-    each_both (λ u. (u.step ≡ step) × (was u.number ≡ true)) (λ u. u.number ≢ t.number) (λ u. (u.step ≡ step') × (now u.number ≡ true)) (without t.key ts)
-        (λ u a n. (a.0 ∙ sym same, others u.number a.1 n)) (each_without (λ u. (u.step ≡ step) × (was u.number ≡ true)) t.key ts h.0) (others_apart ts t h.1 k),
+    each_both (λ u. (u.step ≡ step) × (was u.number ≡ true)) (λ u. u.number ≢ t.number) (λ u. (u.step ≡ step') × (now u.number ≡ true))
+        (without t.key ts)
+        (λ u a n. (a.0 ∙ sym same, others u.number a.1 n)) (each_without (λ u. (u.step ≡ step) × (was u.number ≡ true)) t.key ts h.0)
+        (others_apart ts t h.1 k),
     apart_without t.key ts h.1,
   )
 
   -- none is out, whatever comes
-  pub none_out : (was now : ℕ → Bool) (step step' : ℕ) (ts : List (TicketEntry T)) → AreOut was step ts → ((k : ℕ) → was k ≡ false) → AreOut now step' ts
+  pub none_out : (was now : ℕ → Bool) (step step' : ℕ) (ts : List (TicketEntry T)) → AreOut was step ts → ((k : ℕ) → was k ≡ false)
+      → AreOut now step' ts
   none_out was now step step' [] h n = (tt, tt)
   none_out was now step step' (t ∷ ts) h n = absurd (not_both (was t.number) h.0.0.1 (n t.number))
 
@@ -84,8 +104,10 @@ module _ {T : Type 0} where
     pub of_step : t.step ≡ step
     pub of_number : t.number ≡ number
 
-  pub struck : (held : Option (TicketEntry T)) (step number : ℕ) (ts us : List (TicketEntry T)) → option_map {U = ℕ × ℕ} (λ t. (t.step, t.number)) held ≡ Some (step, number)
-      → IfSome held (λ u. IsOut u ts × (us ≡ without u.key ts)) → IfSome held (λ t. (u : TicketEntry T) → IsOut u ts → (t ≡ u) ⊎ IsOut u us) → Struck held step number ts us
+  pub struck : (held : Option (TicketEntry T)) (step number : ℕ) (ts us : List (TicketEntry T))
+      → option_map {U = ℕ × ℕ} (λ t. (t.step, t.number)) held ≡ Some (step, number)
+      → IfSome held (λ u. IsOut u ts × (us ≡ without u.key ts)) → IfSome held (λ t. (u : TicketEntry T) → IsOut u ts → (t ≡ u) ⊎ IsOut u us)
+      → Struck held step number ts us
   struck None step number ts us e h k = absurd (none_some (step, number) e)
     where
       none_some : (y : ℕ × ℕ) → None ≡ Some y → ⊥

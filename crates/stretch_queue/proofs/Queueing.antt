@@ -35,7 +35,8 @@ out_not_there (Some None) a b = not_both false b refl
 out_not_there (Some (Some part)) a b = not_both false a refl
 
 -- a stretch whose ticket came back isn't refused
-pub not_refused : {Q S : Type 0} (v : StretchesValue Q S) (s : StretchValue Q S) (fault : AcceptStretchFault) → s.step ≡ v.step → s.part.done ≡ true → out_at (slice_get v.parts s.number) ≡ true → Refuses fault v s → ⊥
+pub not_refused : {Q S : Type 0} (v : StretchesValue Q S) (s : StretchValue Q S) (fault : AcceptStretchFault) → s.step ≡ v.step
+    → s.part.done ≡ true → out_at (slice_get v.parts s.number) ≡ true → Refuses fault v s → ⊥
 not_refused v s unwanted.WrongStep step done out h = h step
 not_refused v s unwanted.Unfinished step done out h = not_both s.part.done done h.1
 not_refused v s unwanted.Stranger step done out h = not_both (out_at (slice_get v.parts s.number)) out (ap out_at h.2)
@@ -43,7 +44,8 @@ not_refused v s unwanted.Double step done out h = out_not_there (slice_get v.par
 
 module _ {Q S : Type 0} {kept : StretchesValue Q S → Bool → Type 0} {mark : TableId} {workers : ℕ} {passes stops : TableId} where
   -- as it begins
-  pub begun : (lists : Lists) (v : StretchesValue Q S) (stopped : Bool) (first : Option Refused) (ready : List ℕ) → v.name ≡ mark → IfSome first (IsOfWorkers workers) → AreNew lists → AreNamed passes stops lists → AreNext v
+  pub begun : (lists : Lists) (v : StretchesValue Q S) (stopped : Bool) (first : Option Refused) (ready : List ℕ) → v.name ≡ mark
+      → IfSome first (IsOfWorkers workers) → AreNew lists → AreNamed passes stops lists → AreNext v
       → kept (bare v) stopped → (stopped ≡ true → status_in v ≡ None)
       → IsQueue kept mark workers passes stops lists (record { stretches = v; stopped = stopped; first = first; ready = ready })
   begun lists v stopped first ready m w new named next k halted = record {
@@ -61,8 +63,10 @@ module _ {Q S : Type 0} {kept : StretchesValue Q S → Bool → Type 0} {mark : 
     ended_over e = ap (λ (x : Bool). is_some b.first || x) e ∙ or_true (is_some b.first)
 
     -- a stretch goes out
-    pub handed_out : is_over b ≡ false → (number : ℕ) (v : StretchesValue Q S) (s : StretchValue Q S) → IsTaken b.stretches v number s → (new : Lists) (key at place : ℕ) → at ≡ s.step → place ≡ s.number
-        → new.stretches ≡ record lists.stretches { out = ticket_entry key at place tt ∷ lists.stretches.out } → new.stops ≡ lists.stops → (ready : List ℕ)
+    pub handed_out : is_over b ≡ false → (number : ℕ) (v : StretchesValue Q S) (s : StretchValue Q S) → IsTaken b.stretches v number s
+        → (new : Lists) (key at place : ℕ) → at ≡ s.step → place ≡ s.number
+        → new.stretches ≡ record lists.stretches { out = ticket_entry key at place tt ∷ lists.stretches.out } → new.stops ≡ lists.stops
+        → (ready : List ℕ)
         → IsQueue kept mark workers passes stops new (record b { stretches = v; ready = ready })
     handed_out going number v s t new key at place same here more others ready =
         let o = taken_out b.stretches v number s t in
@@ -85,7 +89,8 @@ module _ {Q S : Type 0} {kept : StretchesValue Q S → Bool → Type 0} {mark : 
         }
 
     -- a stretch comes back, with its ticket
-    pub delivered : (s : StretchValue Q S) (v : StretchesValue Q S) (new : Lists) → v ≡ with_slot b.stretches s.number (Some s.part) → Accepts b.stretches s → (t : TicketEntry (Unit {0})) → IsOut t lists.stretches.out → t.number ≡ s.number
+    pub delivered : (s : StretchValue Q S) (v : StretchesValue Q S) (new : Lists) → v ≡ with_slot b.stretches s.number (Some s.part)
+        → Accepts b.stretches s → (t : TicketEntry (Unit {0})) → IsOut t lists.stretches.out → t.number ≡ s.number
         → new.stretches.name ≡ lists.stretches.name → new.stretches.out ≡ without t.key lists.stretches.out → new.stops ≡ lists.stops
         → IsQueue kept mark workers passes stops new (record b { stretches = v })
     delivered s v new same a t there number name rest others =
@@ -96,8 +101,11 @@ module _ {Q S : Type 0} {kept : StretchesValue Q S → Bool → Type 0} {mark : 
           of_workers = q.of_workers;
           named = (name ∙ q.named.0, ap (λ l. l.name) others ∙ q.named.1);
           are_out =
-              subst (λ ts. AreOut (λ k. out_at (slice_get (with_slot b.stretches s.number (Some s.part)).parts k)) b.stretches.step ts) (sym rest)
-              (one_less (λ k. out_at (slice_get b.stretches.parts k)) (λ k. out_at (slice_get (with_slot b.stretches s.number (Some s.part)).parts k)) b.stretches.step b.stretches.step lists.stretches.out t q.are_out there
+              subst (λ ts. AreOut (λ k. out_at (slice_get (with_slot b.stretches s.number (Some s.part)).parts k)) b.stretches.step ts)
+              (sym rest)
+              (one_less (λ k. out_at (slice_get b.stretches.parts k))
+              (λ k. out_at (slice_get (with_slot b.stretches s.number (Some s.part)).parts k)) b.stretches.step b.stretches.step
+              lists.stretches.out t q.are_out there
               (λ k e n. back_others b.stretches s k (λ same. n (same ∙ sym number)) e) refl);
           keeps = q.keeps;
           leaves = λ e ended. absurd (not_both (out_at (slice_get b.stretches.parts t.number)) was.1 ((q.leaves e ended).1 t.number));
@@ -109,12 +117,16 @@ module _ {Q S : Type 0} {kept : StretchesValue Q S → Bool → Type 0} {mark : 
     not_stopped going = by b.stopped refl
       where
         by : (x : Bool) → b.stopped ≡ x → b.stopped ≡ false
-        by true e = absurd (not_both (is_over b) (ended_over (ap (λ (x : Bool). is_some (status_in b.stretches) || x) e ∙ or_true (is_some (status_in b.stretches)))) going)
+        by true e =
+            absurd
+            (not_both (is_over b) (ended_over (ap (λ (x : Bool). is_some (status_in b.stretches) || x) e ∙ or_true (is_some (status_in b.stretches)))) going)
         by false e = e
 
     -- a superstep is closed
-    pub closed : {L : Type 0} (c : Closed L) (v : StretchesValue Q S) (stopped : Bool) → stopped ≡ is_stopped c → IsSameRun b.stretches v → covers true b.stretches.count 0 b.stretches.parts ≡ true
-        → kept (bare v) (is_stopped c) → Reopens c v → is_over b ≡ false → IsQueue kept mark workers passes stops lists (record b { stretches = v; stopped = stopped })
+    pub closed : {L : Type 0} (c : Closed L) (v : StretchesValue Q S) (stopped : Bool) → stopped ≡ is_stopped c → IsSameRun b.stretches v
+        → covers true b.stretches.count 0 b.stretches.parts ≡ true
+        → kept (bare v) (is_stopped c) → Reopens c v → is_over b ≡ false
+        → IsQueue kept mark workers passes stops lists (record b { stretches = v; stopped = stopped })
     closed c v stopped is same whole k r going =
         subst (λ (x : Bool). IsQueue kept mark workers passes stops lists (record b { stretches = v; stopped = x })) (sym is)
         (record {
@@ -122,7 +134,8 @@ module _ {Q S : Type 0} {kept : StretchesValue Q S → Bool → Type 0} {mark : 
           of_workers = q.of_workers;
           named = q.named;
           are_out =
-              none_out (λ j. out_at (slice_get b.stretches.parts j)) (λ j. out_at (slice_get v.parts j)) b.stretches.step v.step lists.stretches.out q.are_out
+              none_out (λ j. out_at (slice_get b.stretches.parts j)) (λ j. out_at (slice_get v.parts j)) b.stretches.step v.step
+              lists.stretches.out q.are_out
               (none_left b.stretches.count b.stretches.parts whole);
           keeps = λ e. k;
           leaves = λ e ended. (reopened_leaves v c r ended, reopened_none_out v c r);
@@ -130,16 +143,19 @@ module _ {Q S : Type 0} {kept : StretchesValue Q S → Bool → Type 0} {mark : 
         })
 
     -- it couldn't be closed
-    pub unclosed : (v : StretchesValue Q S) (r : Refused) → IsSameRun b.stretches v → (v ≡ b.stretches) ⊎ (covers true b.stretches.count 0 b.stretches.parts ≡ true) → IsOfWorkers workers r
+    pub unclosed : (v : StretchesValue Q S) (r : Refused) → IsSameRun b.stretches v
+        → (v ≡ b.stretches) ⊎ (covers true b.stretches.count 0 b.stretches.parts ≡ true) → IsOfWorkers workers r
         → IsQueue kept mark workers passes stops lists (record b { stretches = v; first = Some r })
     unclosed v r same why w = record {
       of_mark = same.named ∙ q.of_mark;
       of_workers = w;
       named = q.named;
       are_out =
-          ⊎_elim (λ e. subst (λ (x : StretchesValue Q S). AreOut (λ j. out_at (slice_get x.parts j)) x.step lists.stretches.out) (sym e) q.are_out)
+          ⊎_elim
+          (λ e. subst (λ (x : StretchesValue Q S). AreOut (λ j. out_at (slice_get x.parts j)) x.step lists.stretches.out) (sym e) q.are_out)
           (λ whole.
-          none_out (λ j. out_at (slice_get b.stretches.parts j)) (λ j. out_at (slice_get v.parts j)) b.stretches.step v.step lists.stretches.out q.are_out
+          none_out (λ j. out_at (slice_get b.stretches.parts j)) (λ j. out_at (slice_get v.parts j)) b.stretches.step v.step
+          lists.stretches.out q.are_out
           (none_left b.stretches.count b.stretches.parts whole)) why;
       keeps = λ e. absurd (some_none r e);
       leaves = λ e ended. absurd (some_none r e);

@@ -17,10 +17,12 @@ only_left false e = cc
 
 module _ {Q S : Type 0} (v : StretchesValue Q S) where
   next_rest : AreNext v → covers false v.count 0 v.parts ≡ true
-  next_rest n = fresh_covers v.count 0 v.parts n.fresh (let e = n.count in let k : v.count ≡ 0 + length (tasks_in v.parts) = omega (arith, e) in k)
+  next_rest n =
+      fresh_covers v.count 0 v.parts n.fresh (let e = n.count in let k : v.count ≡ 0 + length (tasks_in v.parts) = omega (arith, e) in k)
 
   -- a run can leave once it has ended, or its hook has stopped it
-  pub next_leaves : (stopped : Bool) → AreNext v → (stopped ≡ true → status_in v ≡ None) → has_ended_in v stopped ≡ true → can_leave_in v stopped ≡ true
+  pub next_leaves : (stopped : Bool) → AreNext v → (stopped ≡ true → status_in v ≡ None) → has_ended_in v stopped ≡ true
+      → can_leave_in v stopped ≡ true
   next_leaves true n run e = λ i. not (is_some (run refl i)) && next_rest n i
   next_leaves false n run e = fresh_leaves v n.fresh n.count (only_left (is_some (status_in v)) e)
 
@@ -28,7 +30,8 @@ module _ {Q S : Type 0} (v : StretchesValue Q S) where
   next_none_out n k = fresh_none_out 0 v.parts n.fresh k
 
   -- the same after a superstep was closed
-  pub reopened_leaves : {L : Type 0} (c : Closed L) → Reopens c v → has_ended_in v (is_stopped c) ≡ true → can_leave_in v (is_stopped c) ≡ true
+  pub reopened_leaves : {L : Type 0} (c : Closed L) → Reopens c v → has_ended_in v (is_stopped c) ≡ true
+      → can_leave_in v (is_stopped c) ≡ true
   reopened_leaves (Landed lines) h e = next_leaves false h (λ t. absurd (no t)) e
     where
       no : false ≡ true → ⊥

@@ -34,7 +34,8 @@ both_right false b e = absurd (not_false e)
 
 module _ {S : Type 0} where
   -- one more is out
-  pub out_more : (ss : List (Option (PartValue S))) (n k : ℕ) → out_at (slice_get ss k) ≡ true → out_at (slice_get (slice_set ss n None) k) ≡ true
+  pub out_more : (ss : List (Option (PartValue S))) (n k : ℕ) → out_at (slice_get ss k) ≡ true
+      → out_at (slice_get (slice_set ss n None) k) ≡ true
   out_more [] n k e = e
   out_more (s ∷ ss) zero zero e = refl
   out_more (s ∷ ss) zero (suc k) e = e
@@ -42,12 +43,14 @@ module _ {S : Type 0} where
   out_more (s ∷ ss) (suc n) (suc k) e = out_more ss n k e
 
   -- if all are there, none is out
-  pub none_out_of : (done : Bool) (end at : ℕ) (ss : List (Option (PartValue S))) → covers done end at ss ≡ true → (k : ℕ) → out_at (slice_get ss k) ≡ false
+  pub none_out_of : (done : Bool) (end at : ℕ) (ss : List (Option (PartValue S))) → covers done end at ss ≡ true → (k : ℕ)
+      → out_at (slice_get ss k) ≡ false
   none_out_of done end at [] e k = refl
   none_out_of done end at (None ∷ ss) e k = absurd (not_false e)
   none_out_of done end at (Some part ∷ ss) e zero = refl
   none_out_of done end at (Some part ∷ ss) e (suc k) =
-      none_out_of done end (at + length part.tasks) ss (both_right ((part.first == at) && is_done done part.done) (covers done end (at + length part.tasks) ss) e) k
+      none_out_of done end (at + length part.tasks) ss
+      (both_right ((part.first == at) && is_done done part.done) (covers done end (at + length part.tasks) ss) e) k
 
   -- one that is ready, or out, is one of them
   pub ready_below : (ss : List (Option (PartValue S))) (n : ℕ) → ready_at (slice_get ss n) ≡ true → n < length ss
@@ -80,7 +83,9 @@ module _ {Q S : Type 0} (v : StretchesValue Q S) where
   covered c (Some s) e = ap (λ (b : Bool). not (is_at_limit s) || b) c ∙ or_true (not (is_at_limit s))
 
   pub fresh_leaves : AreFresh 0 v.parts → v.count ≡ length (tasks_in v.parts) → is_some (status_in v) ≡ true → can_leave v ≡ true
-  fresh_leaves h e ended = covered (fresh_covers v.count 0 v.parts h (let k : v.count ≡ 0 + length (tasks_in v.parts) = omega (arith, e) in k)) (status_in v) ended
+  fresh_leaves h e ended =
+      covered (fresh_covers v.count 0 v.parts h (let k : v.count ≡ 0 + length (tasks_in v.parts) = omega (arith, e) in k)) (status_in v)
+      ended
 
   pub fault_ends : (f : ℕ × List ℕ) → v.fault ≡ Some f → is_some (status_in v) ≡ true
   fault_ends f e = ap (λ (o : Option (ℕ × List ℕ)). is_some (status_for v.limit v.step o v.count)) e
@@ -89,7 +94,8 @@ module _ {Q S : Type 0} (v : StretchesValue Q S) where
   fault_leaves f e = ap (λ (o : Option (ℕ × List ℕ)). left_after v (status_for v.limit v.step o v.count)) e
 
 -- one that is taken is out then, and wasn't before
-pub taken_out : {Q S : Type 0} (old new : StretchesValue Q S) (number : ℕ) (s : StretchValue Q S) → IsTaken old new number s → (out_at (slice_get old.parts number) ≡ false) × (out_at (slice_get new.parts number) ≡ true)
+pub taken_out : {Q S : Type 0} (old new : StretchesValue Q S) (number : ℕ) (s : StretchValue Q S) → IsTaken old new number s
+    → (out_at (slice_get old.parts number) ≡ false) × (out_at (slice_get new.parts number) ≡ true)
 taken_out old new number s h = (
   ap (λ (x : Option (Option (PartValue _))). out_at x) h.there,
   ap (λ (v : StretchesValue _ _). out_at (slice_get v.parts number)) h.left
@@ -100,7 +106,8 @@ taken_out old new number s h = (
 -- the others are out as before
 pub taken_others : {Q S : Type 0} (old new : StretchesValue Q S) (number : ℕ) (s : StretchValue Q S) → IsTaken old new number s
     → (k : ℕ) → out_at (slice_get old.parts k) ≡ true → out_at (slice_get new.parts k) ≡ true
-taken_others old new number s h k e = subst (λ (v : StretchesValue _ _). out_at (slice_get v.parts k) ≡ true) (sym h.left) (out_more old.parts number k e)
+taken_others old new number s h k e =
+    subst (λ (v : StretchesValue _ _). out_at (slice_get v.parts k) ≡ true) (sym h.left) (out_more old.parts number k e)
 
 -- one that is back leaves the others as they are
 pub back_others : {Q S : Type 0} (v : StretchesValue Q S) (s : StretchValue Q S)
@@ -108,5 +115,6 @@ pub back_others : {Q S : Type 0} (v : StretchesValue Q S) (s : StretchValue Q S)
 back_others v s k n e = ap out_at (other_slot v.parts s.number k (Some s.part) n) ∙ e
 
 -- if all have run, none is out
-pub none_left : {S : Type 0} (end : ℕ) (ss : List (Option (PartValue S))) → covers true end 0 ss ≡ true → (k : ℕ) → out_at (slice_get ss k) ≡ false
+pub none_left : {S : Type 0} (end : ℕ) (ss : List (Option (PartValue S))) → covers true end 0 ss ≡ true → (k : ℕ)
+    → out_at (slice_get ss k) ≡ false
 none_left end ss e k = none_out_of true end 0 ss e k

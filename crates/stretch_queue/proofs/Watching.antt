@@ -19,20 +19,24 @@ use Rattle.atomic_table.specs.Seated.{TableId}
 use Rattle.ghost_lists.specs.Agreed.{LogValue}
 
 -- what is said of an answer that is there
-pub both_left : {L E : Type 0} (r : Result (Option L) E) (F G : L → Type 0) → IfOk r (λ o. IfSome o F) → IfOk r (λ o. IfSome o G) → IfOk r (λ o. IfSome o (λ l. F l × G l))
+pub both_left : {L E : Type 0} (r : Result (Option L) E) (F G : L → Type 0) → IfOk r (λ o. IfSome o F) → IfOk r (λ o. IfSome o G)
+    → IfOk r (λ o. IfSome o (λ l. F l × G l))
 both_left (Ok (Some l)) F G f h = (f, h)
 both_left (Ok None) F G f h = tt
 both_left (Err e) F G f h = tt
 
-pub left_so : {L E : Type 0} (r : Result (Option L) E) (F G : L → Type 0) → IfOk r (λ o. IfSome o F) → ((l : L) → F l → G l) → IfOk r (λ o. IfSome o G)
+pub left_so : {L E : Type 0} (r : Result (Option L) E) (F G : L → Type 0) → IfOk r (λ o. IfSome o F) → ((l : L) → F l → G l)
+    → IfOk r (λ o. IfSome o G)
 left_so (Ok (Some l)) F G f k = k l f
 left_so (Ok None) F G f k = tt
 left_so (Err e) F G f k = tt
 
 module _ {Q S : Type 0} (stops goes : ℕ → List (List ℕ × List ℤ) → ℕ → Type 0) where
   -- A superstep was opened, and the watcher was called unless the run has ended.
-  pub watched_opened : (v : StretchesValue Q S) (older : List (SuperstepStartValue Q S)) (stopped : Bool) → IsOpened v older → AllWent goes older
-      → (stopped ≡ true → (status_in v ≡ None) × stops v.step v.arrays v.count) → (stopped ≡ false → status_in v ≡ None → goes v.step v.arrays v.count) → IsWatched stops goes v stopped
+  pub watched_opened : (v : StretchesValue Q S) (older : List (SuperstepStartValue Q S)) (stopped : Bool) → IsOpened v older
+      → AllWent goes older
+      → (stopped ≡ true → (status_in v ≡ None) × stops v.step v.arrays v.count)
+      → (stopped ≡ false → status_in v ≡ None → goes v.step v.arrays v.count) → IsWatched stops goes v stopped
   watched_opened v older stopped o went stop go = record {
     went = inr (
       subst (AllWentBefore goes) (sym o.log) went,
@@ -50,7 +54,8 @@ module _ {Q S : Type 0} (stops goes : ℕ → List (List ℕ × List ℤ) → �
           (subst (λ (n : ℕ). goes v.step v.arrays n) (sym o.tasks) h))
 
   -- no superstep was opened
-  pub watched_kept : (v w : StretchesValue Q S) → IsWatched stops goes v false → status_in v ≡ None → w.log ≡ v.log → IsWatched stops goes w false
+  pub watched_kept : (v w : StretchesValue Q S) → IsWatched stops goes v false → status_in v ≡ None → w.log ≡ v.log
+      → IsWatched stops goes w false
   watched_kept v w h run log =
       let all = subst (AllWent goes) (sym log) (h.running refl run) in
       record { went = inl all; running = λ on r. all; halted = λ e. absurd (not_both false e refl) }
@@ -58,7 +63,8 @@ module _ {Q S : Type 0} (stops goes : ℕ → List (List ℕ × List ℤ) → �
 -- ---- what a run with a watcher leaves
 
 module _ {Q S T : Type 0} (stops goes : ℕ → List (List ℕ × List ℤ) → ℕ → Type 0) (meant : S → T) where
-  went_in : (o : SuperstepStartValue Q S) (n : ℕ) (st : State T) → Opens meant o n st → goes n o.arrays (length (live_of o)) → OfState goes st
+  went_in : (o : SuperstepStartValue Q S) (n : ℕ) (st : State T) → Opens meant o n st → goes n o.arrays (length (live_of o))
+      → OfState goes st
   went_in o n st h go =
       let l = ap length h.live ∙ length-map (live_of o) meant in
       subst (λ (k : ℕ). goes k st.arrays (length st.live)) (sym h.step)
@@ -66,7 +72,8 @@ module _ {Q S T : Type 0} (stops goes : ℕ → List (List ℕ × List ℤ) → 
       (subst (λ (k : ℕ). goes n o.arrays k) (sym l) go))
 
   -- it let the supersteps of the history begin that are in the log
-  pub went_at : (log : List (SuperstepStartValue Q S)) (states : ℕ → State T) → AllOpen meant log states → AllWent goes log → (n : ℕ) → n < length log → OfState goes (states n)
+  pub went_at : (log : List (SuperstepStartValue Q S)) (states : ℕ → State T) → AllOpen meant log states → AllWent goes log → (n : ℕ)
+      → n < length log → OfState goes (states n)
   went_at [] states h k n lt = absurd (omega (arith, lt))
   went_at (o ∷ older) states h k n lt = by (nat_lt n (length older)) refl (went_at older states h.1 k.1 n)
     where
@@ -77,12 +84,14 @@ module _ {Q S T : Type 0} (stops goes : ℕ → List (List ℕ × List ℤ) → 
           let same : n ≡ length older = omega (arith, le, lt) in
           subst (λ (j : ℕ). OfState goes (states j)) (sym same) (went_in o (length older) (states (length older)) h.0 k.0)
 
-  pub went_at_before : (log : List (SuperstepStartValue Q S)) (states : ℕ → State T) → AllOpen meant log states → AllWentBefore goes log → (n : ℕ) → n + 1 < length log → OfState goes (states n)
+  pub went_at_before : (log : List (SuperstepStartValue Q S)) (states : ℕ → State T) → AllOpen meant log states → AllWentBefore goes log
+      → (n : ℕ) → n + 1 < length log → OfState goes (states n)
   went_at_before [] states h k n lt = absurd (omega (arith, lt))
   went_at_before (o ∷ older) states h k n lt = went_at older states h.1 k n (omega (arith, lt))
 
 -- a run that hasn't faulted has taken so many supersteps
-counted_as : {Q S : Type 0} (v : StretchesValue Q S) (s : Status) (n : ℕ) → Some s ≡ status_in v → v.fault ≡ None → CountsAs s n → n ≡ v.step
+counted_as : {Q S : Type 0} (v : StretchesValue Q S) (s : Status) (n : ℕ) → Some s ≡ status_in v → v.fault ≡ None → CountsAs s n
+    → n ≡ v.step
 counted_as v s n is calm c = by v.fault v.count (λ i. is i) calm
   where
     steps : Status → ℕ
@@ -117,8 +126,10 @@ counted_as v s n is calm c = by v.fault v.count (λ i. is i) calm
     by None zero e none = counts s (ap fault_there e) c ∙ ap steps_in e
     by None (suc k) e none = late (nat_le v.limit v.step) e
 
-module _ {Q S T : Type 0} (stops goes : ℕ → List (List ℕ × List ℤ) → ℕ → Type 0) (m : Q → Reading S T) (v : StretchesValue Q S) (stopped : Bool) (w : IsWatched stops goes v stopped)
-    (limit : SuperstepStartValue Q S → ℕ) (log : List (SuperstepStartValue Q S)) (same : log ≡ v.log) (outcome : ReportValue) (tasks : List S) (given : ℕ) (none_given : given ≡ 0) (h : HasLeftTo m limit log given outcome tasks) where
+module _ {Q S T : Type 0} (stops goes : ℕ → List (List ℕ × List ℤ) → ℕ → Type 0) (m : Q → Reading S T) (v : StretchesValue Q S)
+    (stopped : Bool) (w : IsWatched stops goes v stopped)
+    (limit : SuperstepStartValue Q S → ℕ) (log : List (SuperstepStartValue Q S)) (same : log ≡ v.log) (outcome : ReportValue)
+    (tasks : List S) (given : ℕ) (none_given : given ≡ 0) (h : HasLeftTo m limit log given outcome tasks) where
   abbrev states : ℕ → State T
   states = states_by (m h.first.program) h.first.most h.run.run.history h.first (limit h.first)
 
@@ -129,16 +140,20 @@ module _ {Q S T : Type 0} (stops goes : ℕ → List (List ℕ × List ℤ) → 
   went : (v.fault ≡ None → length h.run.run.history ≡ v.step) → (n : ℕ) → n < length h.run.run.history → OfState goes (states n)
   went count n lt =
       let long = h.as_long in
-      ⊎_elim (λ all. went_at stops goes (m h.first.program).meant log states h.all_open (subst (AllWent goes) (sym same) all) n (omega (arith, lt, long)))
+      ⊎_elim
+      (λ all. went_at stops goes (m h.first.program).meant log states h.all_open (subst (AllWent goes) (sym same) all) n (omega (arith, lt, long)))
       (λ but.
       let k = count but.2 in
       let l = but.1 in
       let e = ap length same in
-      went_at_before stops goes (m h.first.program).meant log states h.all_open (subst (AllWentBefore goes) (sym same) but.0) n (omega (arith, lt, k, l, e)))
+      went_at_before stops goes (m h.first.program).meant log states h.all_open (subst (AllWentBefore goes) (sym same) but.0) n
+      (omega (arith, lt, k, l, e)))
       w.went
 
   -- the run up to that limit, if it is the run's own or the watcher stopped it there
-  pub left_watched : (v.fault ≡ None → length h.run.run.history ≡ v.step) → ((limit h.first ≡ h.first.limit) ⊎ stops (limit h.first) outcome.arrays (length tasks)) → HasLeftWatched stops goes m log outcome tasks
+  pub left_watched : (v.fault ≡ None → length h.run.run.history ≡ v.step)
+      → ((limit h.first ≡ h.first.limit) ⊎ stops (limit h.first) outcome.arrays (length tasks))
+      → HasLeftWatched stops goes m log outcome tasks
   left_watched count stop =
       let f = h.first in
       let q = f.program in
@@ -148,7 +163,9 @@ module _ {Q S T : Type 0} (stops goes : ℕ → List (List ℕ × List ℤ) → 
         since = h.since;
         begun = h.begun;
         run =
-            subst (λ (r : ReportValue). HasRunTo stops goes (m q).frame (m q).may f.most f.arrays (map (m q).meant (live_of f)) f.limit r living) whole
+            subst
+            (λ (r : ReportValue). HasRunTo stops goes (m q).frame (m q).may f.most f.arrays (map (m q).meant (live_of f)) f.limit r living)
+            whole
             (record {
               taken = limit f;
               within = h.within;
@@ -162,16 +179,21 @@ module _ {Q S T : Type 0} (stops goes : ℕ → List (List ℕ × List ℤ) → 
       }
 
 -- the same of a run that has ended by itself
-pub ended_watched : {Q S T : Type 0} (stops goes : ℕ → List (List ℕ × List ℤ) → ℕ → Type 0) (m : Q → Reading S T) (v : StretchesValue Q S) (stopped : Bool) → IsWatched stops goes v stopped → v.given ≡ 0
-    → (log : List (SuperstepStartValue Q S)) → log ≡ v.log → (outcome : ReportValue) → Some outcome.status ≡ status_in v → (tasks : List S) (given : ℕ) → given ≡ v.given → HasLeft m log given outcome tasks
+pub ended_watched : {Q S T : Type 0} (stops goes : ℕ → List (List ℕ × List ℤ) → ℕ → Type 0) (m : Q → Reading S T) (v : StretchesValue Q S)
+    (stopped : Bool)
+    → IsWatched stops goes v stopped → v.given ≡ 0
+    → (log : List (SuperstepStartValue Q S)) → log ≡ v.log → (outcome : ReportValue) → Some outcome.status ≡ status_in v
+    → (tasks : List S) (given : ℕ) → given ≡ v.given → HasLeft m log given outcome tasks
     → HasLeftWatched stops goes m log outcome tasks
 ended_watched stops goes m v stopped w none log same outcome status tasks given gave h =
     left_watched stops goes m v stopped w (λ o. o.limit) log same outcome tasks given (gave ∙ none) h
     (λ calm. counted_as v outcome.status (length h.run.run.history) status calm h.counted) (inl refl)
 
 -- and of one that its watcher has stopped
-pub stopped_watched : {Q S T : Type 0} (stops goes : ℕ → List (List ℕ × List ℤ) → ℕ → Type 0) (m : Q → Reading S T) (v : StretchesValue Q S) → IsWatched stops goes v true → v.given ≡ 0
-    → (log : List (SuperstepStartValue Q S)) → log ≡ v.log → (outcome : ReportValue) → outcome.status ≡ Limit v.step → outcome.arrays ≡ v.arrays → (tasks : List S) → length tasks ≡ v.count
+pub stopped_watched : {Q S T : Type 0} (stops goes : ℕ → List (List ℕ × List ℤ) → ℕ → Type 0) (m : Q → Reading S T) (v : StretchesValue Q S)
+    → IsWatched stops goes v true → v.given ≡ 0
+    → (log : List (SuperstepStartValue Q S)) → log ≡ v.log → (outcome : ReportValue) → outcome.status ≡ Limit v.step
+    → outcome.arrays ≡ v.arrays → (tasks : List S) → length tasks ≡ v.count
     → (given : ℕ) → given ≡ v.given → HasLeftTo m (λ o. v.step) log given outcome tasks → HasLeftWatched stops goes m log outcome tasks
 stopped_watched stops goes m v w none log same outcome status arrays tasks count given gave h =
     left_watched stops goes m v true w (λ o. v.step) log same outcome tasks given (gave ∙ none) h
@@ -179,10 +201,13 @@ stopped_watched stops goes m v w none log same outcome status arrays tasks count
     (inr (subst (λ xs. stops v.step xs (length tasks)) (sym arrays) (subst (stops v.step v.arrays) (sym count) (w.halted refl).1)))
 
 -- what a run leaves whose watcher has let each superstep begin
-pub kept_watched : {Q S T : Type 0} (stops goes : ℕ → List (List ℕ × List ℤ) → ℕ → Type 0) (m : Q → Reading S T) (mark : TableId) (w : LogValue (SuperstepStartValue Q S)) (given : ℕ) (outcome : ReportValue) (tasks : List S)
-    → HasLeftKept m (λ v stopped. (v.given ≡ 0) × IsWatched stops goes v stopped) mark w given outcome tasks → HasLeftWatched stops goes m w.log outcome tasks
+pub kept_watched : {Q S T : Type 0} (stops goes : ℕ → List (List ℕ × List ℤ) → ℕ → Type 0) (m : Q → Reading S T) (mark : TableId)
+    (w : LogValue (SuperstepStartValue Q S)) (given : ℕ) (outcome : ReportValue) (tasks : List S)
+    → HasLeftKept m (λ v stopped. (v.given ≡ 0) × IsWatched stops goes v stopped) mark w given outcome tasks
+    → HasLeftWatched stops goes m w.log outcome tasks
 kept_watched stops goes m mark w given outcome tasks h = by h.last h.stopped h.keeps h.leaves
   where
-    by : (v : StretchesValue _ _) (stopped : Bool) → ((bare v).given ≡ 0) × IsWatched stops goes (bare v) stopped → LeavesAs m v stopped w given outcome tasks → HasLeftWatched stops goes m w.log outcome tasks
+    by : (v : StretchesValue _ _) (stopped : Bool) → ((bare v).given ≡ 0) × IsWatched stops goes (bare v) stopped
+        → LeavesAs m v stopped w given outcome tasks → HasLeftWatched stops goes m w.log outcome tasks
     by v true k l = stopped_watched stops goes m (bare v) k.1 k.0 w.log l.1 outcome l.5 l.4 tasks l.6 given l.2 l.3
     by v false k l = ended_watched stops goes m (bare v) false k.1 k.0 w.log l.1 outcome l.4 tasks given l.2 l.3

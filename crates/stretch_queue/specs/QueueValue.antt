@@ -39,11 +39,13 @@ module _ {Q S : Type 0} where
   abbrev pub is_over : QueueValue Q S → Bool
   is_over b = is_some b.first || has_ended_in b.stretches b.stopped
 
-  pub record IsQueue (kept : StretchesValue Q S → Bool → Type 0) (mark : TableId) (workers : ℕ) (passes stops : TableId) (lists : Lists) (b : QueueValue Q S) : Type 0 where
+  pub record IsQueue (kept : StretchesValue Q S → Bool → Type 0) (mark : TableId) (workers : ℕ) (passes stops : TableId) (lists : Lists)
+      (b : QueueValue Q S) : Type 0 where
     pub of_mark : b.stretches.name ≡ mark
     pub of_workers : IfSome b.first (IsOfWorkers workers)
     pub named : AreNamed passes stops lists
     pub are_out : AreOut (λ k. out_at (slice_get b.stretches.parts k)) b.stretches.step lists.stretches.out
     pub keeps : b.first ≡ None → kept (bare b.stretches) b.stopped
-    pub leaves : b.first ≡ None → has_ended_in b.stretches b.stopped ≡ true → (can_leave_in b.stretches b.stopped ≡ true) × ((k : ℕ) → out_at (slice_get b.stretches.parts k) ≡ false)
+    pub leaves : b.first ≡ None → has_ended_in b.stretches b.stopped ≡ true
+        → (can_leave_in b.stretches b.stopped ≡ true) × ((k : ℕ) → out_at (slice_get b.stretches.parts k) ≡ false)
     pub nobody : is_over b ≡ false → lists.stops.out ≡ []

@@ -47,7 +47,8 @@ module _ {Q S : Type 0} where
 
 module _ {Q S T : Type 0} where
   -- what a run leaves that has ended in this state, or was stopped in it by its hook
-  abbrev pub LeavesAs : (Q → Reading S T) → StretchesValue Q S → Bool → LogValue (SuperstepStartValue Q S) → ℕ → ReportValue → List S → Type 0
+  abbrev pub LeavesAs : (Q → Reading S T) → StretchesValue Q S → Bool → LogValue (SuperstepStartValue Q S) → ℕ → ReportValue → List S
+      → Type 0
   LeavesAs m v true w given outcome living =
       (w.name ≡ v.name) × (w.log ≡ v.log) × (given ≡ v.given) × HasLeftTo m (λ o. v.step) w.log given outcome living
       × (outcome.arrays ≡ v.arrays) × (outcome.status ≡ Limit v.step) × (length living ≡ v.count)
@@ -55,7 +56,8 @@ module _ {Q S T : Type 0} where
       (w.name ≡ v.name) × (w.log ≡ v.log) × (given ≡ v.given) × HasLeft m w.log given outcome living × (Some outcome.status ≡ status_in v)
 
   -- what a run leaves whose hook kept this of it until its end
-  pub record HasLeftKept (m : Q → Reading S T) (kept : StretchesValue Q S → Bool → Type 0) (mark : TableId) (w : LogValue (SuperstepStartValue Q S)) (given : ℕ) (outcome : ReportValue) (living : List S) : Type 0 where
+  pub record HasLeftKept (m : Q → Reading S T) (kept : StretchesValue Q S → Bool → Type 0) (mark : TableId)
+      (w : LogValue (SuperstepStartValue Q S)) (given : ℕ) (outcome : ReportValue) (living : List S) : Type 0 where
     pub last : StretchesValue Q S
     pub stopped : Bool
     pub of_mark : last.name ≡ mark
@@ -63,8 +65,10 @@ module _ {Q S T : Type 0} where
     pub leaves : LeavesAs m last stopped w given outcome living
 
   -- This is the result of a run with a watcher that began with the first start of this log.
-  pub record HasLeftWatched (stops goes : ℕ → List (List ℕ × List ℤ) → ℕ → Type 0) (m : Q → Reading S T) (log : List (SuperstepStartValue Q S)) (outcome : ReportValue) (living : List S) : Type 0 where
+  pub record HasLeftWatched (stops goes : ℕ → List (List ℕ × List ℤ) → ℕ → Type 0) (m : Q → Reading S T)
+      (log : List (SuperstepStartValue Q S)) (outcome : ReportValue) (living : List S) : Type 0 where
     pub first : SuperstepStartValue Q S
     pub since : List (SuperstepStartValue Q S)
     pub begun : log ≡ since ++ first ∷ []
-    pub run : HasRunTo stops goes (m first.program).frame (m first.program).may first.most first.arrays (map (m first.program).meant (live_of first)) first.limit outcome (map (m first.program).meant living)
+    pub run : HasRunTo stops goes (m first.program).frame (m first.program).may first.most first.arrays
+        (map (m first.program).meant (live_of first)) first.limit outcome (map (m first.program).meant living)

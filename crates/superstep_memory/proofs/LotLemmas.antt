@@ -26,19 +26,23 @@ both false b h = cc
 -- what each of a lot's puts and of those after it does
 pub each_cut : (test : Put → Bool) (rest : List Lot) (left : List Row) (l : Lot) (ls : List Lot) → rest ≡ l ∷ ls
     → list_all test (puts_in rest left) ≡ (list_all test (puts_of l left) && list_all test (puts_in ls (rows_after l left)))
-each_cut test rest left l ls cut = ap (λ (x : List Lot). list_all test (puts_in x left)) cut ∙ list_all-append test (puts_of l left) (puts_in ls (rows_after l left))
+each_cut test rest left l ls cut =
+    ap (λ (x : List Lot). list_all test (puts_in x left)) cut ∙ list_all-append test (puts_of l left) (puts_in ls (rows_after l left))
 
-pub first_sets : (rest : List Lot) (left : List Row) (l : Lot) (ls : List Lot) → rest ≡ l ∷ ls → list_all is_set (puts_in rest left) ≡ true → list_all is_set (puts_of l left) ≡ true
+pub first_sets : (rest : List Lot) (left : List Row) (l : Lot) (ls : List Lot) → rest ≡ l ∷ ls → list_all is_set (puts_in rest left) ≡ true
+    → list_all is_set (puts_of l left) ≡ true
 first_sets rest left l ls cut h =
     (both (list_all is_set (puts_of l left)) (list_all is_set (puts_in ls (rows_after l left))) (sym (each_cut is_set rest left l ls cut) ∙ h)).0
 
 -- a lot in front is written
-pub lot_written : {all : Arrays} (xs ys : Arrays) (rest : List Lot) (left later : List Row) (l : Lot) (ls : List Lot) → rest ≡ l ∷ ls → ys ≡ landed (puts_of l left) xs
+pub lot_written : {all : Arrays} (xs ys : Arrays) (rest : List Lot) (left later : List Row) (l : Lot) (ls : List Lot) → rest ≡ l ∷ ls
+    → ys ≡ landed (puts_of l left) xs
     → later ≡ rows_after l left → (all ≡ landed (puts_in rest left) xs) × (list_all is_set (puts_in rest left) ≡ true)
     → (all ≡ landed (puts_in ls later) ys) × (list_all is_set (puts_in ls later) ≡ true)
 lot_written xs ys rest left later l ls cut to after h =
     let rows : puts_in ls (rows_after l left) ≡ puts_in ls later = ap (puts_in ls) (sym after) in
-    let rest_set = (both (list_all is_set (puts_of l left)) (list_all is_set (puts_in ls (rows_after l left))) (sym (each_cut is_set rest left l ls cut) ∙ h.1)).1 in (
+    let rest_set =
+    (both (list_all is_set (puts_of l left)) (list_all is_set (puts_in ls (rows_after l left))) (sym (each_cut is_set rest left l ls cut) ∙ h.1)).1 in (
       h.0 ∙ ap (λ (x : List Lot). landed (puts_in x left) xs) cut ∙ landed_append (puts_of l left) (puts_in ls (rows_after l left)) xs
           ∙ (λ i. landed (rows i) (sym to i)),
       ap (list_all is_set) (sym rows) ∙ rest_set,
@@ -49,7 +53,8 @@ lots_left {ys = ys} [] left e h = sym (h ∙ landed_none ys)
 lots_left (l ∷ ls) left e h = absurd (omega arith)
 
 -- a lot in front is appended
-pub lot_copied : (ps qs : List Put) (rest : List Lot) (left later : List Row) (l : Lot) (ls : List Lot) → rest ≡ l ∷ ls → qs ≡ ps ++ puts_of l left → later ≡ rows_after l left
+pub lot_copied : (ps qs : List Put) (rest : List Lot) (left later : List Row) (l : Lot) (ls : List Lot) → rest ≡ l ∷ ls
+    → qs ≡ ps ++ puts_of l left → later ≡ rows_after l left
     → qs ++ puts_in ls later ≡ ps ++ puts_in rest left
 lot_copied ps qs rest left later l ls cut to after =
     (λ i. to i ++ puts_in ls (after i))
@@ -63,7 +68,8 @@ none_copied ps (l ∷ ls) left e = absurd (omega arith)
 -- ---- one lot
 
 -- one put that sets is written
-pub put_written : (xs ys : Arrays) (l : Lot) (rows : List Row) (q : Put) (to : ℤ) → l.is_row ≡ false → q ≡ put_of l → to ≡ l.value → list_all is_set (puts_of l rows) ≡ true
+pub put_written : (xs ys : Arrays) (l : Lot) (rows : List Row) (q : Put) (to : ℤ) → l.is_row ≡ false → q ≡ put_of l → to ≡ l.value
+    → list_all is_set (puts_of l rows) ≡ true
     → ys ≡ with_place xs q.array q.index to → ys ≡ landed (puts_of l rows) xs
 put_written xs ys l rows q to single e value sets wrote =
     let cut : puts_of l rows ≡ put_of l ∷ [] = λ i. puts_by (single i) l rows in
@@ -71,7 +77,8 @@ put_written xs ys l rows q to single e value sets wrote =
     sym (h.0 ∙ landed_none ys)
 
 -- a row is written
-pub row_written : (xs ys : Arrays) (l : Lot) (rows : List Row) (r : Row) (rs : List Row) (vs : List ℤ) → l.is_row ≡ true → rows ≡ r ∷ rs → vs ≡ r.values.items
+pub row_written : (xs ys : Arrays) (l : Lot) (rows : List Row) (r : Row) (rs : List Row) (vs : List ℤ) → l.is_row ≡ true → rows ≡ r ∷ rs
+    → vs ≡ r.values.items
     → ys ≡ with_row xs l.array l.index vs → ys ≡ landed (puts_of l rows) xs
 row_written xs ys l rows r rs vs row cut e wrote =
     wrote ∙ ap (with_row xs l.array l.index) e ∙ sym (landed_row xs l.array l.index r.values.items)
@@ -93,31 +100,38 @@ row_within xs array first a (v ∷ []) e lt =
     by false e = grind (arith, nat_tests)
 row_within xs array first a (v ∷ w ∷ vs) e lt =
     sym ((λ i. is_some (place_of (e i) (pos first)) && list_all (is_cell xs) (row_puts array (suc first) (w ∷ vs)))
-    ∙ (λ i. is_some (if nat_lt first (length a.1) then Some first else None) && sym (row_within xs array (suc first) a (w ∷ vs) e (omega arith)) i)
+    ∙ (λ i. is_some (if nat_lt first (length a.1) then Some first else None)
+    && sym (row_within xs array (suc first) a (w ∷ vs) e (omega arith)) i)
     ∙ by (nat_lt first (length a.1)) refl)
   where
     by : (b : Bool) → nat_lt first (length a.1) ≡ b
-        → (is_some (if b then Some first else None) && nat_le (suc first + length (w ∷ vs)) (length a.1)) ≡ nat_le (first + length (v ∷ w ∷ vs)) (length a.1)
+        → (is_some (if b then Some first else None) && nat_le (suc first + length (w ∷ vs)) (length a.1))
+        ≡ nat_le (first + length (v ∷ w ∷ vs)) (length a.1)
     by true e = grind (arith, nat_tests)
     by false e = grind (arith, nat_tests)
 
-pub row_nowhere_in : (xs : Arrays) (array first : ℕ) (vs : List ℤ) → slice_get xs array ≡ None → 0 < length vs → false ≡ list_all (is_cell xs) (row_puts array first vs)
+pub row_nowhere_in : (xs : Arrays) (array first : ℕ) (vs : List ℤ) → slice_get xs array ≡ None → 0 < length vs
+    → false ≡ list_all (is_cell xs) (row_puts array first vs)
 row_nowhere_in xs array first [] e lt = absurd (omega (arith, lt))
-row_nowhere_in xs array first (v ∷ vs) e lt = λ i. is_some (place_of (sym e i) (pos first)) && list_all (is_cell xs) (row_puts array (suc first) vs)
+row_nowhere_in xs array first (v ∷ vs) e lt =
+    λ i. is_some (place_of (sym e i) (pos first)) && list_all (is_cell xs) (row_puts array (suc first) vs)
 
 -- ---- whether all set
 
 -- one put more
-pub sets_more : (ps qs : List Put) (p : Put) (a b : Bool) → qs ≡ ps ++ p ∷ [] → a ≡ list_all is_set ps → b ≡ is_set p → (a && b) ≡ list_all is_set qs
+pub sets_more : (ps qs : List Put) (p : Put) (a b : Bool) → qs ≡ ps ++ p ∷ [] → a ≡ list_all is_set ps → b ≡ is_set p
+    → (a && b) ≡ list_all is_set qs
 sets_more ps qs p a b cut e f =
-    (λ i. e i && f i) ∙ ap (λ (t : Bool). list_all is_set ps && t) (and_true (is_set p)) ∙ sym (list_all-append is_set ps (p ∷ [])) ∙ ap (list_all is_set) (sym cut)
+    (λ i. e i && f i) ∙ ap (λ (t : Bool). list_all is_set ps && t) (and_true (is_set p)) ∙ sym (list_all-append is_set ps (p ∷ []))
+    ∙ ap (list_all is_set) (sym cut)
   where
     and_true : (t : Bool) → t ≡ (t && true)
     and_true true = refl
     and_true false = refl
 
 -- one row more
-pub sets_row_more : (ps qs : List Put) (array first : ℕ) (vs : List ℤ) (a : Bool) → qs ≡ ps ++ row_puts array first vs → a ≡ list_all is_set ps → a ≡ list_all is_set qs
+pub sets_row_more : (ps qs : List Put) (array first : ℕ) (vs : List ℤ) (a : Bool) → qs ≡ ps ++ row_puts array first vs
+    → a ≡ list_all is_set ps → a ≡ list_all is_set qs
 sets_row_more ps qs array first vs a cut e =
     e ∙ and_true (list_all is_set ps) ∙ ap (λ (t : Bool). list_all is_set ps && t) (sym (sets_row array first vs))
     ∙ sym (list_all-append is_set ps (row_puts array first vs)) ∙ ap (list_all is_set) (sym cut)
@@ -127,12 +141,14 @@ sets_row_more ps qs array first vs a cut e =
     and_true false = refl
 
 -- those of both
-pub sets_joined : (ps qs rs : List Put) (a b : Bool) → rs ≡ ps ++ qs → a ≡ list_all is_set ps → b ≡ list_all is_set qs → (a && b) ≡ list_all is_set rs
+pub sets_joined : (ps qs rs : List Put) (a b : Bool) → rs ≡ ps ++ qs → a ≡ list_all is_set ps → b ≡ list_all is_set qs
+    → (a && b) ≡ list_all is_set rs
 sets_joined ps qs rs a b cut e f = (λ i. e i && f i) ∙ sym (list_all-append is_set ps qs) ∙ ap (list_all is_set) (sym cut)
 
 -- ---- joined
 
-pub lots_append : (ls ms : List Lot) (rs ss : List Row) → length rs ≡ rows_among ls → puts_in (ls ++ ms) (rs ++ ss) ≡ puts_in ls rs ++ puts_in ms ss
+pub lots_append : (ls ms : List Lot) (rs ss : List Row) → length rs ≡ rows_among ls
+    → puts_in (ls ++ ms) (rs ++ ss) ≡ puts_in ls rs ++ puts_in ms ss
 lots_append [] ms [] ss h = refl
 lots_append [] ms (r ∷ rs) ss h = absurd (omega (arith, h))
 lots_append (l ∷ ls) ms rs ss h = by (λ (qs : List Row) k. lots_append ls ms qs ss k) l.is_row refl rs h
@@ -182,13 +198,15 @@ pub row_more_rows : (ls : List Lot) (l : Lot) → l.is_row ≡ true → rows_amo
 row_more_rows ls l row = let h = rows_append ls (l ∷ []) in let k = ap one_if row in omega (arith, h, k)
 
 -- one put more among the lots
-pub put_inside : (ls ms : List Lot) (rs : List Row) (l : Lot) (p : Put) → ms ≡ ls ++ l ∷ [] → put_of l ≡ p → l.is_row ≡ false → length rs ≡ rows_among ls
+pub put_inside : (ls ms : List Lot) (rs : List Row) (l : Lot) (p : Put) → ms ≡ ls ++ l ∷ [] → put_of l ≡ p → l.is_row ≡ false
+    → length rs ≡ rows_among ls
     → (puts_in ms rs ≡ puts_in ls rs ++ p ∷ []) × (length rs ≡ rows_among ms)
 put_inside ls ms rs l p cut e single h =
     (ap (λ (x : List Lot). puts_in x rs) cut ∙ one_more ls rs l p h e single, h ∙ sym (one_more_rows ls l single) ∙ ap rows_among (sym cut))
 
 -- one row more among the lots
-pub row_inside : (ls ms : List Lot) (rs ss : List Row) (l : Lot) (r : Row) (array first : ℕ) → ms ≡ ls ++ l ∷ [] → ss ≡ rs ++ r ∷ [] → l.is_row ≡ true → l.array ≡ array
+pub row_inside : (ls ms : List Lot) (rs ss : List Row) (l : Lot) (r : Row) (array first : ℕ) → ms ≡ ls ++ l ∷ [] → ss ≡ rs ++ r ∷ []
+    → l.is_row ≡ true → l.array ≡ array
     → l.index ≡ first → length rs ≡ rows_among ls
     → (puts_in ms ss ≡ puts_in ls rs ++ row_puts array first r.values.items) × (length ss ≡ rows_among ms)
 row_inside ls ms rs ss l r array first cut more row a i h =
@@ -200,7 +218,8 @@ row_inside ls ms rs ss l r array first cut more row a i h =
     )
 
 -- the lots of both
-pub lots_joined : (ls ms ns : List Lot) (rs ss ts : List Row) → ns ≡ ls ++ ms → ts ≡ rs ++ ss → length rs ≡ rows_among ls → length ss ≡ rows_among ms
+pub lots_joined : (ls ms ns : List Lot) (rs ss ts : List Row) → ns ≡ ls ++ ms → ts ≡ rs ++ ss → length rs ≡ rows_among ls
+    → length ss ≡ rows_among ms
     → (puts_in ns ts ≡ puts_in ls rs ++ puts_in ms ss) × (length ts ≡ rows_among ns)
 lots_joined ls ms ns rs ss ts cut more h k =
     let n = ap length more ∙ length-append rs ss in

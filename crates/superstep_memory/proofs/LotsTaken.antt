@@ -25,7 +25,8 @@ before_append : (ps qs : List Put) (xs : Arrays) → before_each (ps ++ qs) xs �
 before_append [] qs xs = ap (before_each qs) (sym (landed_none xs))
 before_append (p ∷ ps) qs xs =
     ap (λ (vs : List ℤ). value_at xs p.array p.index ∷ vs)
-    (before_append ps qs (with_cell xs p) ∙ ap (λ (ys : Arrays). before_each ps (with_cell xs p) ++ before_each qs ys) (sym (landed_one p ps xs)))
+    (before_append ps qs (with_cell xs p)
+    ∙ ap (λ (ys : Arrays). before_each ps (with_cell xs p) ++ before_each qs ys) (sym (landed_one p ps xs)))
 
 -- ---- a row
 
@@ -42,10 +43,16 @@ row_none_taken array first values olds xs = record {
   taken = record { arrays = sym (landed_none xs); held = sym (append-nil olds) };
 }
 
-pub row_one_taken : {array first place next : ℕ} {values rest after olds so_far more : List ℤ} {xs ys zs : Arrays} (was_at to_at : ℕ) (v old kept to : ℤ)
-    → IsTakingRow array first values place rest olds so_far xs ys → rest ≡ v ∷ after → was_at ≡ array → to_at ≡ array → old ≡ value_at ys was_at place → kept ≡ old → to ≡ v → next ≡ place + 1
+pub row_one_taken : {array first place next : ℕ} {values rest after olds so_far more : List ℤ} {xs ys zs : Arrays} (was_at to_at : ℕ)
+    (v old kept to : ℤ)
+    → IsTakingRow array first values place rest olds so_far xs ys → rest ≡ v ∷ after → was_at ≡ array → to_at ≡ array
+    → old ≡ value_at ys was_at place → kept ≡ old → to ≡ v → next ≡ place + 1
     → more ≡ so_far ++ kept ∷ [] → zs ≡ with_place ys to_at place to → IsTakingRow array first values next after olds more xs zs
-row_one_taken {array = array} {first = first} {place = place} {next = next} {values = values} {rest = rest} {after = after} {olds = olds} {so_far = so_far} {more = more} {xs = xs} {ys = ys} {zs = zs}
+row_one_taken {array =
+    array} {first =
+    first} {place =
+    place} {next =
+    next} {values = values} {rest = rest} {after = after} {olds = olds} {so_far = so_far} {more = more} {xs = xs} {ys = ys} {zs = zs}
     was_at to_at v old kept to h cut wa ta was keeps writes step pushed wrote =
     let p : Put = record { array = array; index = place; kind = Set; value = v } in
     let up : suc place ≡ next = omega (arith, step) in
@@ -67,11 +74,14 @@ row_one_taken {array = array} {first = first} {place = place} {next = next} {val
       };
     }
 
-pub row_begun : {array first place : ℕ} {values rest olds more : List ℤ} {xs ys : Arrays} → IsTakingRow array first values place rest olds more xs ys
+pub row_begun : {array first place : ℕ} {values rest olds more : List ℤ} {xs ys : Arrays}
+    → IsTakingRow array first values place rest olds more xs ys
     → HasBegunMore (row_puts array first values) olds more xs ys
-row_begun {array = array} {place = place} {rest = rest} h = record { front = h.front; back = row_puts array place rest; cut = h.cut; taken = h.taken }
+row_begun {array = array} {place = place} {rest = rest} h =
+    record { front = h.front; back = row_puts array place rest; cut = h.cut; taken = h.taken }
 
-pub row_taken : {array first place : ℕ} {values olds more : List ℤ} {xs ys : Arrays} (rest : List ℤ) → length rest ≡ 0 → IsTakingRow array first values place rest olds more xs ys
+pub row_taken : {array first place : ℕ} {values olds more : List ℤ} {xs ys : Arrays} (rest : List ℤ) → length rest ≡ 0
+    → IsTakingRow array first values place rest olds more xs ys
     → HasTakenMore (row_puts array first values) olds more xs ys
 row_taken {array = array} {first = first} {values = values} {olds = olds} {more = more} {xs = xs} {ys = ys} [] e h =
     subst (λ (ps : List Put). HasTakenMore ps olds more xs ys) (sym (h.cut ∙ append-nil h.front)) h.taken
@@ -80,9 +90,12 @@ row_taken (v ∷ rest) e h = absurd (omega arith)
 -- ---- lots
 
 -- a row among other puts is taken
-pub taking_row : {puts rest back : List Put} {place next : ℕ} {olds more : List ℤ} {xs ys zs : Arrays} (ps : List Put) → IsTaking puts place rest olds xs ys
-    → rest ≡ ps ++ back → list_all is_set ps ≡ true → next ≡ place + length ps → HasTakenMore ps olds more ys zs → IsTaking puts next back more xs zs
-taking_row {puts = puts} {rest = rest} {back = back} {place = place} {next = next} {olds = olds} {more = more} {xs = xs} {ys = ys} {zs = zs} ps h e sets step t =
+pub taking_row : {puts rest back : List Put} {place next : ℕ} {olds more : List ℤ} {xs ys zs : Arrays} (ps : List Put)
+    → IsTaking puts place rest olds xs ys
+    → rest ≡ ps ++ back → list_all is_set ps ≡ true → next ≡ place + length ps → HasTakenMore ps olds more ys zs
+    → IsTaking puts next back more xs zs
+taking_row {puts = puts} {rest = rest} {back = back} {place = place} {next = next} {olds = olds} {more = more} {xs = xs} {ys = ys} {zs = zs}
+    ps h e sets step t =
     let count = length-append h.front ps in
     record {
       front = h.front ++ ps;
@@ -101,7 +114,8 @@ taking_row {puts = puts} {rest = rest} {back = back} {place = place} {next = nex
     }
 
 -- a row among other puts is begun
-pub begun_row : {puts rest : List Put} {place : ℕ} {olds more : List ℤ} {xs ys zs : Arrays} (ps back : List Put) → IsTaking puts place rest olds xs ys
+pub begun_row : {puts rest : List Put} {place : ℕ} {olds more : List ℤ} {xs ys zs : Arrays} (ps back : List Put)
+    → IsTaking puts place rest olds xs ys
     → rest ≡ ps ++ back → HasBegunMore ps olds more ys zs → HasBegun puts more xs zs
 begun_row {puts = puts} {rest = rest} {xs = xs} ps back h e t = record {
   front = h.front ++ t.front;
@@ -116,18 +130,22 @@ begun_row {puts = puts} {rest = rest} {xs = xs} ps back h e t = record {
 }
 
 -- this many are left
-pub taking_count : {puts rest : List Put} {place : ℕ} {olds : List ℤ} {xs ys : Arrays} → IsTaking puts place rest olds xs ys → length puts ≡ place + length rest
+pub taking_count : {puts rest : List Put} {place : ℕ} {olds : List ℤ} {xs ys : Arrays} → IsTaking puts place rest olds xs ys
+    → length puts ≡ place + length rest
 taking_count {rest = rest} h = let c = ap length h.cut in let l = length-append h.front rest in omega (arith, c, l, h.count)
 
 -- the puts of a lot in front, and those after it
-pub lot_row : (rest : List Lot) (left : List Row) (l : Lot) (ls : List Lot) (r : Row) (rs : List Row) (vs : List ℤ) → rest ≡ l ∷ ls → l.is_row ≡ true → left ≡ r ∷ rs
+pub lot_row : (rest : List Lot) (left : List Row) (l : Lot) (ls : List Lot) (r : Row) (rs : List Row) (vs : List ℤ) → rest ≡ l ∷ ls
+    → l.is_row ≡ true → left ≡ r ∷ rs
     → vs ≡ r.values.items → puts_in rest left ≡ row_puts l.array l.index vs ++ puts_in ls rs
 lot_row rest left l ls r rs vs cut row rows e =
     (λ i. puts_in (cut i) (rows i)) ∙ (λ i. puts_by (row i) l (r ∷ rs) ++ puts_in ls (rows_by (row i) (r ∷ rs)))
     ∙ ap (λ (ws : List ℤ). row_puts l.array l.index ws ++ puts_in ls rs) (sym e)
 
-pub lot_one : (rest : List Lot) (left : List Row) (l : Lot) (ls : List Lot) → rest ≡ l ∷ ls → l.is_row ≡ false → puts_in rest left ≡ put_of l ∷ puts_in ls left
-lot_one rest left l ls cut single = ap (λ (x : List Lot). puts_in x left) cut ∙ (λ i. puts_by (single i) l left ++ puts_in ls (rows_by (single i) left))
+pub lot_one : (rest : List Lot) (left : List Row) (l : Lot) (ls : List Lot) → rest ≡ l ∷ ls → l.is_row ≡ false
+    → puts_in rest left ≡ put_of l ∷ puts_in ls left
+lot_one rest left l ls cut single =
+    ap (λ (x : List Lot). puts_in x left) cut ∙ (λ i. puts_by (single i) l left ++ puts_in ls (rows_by (single i) left))
 
 pub none_in : (rest : List Lot) (left : List Row) → length rest ≡ 0 → length (puts_in rest left) ≡ 0
 none_in [] left e = refl
@@ -136,7 +154,8 @@ none_in (l ∷ ls) left e = absurd (omega arith)
 -- ---- back again
 
 -- the last lot is a row
-pub last_row : (rest : List Lot) (left : List Row) (ls : List Lot) (l : Lot) (rs : List Row) (r : Row) → rest ≡ ls ++ l ∷ [] → left ≡ rs ++ r ∷ [] → l.is_row ≡ true
+pub last_row : (rest : List Lot) (left : List Row) (ls : List Lot) (l : Lot) (rs : List Row) (r : Row) → rest ≡ ls ++ l ∷ []
+    → left ≡ rs ++ r ∷ [] → l.is_row ≡ true
     → length left ≡ rows_among rest
     → (length rs ≡ rows_among ls) × (puts_in rest left ≡ puts_in ls rs ++ row_puts l.array l.index r.values.items)
 last_row rest left ls l rs r cut rows row count =
@@ -146,11 +165,13 @@ last_row rest left ls l rs r cut rows row count =
     let n : length rs ≡ rows_among ls = omega (arith, a, b, k, count) in (
       n,
       (λ i. puts_in (cut i) (rows i)) ∙ lots_append ls (l ∷ []) rs (r ∷ []) n
-          ∙ ap (λ (ps : List Put). puts_in ls rs ++ ps) ((λ i. puts_by (row i) l (r ∷ []) ++ []) ∙ append-nil (row_puts l.array l.index r.values.items)),
+          ∙ ap (λ (ps : List Put). puts_in ls rs ++ ps)
+          ((λ i. puts_by (row i) l (r ∷ []) ++ []) ∙ append-nil (row_puts l.array l.index r.values.items)),
     )
 
 -- the last lot is one put
-pub last_one : (rest : List Lot) (left : List Row) (ls : List Lot) (l : Lot) → rest ≡ ls ++ l ∷ [] → l.is_row ≡ false → length left ≡ rows_among rest
+pub last_one : (rest : List Lot) (left : List Row) (ls : List Lot) (l : Lot) → rest ≡ ls ++ l ∷ [] → l.is_row ≡ false
+    → length left ≡ rows_among rest
     → (length left ≡ rows_among ls) × (puts_in rest left ≡ puts_in ls left ++ put_of l ∷ [])
 last_one rest left ls l cut single count =
     let a = ap rows_among cut ∙ rows_append ls (l ∷ []) in
@@ -174,7 +195,8 @@ pub record IsBeforeLast (rest : List Lot) (left : List Row) (ls : List Lot) (l :
   pub rows : length kept ≡ rows_among ls
 
 -- the last lot is a row
-pub before_row : (rest : List Lot) (left : List Row) (ls : List Lot) (l : Lot) (rs : List Row) (r : Row) (before len : ℕ) → rest ≡ ls ++ l ∷ [] → left ≡ rs ++ r ∷ [] → l.is_row ≡ true
+pub before_row : (rest : List Lot) (left : List Row) (ls : List Lot) (l : Lot) (rs : List Row) (r : Row) (before len : ℕ)
+    → rest ≡ ls ++ l ∷ [] → left ≡ rs ++ r ∷ [] → l.is_row ≡ true
     → length left ≡ rows_among rest → before ≡ length (puts_in rest left) → len ≡ length r.values.items
     → (len ≤ before) × IsBeforeLast rest left ls l rs (before - len)
 before_row rest left ls l rs r before len cut rows row count n m =
@@ -209,7 +231,8 @@ before_one rest left ls l before cut single count n =
     )
 
 -- a lot that is a row has one
-pub has_row : (rest ls : List Lot) (l : Lot) (left : List Row) → rest ≡ ls ++ l ∷ [] → l.is_row ≡ true → length left ≡ rows_among rest → length left ≡ 0 → ⊥
+pub has_row : (rest ls : List Lot) (l : Lot) (left : List Row) → rest ≡ ls ++ l ∷ [] → l.is_row ≡ true → length left ≡ rows_among rest
+    → length left ≡ 0 → ⊥
 has_row rest ls l left cut row count none =
     let a = ap rows_among cut ∙ rows_append ls (l ∷ []) in let k = ap one_if row in omega (arith, a, k, count, none)
 
@@ -235,8 +258,10 @@ take_all : (fs bs : List Put) (n : ℕ) → n ≡ length fs → take n (fs ++ bs
 take_all fs bs n e = ap (λ (k : ℕ). take k (fs ++ bs)) e ∙ take_front fs bs
 
 -- the last put that was taken is given back
-pub given_back_in : (front ps : List Put) {all olds : List ℤ} {xs ys zs : Arrays} (array first to_at place : ℕ) (old to : ℤ) → AreSideBySide array first ps
-    → HasBegun (front ++ ps) all xs ys → length front ≤ length olds → all ≡ olds ++ old ∷ [] → place ≡ first + (length olds - length front) → to ≡ old
+pub given_back_in : (front ps : List Put) {all olds : List ℤ} {xs ys zs : Arrays} (array first to_at place : ℕ) (old to : ℤ)
+    → AreSideBySide array first ps
+    → HasBegun (front ++ ps) all xs ys → length front ≤ length olds → all ≡ olds ++ old ∷ [] → place ≡ first + (length olds - length front)
+    → to ≡ old
     → to_at ≡ array → zs ≡ with_place ys to_at place to → HasBegun (front ++ ps) olds xs zs
 given_back_in front ps {all = all} {olds = olds} {xs = xs} {ys = ys} {zs = zs} array first to_at place old to side h le e at same ta wrote =
     let t = begins h in
@@ -245,11 +270,13 @@ given_back_in front ps {all = all} {olds = olds} {xs = xs} {ys = ys} {zs = zs} a
     let l = length-append front ps in
     let c = cut_at ps (length olds - length front) (omega (arith, n, m, l, le)) in
     let whole : front ++ ps ≡ ((front ++ c.before) ++ c.put ∷ []) ++ c.after =
-    ap (λ (qs : List Put). front ++ qs) c.cut ∙ sym (append_assoc front c.before (c.put ∷ c.after)) ∙ sym (append_assoc (front ++ c.before) (c.put ∷ []) c.after) in
+    ap (λ (qs : List Put). front ++ qs) c.cut ∙ sym (append_assoc front c.before (c.put ∷ c.after))
+    ∙ sym (append_assoc (front ++ c.before) (c.put ∷ []) c.after) in
     let fl = length-append front c.before in
     let fp = length-append (front ++ c.before) (c.put ∷ []) in
     let taken : take (length all) (front ++ ps) ≡ (front ++ c.before) ++ c.put ∷ [] =
-    ap (take (length all)) whole ∙ take_all ((front ++ c.before) ++ c.put ∷ []) c.after (length all) (omega (arith, n, fl, fp, c.count, le)) in
+    ap (take (length all)) whole
+    ∙ take_all ((front ++ c.before) ++ c.put ∷ []) c.after (length all) (omega (arith, n, fl, fp, c.count, le)) in
     let s = sides array first c.before c.put c.after (subst (AreSideBySide array first) c.cut side) in
     let index : place ≡ c.put.index = let i = s.1 in omega (arith, at, i, c.count) in
     let b = given_back c.put old to t taken e same (wrote ∙ (λ i. with_place ys ((ta ∙ sym s.0) i) (index i) to)) in
@@ -260,12 +287,14 @@ given_back_in front ps {all = all} {olds = olds} {xs = xs} {ys = ys} {zs = zs} a
       taken = b;
     }
   where
-    sides : (array first : ℕ) (fs : List Put) (p : Put) (bs : List Put) → AreSideBySide array first (fs ++ p ∷ bs) → (p.array ≡ array) × (p.index ≡ first + length fs)
+    sides : (array first : ℕ) (fs : List Put) (p : Put) (bs : List Put) → AreSideBySide array first (fs ++ p ∷ bs)
+        → (p.array ≡ array) × (p.index ≡ first + length fs)
     sides array first [] p bs h = (h.0, (let e = h.1 in omega (arith, e)))
     sides array first (q ∷ fs) p bs h = let r = sides array (suc first) fs p bs h.2 in let e = r.1 in (r.0, omega (arith, e))
 
 -- fewer are taken, as the front is long enough
-pub begun_front : (front ps : List Put) {olds : List ℤ} {xs ys : Arrays} → HasBegun (front ++ ps) olds xs ys → length olds ≤ length front → HasBegun front olds xs ys
+pub begun_front : (front ps : List Put) {olds : List ℤ} {xs ys : Arrays} → HasBegun (front ++ ps) olds xs ys → length olds ≤ length front
+    → HasBegun front olds xs ys
 begun_front front ps {olds = olds} {xs = xs} {ys = ys} h le =
     let t = begins h in
     let e : take (length olds) (front ++ ps) ≡ take (length olds) front = take_in (length olds) front ps le in

@@ -22,11 +22,13 @@ pub row_none : (i first : ℕ) (vs : List ℤ) → with_row [] i first vs ≡ []
 row_none i first [] = refl
 row_none i first (v ∷ vs) = row_none i (suc first) vs
 
-pub row_head : (a : List ℕ × List ℤ) (rest : Arrays) (first : ℕ) (vs : List ℤ) → with_row (a ∷ rest) zero first vs ≡ (a.0, row_set a.1 first vs) ∷ rest
+pub row_head : (a : List ℕ × List ℤ) (rest : Arrays) (first : ℕ) (vs : List ℤ)
+    → with_row (a ∷ rest) zero first vs ≡ (a.0, row_set a.1 first vs) ∷ rest
 row_head a rest first [] = refl
 row_head a rest first (v ∷ vs) = row_head (a.0, slice_set a.1 first v) rest (suc first) vs
 
-pub row_tail : (a : List ℕ × List ℤ) (rest : Arrays) (i first : ℕ) (vs : List ℤ) → with_row (a ∷ rest) (suc i) first vs ≡ a ∷ with_row rest i first vs
+pub row_tail : (a : List ℕ × List ℤ) (rest : Arrays) (i first : ℕ) (vs : List ℤ)
+    → with_row (a ∷ rest) (suc i) first vs ≡ a ∷ with_row rest i first vs
 row_tail a rest i first [] = refl
 row_tail a rest i first (v ∷ vs) = row_tail a (with_place rest i first v) i (suc first) vs
 
@@ -35,7 +37,8 @@ module _ {K X : Type 0} (name : K → List ℕ) (cells : X → List ℤ) where
   seen e = (name e.0, cells e.1)
 
   -- a row into the cells of an entry
-  pub row_at : (es : List (K × X)) (i first : ℕ) (vs : List ℤ) (w x : X) → slice_get (values_of es) i ≡ Some x → cells w ≡ row_set (cells x) first vs
+  pub row_at : (es : List (K × X)) (i first : ℕ) (vs : List ℤ) (w x : X) → slice_get (values_of es) i ≡ Some x
+      → cells w ≡ row_set (cells x) first vs
       → map (λ e. (name e.0, cells e.1)) (set_value_at es i w) ≡ with_row (map (λ e. (name e.0, cells e.1)) es) i first vs
   row_at [] i first vs w x h e = cc
   row_at (y ∷ es) zero first vs w x h e =
@@ -73,12 +76,14 @@ row_past cells first (v ∷ vs) le =
     ap (λ (cs : List ℤ). row_set cs (suc first) vs) e ∙ row_past cells (suc first) vs (omega (arith, le))
 
 -- a row in place of as many cells
-pub row_within : (front cells back vs : List ℤ) → length cells ≡ length vs → row_set (front ++ (cells ++ back)) (length front) vs ≡ front ++ (vs ++ back)
+pub row_within : (front cells back vs : List ℤ) → length cells ≡ length vs
+    → row_set (front ++ (cells ++ back)) (length front) vs ≡ front ++ (vs ++ back)
 row_within front [] back [] l = refl
 row_within front [] back (v ∷ vs) l = absurd (omega (arith, l))
 row_within front (c ∷ cells) back [] l = absurd (omega (arith, l))
 row_within front (c ∷ cells) back (v ∷ vs) l =
-    ap (λ (cs : List ℤ). row_set cs (suc (length front)) vs) (set-append_seam front c (cells ++ back) v ∙ sym (append_assoc front (v ∷ []) (cells ++ back)))
+    ap (λ (cs : List ℤ). row_set cs (suc (length front)) vs)
+    (set-append_seam front c (cells ++ back) v ∙ sym (append_assoc front (v ∷ []) (cells ++ back)))
     ∙ ap (λ (n : ℕ). row_set ((front ++ v ∷ []) ++ (cells ++ back)) n vs) (sym one_more)
     ∙ row_within (front ++ v ∷ []) cells back vs (omega (arith, l))
     ∙ append_assoc front (v ∷ []) (vs ++ back)

@@ -17,7 +17,8 @@ use Rattle.task_bodies.specs.Board.{HasRow, AreRowsGiven, window_in, window_at, 
 pub each_none : (is : ℕ → ℤ → Type 0) → AreEach is 0 []
 each_none is = record { long = refl; each = λ i lt. absurd (omega (arith, lt)) }
 
-pub each_more : (is : ℕ → ℤ → Type 0) (count : ℕ) (values : List ℤ) (v : ℤ) → AreEach is count values → is count v → AreEach is (count + 1) (values ++ v ∷ [])
+pub each_more : (is : ℕ → ℤ → Type 0) (count : ℕ) (values : List ℤ) (v : ℤ) → AreEach is count values → is count v
+    → AreEach is (count + 1) (values ++ v ∷ [])
 each_more is count values v h new = record {
   long = let l = length-append values (v ∷ []) in omega (arith, l, h.long);
   each = λ i lt. by i lt (nat_lt i count) refl;
@@ -32,13 +33,15 @@ each_more is count values v h new = record {
     by i lt false e =
         let l : count ≤ i = grind (arith, nat_tests) in
         let same : count ≡ i = omega (arith, l, lt) in
-        let last : get_or (values ++ v ∷ []) count (pos 0) ≡ v = ap (λ (n : ℕ). get_or (values ++ v ∷ []) n (pos 0)) (sym h.long) ∙ get_or-append_seam values v [] (pos 0) in
+        let last : get_or (values ++ v ∷ []) count (pos 0) ≡ v =
+        ap (λ (n : ℕ). get_or (values ++ v ∷ []) n (pos 0)) (sym h.long) ∙ get_or-append_seam values v [] (pos 0) in
         let P : ℤ → Type 0 = λ z. is count z in
         let Q : ℕ → Type 0 = λ n. is n (get_or (values ++ v ∷ []) n (pos 0)) in
         subst Q same (subst P (sym last) new)
 
 -- the cell at this place
-pub given_more : (gives : ℤ → ℤ → Type 0) (cells : List ℤ) (first place : ℕ) (values more : List ℤ) (x v : ℤ) → first ≤ place → AreGiven gives cells first (place - first) values
+pub given_more : (gives : ℤ → ℤ → Type 0) (cells : List ℤ) (first place : ℕ) (values more : List ℤ) (x v : ℤ) → first ≤ place
+    → AreGiven gives cells first (place - first) values
     → gives x v → x ≡ get_or cells place (pos 0) → more ≡ values ++ v ∷ [] → AreGiven gives cells first (place + 1 - first) more
 given_more gives cells first place values more x v le h new ex eq =
     let at : place ≡ first + (place - first) = omega (arith, le) in
@@ -55,11 +58,13 @@ total_more so_far [] v = refl
 total_more so_far (w ∷ vs) v = total_more (so_far +ℤ w) vs v
 
 -- one more can be added
-added_more : (so_far : ℤ) (vs : List ℤ) (v : ℤ) → can_be_added so_far vs ≡ true → is_over Add v (total so_far vs) ≡ false → can_be_added so_far (vs ++ v ∷ []) ≡ true
+added_more : (so_far : ℤ) (vs : List ℤ) (v : ℤ) → can_be_added so_far vs ≡ true → is_over Add v (total so_far vs) ≡ false
+    → can_be_added so_far (vs ++ v ∷ []) ≡ true
 added_more so_far [] v h e = ap (λ (b : Bool). not b && true) e
 added_more so_far (w ∷ vs) v h e = by (is_over Add w so_far) h (λ k. added_more (so_far +ℤ w) vs v k e)
   where
-    by : (b : Bool) → not b && can_be_added (so_far +ℤ w) vs ≡ true → (can_be_added (so_far +ℤ w) vs ≡ true → can_be_added (so_far +ℤ w) (vs ++ v ∷ []) ≡ true)
+    by : (b : Bool) → not b && can_be_added (so_far +ℤ w) vs ≡ true
+        → (can_be_added (so_far +ℤ w) vs ≡ true → can_be_added (so_far +ℤ w) (vs ++ v ∷ []) ≡ true)
         → not b && can_be_added (so_far +ℤ w) (vs ++ v ∷ []) ≡ true
     by true k go = k
     by false k go = go k
@@ -78,12 +83,16 @@ summed_none gives cells first place e =
     record { values = []; given = subst Q z (each_none _); within = refl; total = refl }
 
 module _ (gives : ℤ → ℤ → Type 0) (cells : List ℤ) (place : ℕ) (start sum x v w : ℤ) (found : Option ℤ)
-    (made : found ≡ (if is_over Add w sum then None else Some (sum +ℤ w))) (new : gives x v) (ex : x ≡ get_or cells place (pos 0)) (ev : v ≡ w) where
-  pub summed_more : (first : ℕ) (more next : ℤ) → first ≤ place → IsSummed gives cells first place start → start ≡ sum → found ≡ Some more → more ≡ next → IsSummed gives cells first (place + 1) next
+    (made : found ≡ (if is_over Add w sum then None else Some (sum +ℤ w))) (new : gives x v) (ex : x ≡ get_or cells place (pos 0))
+    (ev : v ≡ w) where
+  pub summed_more : (first : ℕ) (more next : ℤ) → first ≤ place → IsSummed gives cells first place start → start ≡ sum → found ≡ Some more
+      → more ≡ next → IsSummed gives cells first (place + 1) next
   summed_more first more next le h same some eq = record {
     values = h.values ++ v ∷ [];
     given = given_more gives cells first place h.values (h.values ++ v ∷ []) x v le h.given new ex refl;
-    within = added_more (pos 0) h.values v h.within ((λ i. is_over Add (ev i) ((h.total ∙ same) i)) ∙ none_over (is_over Add w sum) (sym made ∙ some));
+    within =
+        added_more (pos 0) h.values v h.within
+        ((λ i. is_over Add (ev i) ((h.total ∙ same) i)) ∙ none_over (is_over Add w sum) (sym made ∙ some));
     total = total_more (pos 0) h.values v ∙ (λ i. (h.total ∙ same) i +ℤ ev i) ∙ by (is_over Add w sum) (sym made ∙ some) ∙ eq;
   }
     where
@@ -99,7 +108,8 @@ module _ (gives : ℤ → ℤ → Type 0) (cells : List ℤ) (place : ℕ) (star
       by true e = cc
       by false e = ap value e
 
-  pub too_large : (k : Cells) (o : Left Cells) → k.first ≤ place → IsSummed gives cells k.first place start → start ≡ sum → place < k.end → found ≡ None → o.ending ≡ Fails 17 → IsTooLarge gives cells k o
+  pub too_large : (k : Cells) (o : Left Cells) → k.first ≤ place → IsSummed gives cells k.first place start → start ≡ sum → place < k.end
+      → found ≡ None → o.ending ≡ Fails 17 → IsTooLarge gives cells k o
   too_large k o le h same lt none ends =
       let at : place ≡ k.first + (place - k.first) = omega (arith, le) in
       let P : ℤ → Type 0 = λ z. gives z v in
@@ -129,7 +139,8 @@ all_there n m k e t f = let x : true ≡ false = sym t ∙ ap (λ (i : ℕ). are
 
 -- ---- a row
 
-pub row_none : (gives : Window → ℤ → Type 0) (beyond : ℤ) (up own down : List ℤ) (values : List ℤ) → HasRow gives beyond up own down 0 values values
+pub row_none : (gives : Window → ℤ → Type 0) (beyond : ℤ) (up own down : List ℤ) (values : List ℤ)
+    → HasRow gives beyond up own down 0 values values
 row_none gives beyond up own down values = record { row = []; more = sym (append_none values); given = each_none _ }
   where
     append_none : (vs : List ℤ) → vs ++ [] ≡ vs
@@ -149,13 +160,16 @@ row_more gives beyond up own down place old values new w v h e g eq =
 
 -- ---- rows
 
-pub rows_none : (gives : Window → ℤ → Type 0) (beyond : ℤ) (cells : List ℤ) (width first count : ℕ) (values : List ℤ) → count ≡ 0 → values ≡ [] → AreRowsGiven gives beyond cells width first count values
+pub rows_none : (gives : Window → ℤ → Type 0) (beyond : ℤ) (cells : List ℤ) (width first count : ℕ) (values : List ℤ) → count ≡ 0
+    → values ≡ [] → AreRowsGiven gives beyond cells width first count values
 rows_none gives beyond cells width first count values e n = record {
   long = ap length n ∙ sym (zero-mul width) ∙ ap (λ (k : ℕ). k * width) (sym e);
   each = λ row column lt in_row. absurd (omega (arith, lt, e));
 }
 
-pub rows_more : (gives : Window → ℤ → Type 0) (beyond : ℤ) (cells : List ℤ) (width first row : ℕ) (up own down : List ℤ) (values new : List ℤ) → first ≤ row
+pub rows_more : (gives : Window → ℤ → Type 0) (beyond : ℤ) (cells : List ℤ) (width first row : ℕ) (up own down : List ℤ)
+    (values new : List ℤ)
+    → first ≤ row
     → AreRowsGiven gives beyond cells width first (row - first) values
     → up ≡ row_before cells width row → own ≡ row_at cells width row → down ≡ row_at cells width (row + 1)
     → HasRow gives beyond up own down width values new → AreRowsGiven gives beyond cells width first (row + 1 - first) new
@@ -177,7 +191,8 @@ rows_more gives beyond cells width first row up own down values new le h eu eo e
 
     here : (column : ℕ) → column < width → gives (window_at beyond cells width row column) (get_or r.row column (pos 0))
     here column lt =
-        let e : window_in beyond up own down column ≡ window_at beyond cells width row column = (λ i. window_in beyond (eu i) (eo i) (ed i) column) in
+        let e : window_in beyond up own down column ≡ window_at beyond cells width row column =
+        (λ i. window_in beyond (eu i) (eo i) (ed i) column) in
         let P : Window → Type 0 = λ w. gives w (get_or r.row column (pos 0)) in
         subst P e (r.given.each column lt)
 
@@ -190,7 +205,9 @@ rows_more gives beyond cells width first row up own down values new le h eu eo e
         let n = suc-mul k width in
         let long = h.long in
         let inside : k * width + column < length values = omega (arith, m, n, long, in_row) in
-        let got = ap (λ (vs : List ℤ). get_or vs (k * width + column) (pos 0)) r.more ∙ get_or_append_left values r.row (pos 0) (k * width + column) inside in
+        let got =
+        ap (λ (vs : List ℤ). get_or vs (k * width + column) (pos 0)) r.more
+        ∙ get_or_append_left values r.row (pos 0) (k * width + column) inside in
         let P : ℤ → Type 0 = λ z. gives (window_at beyond cells width (first + k) column) z in
         subst P (sym got) (h.each k column l in_row)
     by k column lt in_row false e =
@@ -199,7 +216,8 @@ rows_more gives beyond cells width first row up own down values new le h eu eo e
         let at : row ≡ first + k = omega (arith, same, le) in
         let place : length values + column ≡ k * width + column = ap (λ (n : ℕ). n + column) (h.long ∙ ap (λ (n : ℕ). n * width) same) in
         let got : get_or new (k * width + column) (pos 0) ≡ get_or r.row column (pos 0) =
-        ap (λ (n : ℕ). get_or new n (pos 0)) (sym place) ∙ ap (λ (vs : List ℤ). get_or vs (length values + column) (pos 0)) r.more ∙ get_or-append-add values r.row column (pos 0) in
+        ap (λ (n : ℕ). get_or new n (pos 0)) (sym place) ∙ ap (λ (vs : List ℤ). get_or vs (length values + column) (pos 0)) r.more
+        ∙ get_or-append-add values r.row column (pos 0) in
         let P : ℤ → Type 0 = λ z. gives (window_at beyond cells width (first + k) column) z in
         let R : ℕ → Type 0 = λ n. gives (window_at beyond cells width n column) (get_or r.row column (pos 0)) in
         subst P (sym got) (subst R at (here column in_row))
@@ -211,7 +229,8 @@ next_row row at width e =
     ap (λ (n : ℕ). n + width) e ∙ sym (suc-mul row width) ∙ ap (λ (n : ℕ). n * width) one
 
 -- the row before one that isn't the first
-pub above : (cells : List ℤ) (width row at : ℕ) → at ≡ row * width → (row ≡ 0 → ⊥) → (width ≤ at) × (take width (drop (at - width) cells) ≡ row_before cells width row)
+pub above : (cells : List ℤ) (width row at : ℕ) → at ≡ row * width → (row ≡ 0 → ⊥)
+    → (width ≤ at) × (take width (drop (at - width) cells) ≡ row_before cells width row)
 above cells width zero at e n = absurd (n refl)
 above cells width (suc row) at e n =
     let m = suc-mul row width in

@@ -6,7 +6,8 @@ use Rattle.std.proofs.lemmas.List.{get_or_append_left, length-append}
 use Rattle.std.proofs.Math.Seq.{get_or-append_seam}
 use Rattle.task_bodies.specs.Kernels.{IsMapped}
 
-mapped_more : (gives : ℤ → ℤ → ℤ → ℤ → Type 0) (cells : List ℤ) (first count : ℕ) (values : List ℤ) (v : ℤ) → IsMapped gives cells first count values
+mapped_more : (gives : ℤ → ℤ → ℤ → ℤ → Type 0) (cells : List ℤ) (first count : ℕ) (values : List ℤ) (v : ℤ)
+    → IsMapped gives cells first count values
     → gives (get_or cells (first + count) (pos 0)) (get_or cells (first + count + 1) (pos 0)) (get_or cells (first + count + 2) (pos 0)) v
     → IsMapped gives cells first (count + 1) (values ++ v ∷ [])
 mapped_more gives cells first count values v h new = record {
@@ -15,18 +16,25 @@ mapped_more gives cells first count values v h new = record {
 }
   where
     by : (i : ℕ) → i < count + 1 → (b : Bool) → nat_lt i count ≡ b
-        → gives (get_or cells (first + i) (pos 0)) (get_or cells (first + i + 1) (pos 0)) (get_or cells (first + i + 2) (pos 0)) (get_or (values ++ v ∷ []) i (pos 0))
+        → gives (get_or cells (first + i) (pos 0)) (get_or cells (first + i + 1) (pos 0)) (get_or cells (first + i + 2) (pos 0))
+        (get_or (values ++ v ∷ []) i (pos 0))
     by i lt true e =
         let l : i < count = grind (arith, nat_tests) in
         let m : i < length values = omega (arith, l, h.long) in
-        let P : ℤ → Type 0 = λ z. gives (get_or cells (first + i) (pos 0)) (get_or cells (first + i + 1) (pos 0)) (get_or cells (first + i + 2) (pos 0)) z in
+        let P : ℤ → Type 0 =
+        λ z. gives (get_or cells (first + i) (pos 0)) (get_or cells (first + i + 1) (pos 0)) (get_or cells (first + i + 2) (pos 0)) z in
         subst P (sym (get_or_append_left values (v ∷ []) (pos 0) i m)) (h.each i l)
     by i lt false e =
         let l : count ≤ i = grind (arith, nat_tests) in
         let same : count ≡ i = omega (arith, l, lt) in
-        let last : get_or (values ++ v ∷ []) count (pos 0) ≡ v = ap (λ (n : ℕ). get_or (values ++ v ∷ []) n (pos 0)) (sym h.long) ∙ get_or-append_seam values v [] (pos 0) in
-        let P : ℤ → Type 0 = λ z. gives (get_or cells (first + count) (pos 0)) (get_or cells (first + count + 1) (pos 0)) (get_or cells (first + count + 2) (pos 0)) z in
-        let Q : ℕ → Type 0 = λ n. gives (get_or cells (first + n) (pos 0)) (get_or cells (first + n + 1) (pos 0)) (get_or cells (first + n + 2) (pos 0)) (get_or (values ++ v ∷ []) n (pos 0)) in
+        let last : get_or (values ++ v ∷ []) count (pos 0) ≡ v =
+        ap (λ (n : ℕ). get_or (values ++ v ∷ []) n (pos 0)) (sym h.long) ∙ get_or-append_seam values v [] (pos 0) in
+        let P : ℤ → Type 0 =
+        λ z. gives (get_or cells (first + count) (pos 0)) (get_or cells (first + count + 1) (pos 0))
+        (get_or cells (first + count + 2) (pos 0)) z in
+        let Q : ℕ → Type 0 =
+        λ n. gives (get_or cells (first + n) (pos 0)) (get_or cells (first + n + 1) (pos 0)) (get_or cells (first + n + 2) (pos 0))
+        (get_or (values ++ v ∷ []) n (pos 0)) in
         subst Q same (subst P (sym last) new)
 
 pub mapped_on : (gives : ℤ → ℤ → ℤ → ℤ → Type 0) (cells : List ℤ) (first place : ℕ) (values more : List ℤ) (x y z v : ℤ) → first ≤ place

@@ -45,13 +45,17 @@ stencil_of : (o : Left Span) → IsStencilled minus 0 5 cells 4 span o
     → o ≡ record { kept = span; puts = set_to 0 1 (negsuc 29) ∷ set_to 0 2 (negsuc 59) ∷ []; prints = []; spawns = []; ending = Syncs }
 stencil_of o h = by h.values refl
   where
-    made : h.values ≡ negsuc 29 ∷ negsuc 59 ∷ [] → o ≡ record { kept = span; puts = set_to 0 1 (negsuc 29) ∷ set_to 0 2 (negsuc 59) ∷ []; prints = []; spawns = []; ending = Syncs }
-    made e = λ i. record { kept = h.kept i; puts = (h.puts ∙ ap (row_puts 0 1) e) i; prints = h.prints i; spawns = h.spawns i; ending = h.ending i }
+    made : h.values ≡ negsuc 29 ∷ negsuc 59 ∷ []
+        → o ≡ record { kept = span; puts = set_to 0 1 (negsuc 29) ∷ set_to 0 2 (negsuc 59) ∷ []; prints = []; spawns = []; ending = Syncs }
+    made e =
+        λ i.
+        record { kept = h.kept i; puts = (h.puts ∙ ap (row_puts 0 1) e) i; prints = h.prints i; spawns = h.spawns i; ending = h.ending i }
 
     long : length h.values ≡ 2
     long = h.mapped.long
 
-    by : (vs : List ℤ) → h.values ≡ vs → o ≡ record { kept = span; puts = set_to 0 1 (negsuc 29) ∷ set_to 0 2 (negsuc 59) ∷ []; prints = []; spawns = []; ending = Syncs }
+    by : (vs : List ℤ) → h.values ≡ vs
+        → o ≡ record { kept = span; puts = set_to 0 1 (negsuc 29) ∷ set_to 0 2 (negsuc 59) ∷ []; prints = []; spawns = []; ending = Syncs }
     by [] e = let l = sym (ap length e) ∙ long in absurd (omega (arith, l))
     by (a ∷ []) e = let l = sym (ap length e) ∙ long in absurd (omega (arith, l))
     by (a ∷ b ∷ []) e =
@@ -64,13 +68,22 @@ abbrev nine : List ℤ
 nine = pos 1 ∷ pos 2 ∷ pos 3 ∷ pos 4 ∷ pos 5 ∷ pos 6 ∷ pos 7 ∷ pos 8 ∷ pos 9 ∷ []
 
 abbrev row_left : Left BoardRows
-row_left = record { kept = middle; puts = set_to 1 3 (pos 80711050411020111) ∷ set_to 1 4 (pos 90807060504030201) ∷ set_to 1 5 (pos 110908110605110302) ∷ []; prints = []; spawns = []; ending = Syncs }
+row_left =
+    record {
+      kept = middle;
+      puts = set_to 1 3 (pos 80711050411020111) ∷ set_to 1 4 (pos 90807060504030201) ∷ set_to 1 5 (pos 110908110605110302) ∷ [];
+      prints = [];
+      spawns = [];
+      ending = Syncs;
+    }
 
 row_of : (o : Left BoardRows) → IsGridded digits 1 3 (pos 11) 5 nine 4 middle o → o ≡ row_left
 row_of o h = by h.values refl
   where
     made : h.values ≡ pos 80711050411020111 ∷ pos 90807060504030201 ∷ pos 110908110605110302 ∷ [] → o ≡ row_left
-    made e = λ i. record { kept = h.kept i; puts = (h.puts ∙ ap (row_puts 1 3) e) i; prints = h.prints i; spawns = h.spawns i; ending = h.ending i }
+    made e =
+        λ i.
+        record { kept = h.kept i; puts = (h.puts ∙ ap (row_puts 1 3) e) i; prints = h.prints i; spawns = h.spawns i; ending = h.ending i }
 
     long : length h.values ≡ 3
     long = h.given.long
@@ -80,9 +93,12 @@ row_of o h = by h.values refl
     by (a ∷ []) e = let l = sym (ap length e) ∙ long in absurd (omega (arith, l))
     by (a ∷ b ∷ []) e = let l = sym (ap length e) ∙ long in absurd (omega (arith, l))
     by (a ∷ b ∷ c ∷ []) e =
-        let one : a ≡ pos 80711050411020111 = ap (λ (vs : List ℤ). get_or vs 0 (pos 0)) (sym e) ∙ h.given.each 0 0 (omega arith) (omega arith) in
-        let two : b ≡ pos 90807060504030201 = ap (λ (vs : List ℤ). get_or vs 1 (pos 0)) (sym e) ∙ h.given.each 0 1 (omega arith) (omega arith) in
-        let three : c ≡ pos 110908110605110302 = ap (λ (vs : List ℤ). get_or vs 2 (pos 0)) (sym e) ∙ h.given.each 0 2 (omega arith) (omega arith) in
+        let one : a ≡ pos 80711050411020111 =
+        ap (λ (vs : List ℤ). get_or vs 0 (pos 0)) (sym e) ∙ h.given.each 0 0 (omega arith) (omega arith) in
+        let two : b ≡ pos 90807060504030201 =
+        ap (λ (vs : List ℤ). get_or vs 1 (pos 0)) (sym e) ∙ h.given.each 0 1 (omega arith) (omega arith) in
+        let three : c ≡ pos 110908110605110302 =
+        ap (λ (vs : List ℤ). get_or vs 2 (pos 0)) (sym e) ∙ h.given.each 0 2 (omega arith) (omega arith) in
         made (e ∙ (λ i. one i ∷ two i ∷ three i ∷ []))
     by (a ∷ b ∷ c ∷ d ∷ vs) e = let l = sym (ap length e) ∙ long in absurd (omega (arith, l))
 
@@ -93,7 +109,9 @@ map_of : (o : Left Cells) → IsMapping twice 1 5 cells 5 inner o → o ≡ map_
 map_of o h = by h.values refl
   where
     made : h.values ≡ pos 40 ∷ pos 80 ∷ [] → o ≡ map_left
-    made e = λ i. record { kept = h.kept i; puts = (h.puts ∙ ap (row_puts 1 1) e) i; prints = h.prints i; spawns = h.spawns i; ending = h.ending i }
+    made e =
+        λ i.
+        record { kept = h.kept i; puts = (h.puts ∙ ap (row_puts 1 1) e) i; prints = h.prints i; spawns = h.spawns i; ending = h.ending i }
 
     long : length h.values ≡ 2
     long = h.given.long
@@ -113,7 +131,8 @@ module _ (x : ℤ) where
   these = x ∷ pos 1 ∷ pos 2 ∷ []
 
   -- their sum, if it is made
-  summed : (o : Left Cells) (h : IsSum same 1 3 these two_cells o) → (can_be_added (pos 0) (x ∷ pos 1 ∷ []) ≡ true) × (o ≡ sum (total (pos 0) (x ∷ pos 1 ∷ [])))
+  summed : (o : Left Cells) (h : IsSum same 1 3 these two_cells o)
+      → (can_be_added (pos 0) (x ∷ pos 1 ∷ []) ≡ true) × (o ≡ sum (total (pos 0) (x ∷ pos 1 ∷ [])))
   summed o h = by h.values refl
     where
       long : length h.values ≡ 2
@@ -140,7 +159,8 @@ module _ (x : ℤ) where
       by (a ∷ b ∷ c ∷ vs) e = let l = sym (ap length e) ∙ long in absurd (omega (arith, l))
 
   -- one of the sums on the way is too large, if one is
-  over_so : (o : Left Cells) (h : IsTooLarge same these two_cells o) → is_over Add x (pos 0) ≡ false → is_over Add (pos 1) (pos 0 +ℤ x) ≡ false → false ≡ true
+  over_so : (o : Left Cells) (h : IsTooLarge same these two_cells o) → is_over Add x (pos 0) ≡ false
+      → is_over Add (pos 1) (pos 0 +ℤ x) ≡ false → false ≡ true
   over_so o h first second = by h.values refl
     where
       at : (n : ℕ) → h.before ≡ n → h.value ≡ get_or these n (pos 0)
@@ -163,12 +183,14 @@ module _ (x : ℤ) where
           let w : 0 + h.before < 2 = h.within in
           absurd (omega (arith, l, w))
 
-largest_sum : (o : Left Cells) → IsSum same 1 3 (these (pos 9223372036854775806)) two_cells o ⊎ IsTooLarge same (these (pos 9223372036854775806)) two_cells o
+largest_sum : (o : Left Cells)
+    → IsSum same 1 3 (these (pos 9223372036854775806)) two_cells o ⊎ IsTooLarge same (these (pos 9223372036854775806)) two_cells o
     → o ≡ sum (pos 9223372036854775807)
 largest_sum o (inl h) = (summed (pos 9223372036854775806) o h).1
 largest_sum o (inr h) = differ (over_so (pos 9223372036854775806) o h refl refl)
 
-too_large : (o : Left Cells) → IsSum same 1 3 (these (pos 9223372036854775807)) two_cells o ⊎ IsTooLarge same (these (pos 9223372036854775807)) two_cells o
+too_large : (o : Left Cells)
+    → IsSum same 1 3 (these (pos 9223372036854775807)) two_cells o ⊎ IsTooLarge same (these (pos 9223372036854775807)) two_cells o
     → o.ending ≡ Fails 17
 too_large o (inl h) = differ (summed (pos 9223372036854775807) o h).0
 too_large o (inr h) = h.ending

@@ -38,7 +38,8 @@ window_in beyond up own down column = record {
 
 -- the cell in this row and column, and its neighbours
 abbrev pub window_at : ℤ → List ℤ → ℕ → ℕ → ℕ → Window
-window_at beyond cells width row column = window_in beyond (row_before cells width row) (row_at cells width row) (row_at cells width (row + 1)) column
+window_at beyond cells width row column =
+    window_in beyond (row_before cells width row) (row_at cells width row) (row_at cells width (row + 1)) column
 
 -- what the relation gives for the cells of a row was appended
 pub record HasRow (gives : Window → ℤ → Type 0) (beyond : ℤ) (up own down : List ℤ) (width : ℕ) (old new : List ℤ) : Type 0 where
@@ -57,7 +58,8 @@ abbrev pub are_rows : ℕ → ℕ → BoardRows → Bool
 are_rows count width k = nat_lt 0 width && nat_lt k.first k.end && nat_le (k.end * width) count
 
 -- what the relation gives for the cells, in place of them, and nothing else
-pub record IsGridded (gives : Window → ℤ → Type 0) (array width : ℕ) (beyond : ℤ) (last : ℕ) (cells : List ℤ) (step : ℕ) (k : BoardRows) (o : Left BoardRows) : Type 0 where
+pub record IsGridded (gives : Window → ℤ → Type 0) (array width : ℕ) (beyond : ℤ) (last : ℕ) (cells : List ℤ) (step : ℕ) (k : BoardRows)
+    (o : Left BoardRows) : Type 0 where
   pub kept : o.kept ≡ k
   pub values : List ℤ
   pub given : AreRowsGiven gives beyond cells width k.first (k.end - k.first) values
@@ -67,6 +69,8 @@ pub record IsGridded (gives : Window → ℤ → Type 0) (array width : ℕ) (be
   pub ending : o.ending ≡ ends_in last step
 
 -- such rows if all these exist, else the fault 16
-pub record GridMay (gives : Window → ℤ → Type 0) (array width : ℕ) (beyond : ℤ) (last : ℕ) (arrays : List (List ℕ × List ℤ)) (step : ℕ) (k : BoardRows) (o : Left BoardRows) : Type 0 where
-  pub there : are_rows (length (cells_in (slice_get arrays array))) width k ≡ true → IsGridded gives array width beyond last (cells_in (slice_get arrays array)) step k o
+pub record GridMay (gives : Window → ℤ → Type 0) (array width : ℕ) (beyond : ℤ) (last : ℕ) (arrays : List (List ℕ × List ℤ)) (step : ℕ)
+    (k : BoardRows) (o : Left BoardRows) : Type 0 where
+  pub there : are_rows (length (cells_in (slice_get arrays array))) width k ≡ true
+      → IsGridded gives array width beyond last (cells_in (slice_get arrays array)) step k o
   pub not_there : are_rows (length (cells_in (slice_get arrays array))) width k ≡ false → o.ending ≡ Fails 16

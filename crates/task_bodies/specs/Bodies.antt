@@ -80,18 +80,21 @@ module _ {K : Type 0} where
   abbrev pub framed_by : List (List ℕ × List ℤ) → MemberValue K → Left K → Ending → Segment (MemberValue K)
   framed_by arrays t o (ending.Fails code) = faulted code
   framed_by arrays t o ending.Stops = limited t o Stopped (refused arrays t.path t.begun o.puts (length o.spawns))
-  framed_by arrays t o ending.Syncs = limited t o (Synced (went t (length o.spawns) o.kept)) (refused arrays t.path t.begun o.puts (length o.spawns))
+  framed_by arrays t o ending.Syncs =
+      limited t o (Synced (went t (length o.spawns) o.kept)) (refused arrays t.path t.begun o.puts (length o.spawns))
 
   -- what a task leaves whose body left this
   abbrev pub framed : List (List ℕ × List ℤ) → MemberValue K → Left K → Segment (MemberValue K)
   framed arrays t o = framed_by arrays t o o.ending
 
   -- what a task may leave whose body may leave this
-  pub record BodyMay (may : List ℕ → List (List ℕ × List ℤ) → ℕ → K → Left K → Type 0) (t : MemberValue K) (arrays : List (List ℕ × List ℤ)) (step : ℕ) (g : Segment (MemberValue K)) : Type 0 where
+  pub record BodyMay (may : List ℕ → List (List ℕ × List ℤ) → ℕ → K → Left K → Type 0) (t : MemberValue K) (arrays : List (List ℕ × List ℤ))
+      (step : ℕ) (g : Segment (MemberValue K)) : Type 0 where
     pub left : Left K
     pub allowed : may t.path arrays step t.kept left
     pub is : g ≡ framed arrays t left
 
   -- what a task leaves whose body does this
-  abbrev pub body_does : (List ℕ → List (List ℕ × List ℤ) → ℕ → K → Left K) → MemberValue K → List (List ℕ × List ℤ) → ℕ → Segment (MemberValue K)
+  abbrev pub body_does : (List ℕ → List (List ℕ × List ℤ) → ℕ → K → Left K) → MemberValue K → List (List ℕ × List ℤ) → ℕ
+      → Segment (MemberValue K)
   body_does does t arrays step = framed arrays t (does t.path arrays step t.kept)

@@ -32,8 +32,10 @@ pub record IsMapping (gives : ℤ → ℤ → Type 0) (into last : ℕ) (cells :
   pub ending : o.ending ≡ ends_in last step
 
 -- such a row if all these cells exist, else the fault 16
-pub record MapMay (gives : ℤ → ℤ → Type 0) (from into last : ℕ) (arrays : List (List ℕ × List ℤ)) (step : ℕ) (k : Cells) (o : Left Cells) : Type 0 where
-  pub there : are_there (length (cells_in (slice_get arrays from))) k ≡ true → IsMapping gives into last (cells_in (slice_get arrays from)) step k o
+pub record MapMay (gives : ℤ → ℤ → Type 0) (from into last : ℕ) (arrays : List (List ℕ × List ℤ)) (step : ℕ) (k : Cells)
+    (o : Left Cells) : Type 0 where
+  pub there : are_there (length (cells_in (slice_get arrays from))) k ≡ true
+      → IsMapping gives into last (cells_in (slice_get arrays from)) step k o
   pub not_there : are_there (length (cells_in (slice_get arrays from))) k ≡ false → o.ending ≡ Fails 16
 
 -- the sum of these, one after another
@@ -70,7 +72,8 @@ pub record IsTooLarge (gives : ℤ → ℤ → Type 0) (cells : List ℤ) (k : C
   pub ending : o.ending ≡ Fails 17
 
 -- such a sum if all these cells exist, else the fault 16
-pub record ReduceMay (gives : ℤ → ℤ → Type 0) (array into cell : ℕ) (arrays : List (List ℕ × List ℤ)) (k : Cells) (o : Left Cells) : Type 0 where
+pub record ReduceMay (gives : ℤ → ℤ → Type 0) (array into cell : ℕ) (arrays : List (List ℕ × List ℤ)) (k : Cells)
+    (o : Left Cells) : Type 0 where
   pub there : are_there (length (cells_in (slice_get arrays array))) k ≡ true
       → IsSum gives into cell (cells_in (slice_get arrays array)) k o ⊎ IsTooLarge gives (cells_in (slice_get arrays array)) k o
   pub not_there : are_there (length (cells_in (slice_get arrays array))) k ≡ false → o.ending ≡ Fails 16

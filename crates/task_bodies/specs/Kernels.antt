@@ -10,14 +10,16 @@ use Rattle.task_bodies.specs.Bodies.{Left, cells_in}
 pub record IsMapped (gives : ℤ → ℤ → ℤ → ℤ → Type 0) (cells : List ℤ) (first count : ℕ) (values : List ℤ) : Type 0 where
   pub long : length values ≡ count
   pub each : (i : ℕ) → i < count
-      → gives (get_or cells (first + i) (pos 0)) (get_or cells (first + i + 1) (pos 0)) (get_or cells (first + i + 2) (pos 0)) (get_or values i (pos 0))
+      → gives (get_or cells (first + i) (pos 0)) (get_or cells (first + i + 1) (pos 0)) (get_or cells (first + i + 2) (pos 0))
+      (get_or values i (pos 0))
 
 -- it goes on until this superstep
 abbrev pub ends_in : ℕ → ℕ → Ending
 ends_in last step = if nat_lt step last then Syncs else Stops
 
 -- a row of what the relation gives, in place of the cells, and nothing else
-pub record IsStencilled (gives : ℤ → ℤ → ℤ → ℤ → Type 0) (array last : ℕ) (cells : List ℤ) (step : ℕ) (k : Span) (o : Left Span) : Type 0 where
+pub record IsStencilled (gives : ℤ → ℤ → ℤ → ℤ → Type 0) (array last : ℕ) (cells : List ℤ) (step : ℕ) (k : Span)
+    (o : Left Span) : Type 0 where
   pub kept : o.kept ≡ k
   pub values : List ℤ
   pub mapped : IsMapped gives cells k.before (k.end - k.before) values
@@ -31,6 +33,8 @@ abbrev pub is_there : List ℤ → Span → Bool
 is_there cells k = nat_le k.before k.end && nat_le (k.end + 2) (length cells)
 
 -- such a row if all these cells exist, else the fault 16
-pub record StencilMay (gives : ℤ → ℤ → ℤ → ℤ → Type 0) (array last : ℕ) (arrays : List (List ℕ × List ℤ)) (step : ℕ) (k : Span) (o : Left Span) : Type 0 where
-  pub there : is_there (cells_in (slice_get arrays array)) k ≡ true → IsStencilled gives array last (cells_in (slice_get arrays array)) step k o
+pub record StencilMay (gives : ℤ → ℤ → ℤ → ℤ → Type 0) (array last : ℕ) (arrays : List (List ℕ × List ℤ)) (step : ℕ) (k : Span)
+    (o : Left Span) : Type 0 where
+  pub there : is_there (cells_in (slice_get arrays array)) k ≡ true
+      → IsStencilled gives array last (cells_in (slice_get arrays array)) step k o
   pub not_there : is_there (cells_in (slice_get arrays array)) k ≡ false → o.ending ≡ Fails 16

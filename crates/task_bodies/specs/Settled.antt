@@ -14,6 +14,7 @@ module _ {K : Type 0} where
     pub task : u ≡ went t (length o.spawns) t.kept
 
   -- if it is refused with this number it is a fault, and the task is as it was; else it joins, and its task ends so
-  abbrev pub IsSettled : Option ℕ → MemberValue K → MemberValue K → OutValue K → Work (MemberValue K) → Work (MemberValue K) → SegmentEnd → SegmentEnd → Type 0
+  abbrev pub IsSettled : Option ℕ → MemberValue K → MemberValue K → OutValue K → Work (MemberValue K) → Work (MemberValue K) → SegmentEnd
+      → SegmentEnd → Type 0
   IsSettled (Some code) t u o old new ended e = (e ≡ ending.Fails code) × (u ≡ t)
   IsSettled None t u o old new ended e = (e ≡ ended) × HasJoined t u o old new

@@ -45,7 +45,8 @@ pub record BodiesAreWorkedOut : Type 0 where
   pub too_many : refused arrays seven 65535 [] 1 ≡ Some 6
   pub both : refused arrays eight 65535 [] 1 ≡ Some 5
   -- it goes on, and spawns two tasks
-  pub goes_on : framed arrays task (record { kept = 31; puts = set_to 0 1 (pos 7) ∷ []; prints = pos 8 ∷ []; spawns = 40 ∷ 50 ∷ []; ending = Syncs })
+  pub goes_on : framed arrays task
+      (record { kept = 31; puts = set_to 0 1 (pos 7) ∷ []; prints = pos 8 ∷ []; spawns = 40 ∷ 50 ∷ []; ending = Syncs })
       ≡ record {
         puts = set_to 0 1 (pos 7) ∷ [];
         prints = pos 8 ∷ [];
@@ -92,7 +93,14 @@ abbrev pub two_cells : Cells
 two_cells = record { first = 0; end = 2 }
 
 abbrev pub sum : ℤ → Left Cells
-sum total = record { kept = two_cells; puts = record { array = 1; index = 3; kind = Add; value = total } ∷ []; prints = []; spawns = []; ending = Stops }
+sum total =
+    record {
+      kept = two_cells;
+      puts = record { array = 1; index = 3; kind = Add; value = total } ∷ [];
+      prints = [];
+      spawns = [];
+      ending = Stops;
+    }
 
 abbrev pub span : Span
 span = record { before = 0; end = 2 }
@@ -112,7 +120,14 @@ pub record KernelsAreWorkedOut : Type 0 where
   pub no_neighbour : (o : Left Span) → StencilMay minus 0 5 arrays 4 (record { before = 0; end = 3 }) o → o.ending ≡ Fails 16
   -- the middle row; beyond the board it is 11
   pub row : (o : Left BoardRows) → GridMay digits 1 3 (pos 11) 5 board 4 middle o
-      → o ≡ record { kept = middle; puts = set_to 1 3 (pos 80711050411020111) ∷ set_to 1 4 (pos 90807060504030201) ∷ set_to 1 5 (pos 110908110605110302) ∷ []; prints = []; spawns = []; ending = Syncs }
+      → o
+      ≡ record {
+        kept = middle;
+        puts = set_to 1 3 (pos 80711050411020111) ∷ set_to 1 4 (pos 90807060504030201) ∷ set_to 1 5 (pos 110908110605110302) ∷ [];
+        prints = [];
+        spawns = [];
+        ending = Syncs;
+      }
   pub no_row : (o : Left BoardRows) → GridMay digits 1 3 (pos 11) 5 board 4 (record { first = 2; end = 4 }) o → o.ending ≡ Fails 16
   -- from the first array into the second
   pub mapping : (o : Left Cells) → MapMay twice 0 1 5 arrays 5 inner o

@@ -32,7 +32,8 @@ module _ {X : Type 0} (p : X → Bool) where
   all-at (y ∷ ys) zero x h = let same : y ≡ x = cc in ap (λ (z : X). p z && list_all p ys) same
   all-at (y ∷ ys) (suc i) x h = all-at ys i x h
 
-  pub all-next : (xs : List X) (i : ℕ) (x : X) → Some x ≡ slice_get xs i → p x ≡ true → list_all p (drop i xs) ≡ list_all p (drop (i + 1) xs)
+  pub all-next : (xs : List X) (i : ℕ) (x : X) → Some x ≡ slice_get xs i → p x ≡ true
+      → list_all p (drop i xs) ≡ list_all p (drop (i + 1) xs)
   all-next xs i x h t =
       all-at xs i x (sym h) ∙ ap (λ (b : Bool). b && list_all p (drop (suc i) xs)) t
       ∙ ap (λ (k : ℕ). list_all p (drop k xs)) (sym (add-one i))

@@ -21,8 +21,10 @@ asked join none ask [] = none
 asked join none ask (a ∷ os) = join (ask a) (asked join none ask os)
 
 -- if an absent operand says nothing, before others and after them
-module _ {X : Type 0} (join : X → X → X) (none : X) (before : (x : X) → join none x ≡ x) (behind : (x : X) → join x none ≡ x) (ask : Operand → X) where
-  of_two : (b c : Option Operand) → join (if_any none ask b) (if_any none ask c) ≡ asked join none ask (if_any [] alone b ++ if_any [] alone c)
+module _ {X : Type 0} (join : X → X → X) (none : X) (before : (x : X) → join none x ≡ x) (behind : (x : X) → join x none ≡ x)
+    (ask : Operand → X) where
+  of_two : (b c : Option Operand)
+      → join (if_any none ask b) (if_any none ask c) ≡ asked join none ask (if_any [] alone b ++ if_any [] alone c)
   of_two None None = before none
   of_two None (Some c) = before (ask c) ∙ sym (behind (ask c))
   of_two (Some b) None = refl

@@ -20,7 +20,8 @@ by_stopped false false x y z w f g e = refl
 
 pub stopped : (k : ℕ) (xs ys : List ℕ) → mentioned k xs ≡ None → mentioned k (xs ++ ys) ≡ None
 stopped k [] ys e = absurd (none_some k (sym e))
-stopped k (x ∷ xs) ys e = by_stopped (x == k) (nat_lt x k) (mentioned (k + 1) xs) (mentioned k xs) (mentioned (k + 1) (xs ++ ys)) (mentioned k (xs ++ ys))
+stopped k (x ∷ xs) ys e =
+    by_stopped (x == k) (nat_lt x k) (mentioned (k + 1) xs) (mentioned k xs) (mentioned (k + 1) (xs ++ ys)) (mentioned k (xs ++ ys))
     (stopped (k + 1) xs ys) (stopped k xs ys) e
 
 -- if these lead to a count, what is after them goes on from it
@@ -32,7 +33,9 @@ by_went m false false x y z w v f g e = absurd (none_some m e)
 
 pub went_on : (k m : ℕ) (xs ys : List ℕ) → mentioned k xs ≡ Some m → mentioned k (xs ++ ys) ≡ mentioned m ys
 went_on k m [] ys e = let same : k ≡ m = cc in ap (λ (n : ℕ). mentioned n ys) same
-went_on k m (x ∷ xs) ys e = by_went m (x == k) (nat_lt x k) (mentioned (k + 1) xs) (mentioned k xs) (mentioned (k + 1) (xs ++ ys)) (mentioned k (xs ++ ys)) (mentioned m ys)
+went_on k m (x ∷ xs) ys e =
+    by_went m (x == k) (nat_lt x k) (mentioned (k + 1) xs) (mentioned k xs) (mentioned (k + 1) (xs ++ ys)) (mentioned k (xs ++ ys))
+    (mentioned m ys)
     (went_on (k + 1) m xs ys) (went_on k m xs ys) e
 
 -- the mentions of a line are of what it sets, and then of its operands
@@ -54,4 +57,5 @@ line_below count l o set operands e f g =
 -- how many are mentioned after a line, by what it sets and its operands
 pub line_mentioned : (k m : ℕ) (l : Line) (o : Operands) → listed o ≡ line_operands false l → mentioned k (set_in l) ≡ Some m
     → mentioned m (over_operands {X = List ℕ} ◌++◌ [] in_operand o) ≡ mentioned k (in_line l)
-line_mentioned k m l o e f = sym (went_on k m (set_in l) (over_operands {X = List ℕ} ◌++◌ [] in_operand o) f) ∙ ap (mentioned k) (of_line l o e)
+line_mentioned k m l o e f =
+    sym (went_on k m (set_in l) (over_operands {X = List ℕ} ◌++◌ [] in_operand o) f) ∙ ap (mentioned k) (of_line l o e)

@@ -25,7 +25,8 @@ module _ {X : Type 0} (join : X → X → X) (none : X) (ask : Operand → X) wh
   over_action action.Sync = none
   over_action action.Stop = none
 
-  -- What an action is asked as a whole; and, as the end of a loop says again what its first line does and the text doesn't, what that end is.
+  -- What an action is asked as a whole; and, as the end of a loop says again what its first line does and the text doesn't, what that end
+  -- is.
   abbrev pub over_line : (Action → X) → (Expr → X) → Line → X
   over_line act again (line.Do a) = act a
   over_line act again (line.If e n) = over_expr e

@@ -7,7 +7,8 @@ use Rattle.std.specs.List.{filter}
 use Rattle.task_code.specs.Mentions.{mentioned, mentions, firsts, places}
 use Rattle.task_lang.specs.Laws.{ByFirstMention}
 
-kept : (p : ℕ → Bool) (b : Bool) (x : ℕ) (ys zs : List ℕ) → filter p ys ≡ zs → filter p (if b then x ∷ ys else ys) ≡ (if b && p x then x ∷ zs else zs)
+kept : (p : ℕ → Bool) (b : Bool) (x : ℕ) (ys zs : List ℕ) → filter p ys ≡ zs
+    → filter p (if b then x ∷ ys else ys) ≡ (if b && p x then x ∷ zs else zs)
 kept p true x ys zs e = ap (λ (ws : List ℕ). if p x then x ∷ ws else ws) e
 kept p false x ys zs e = e
 
@@ -92,7 +93,8 @@ counted-if false o m h = absurd cc
 
 counted-least : (k m : ℕ) (xs : List ℕ) → counted k xs ≡ Some m → k ≤ m
 counted-least k m [] h = let e : k ≡ m = cc in omega arith
-counted-least k m (x ∷ xs) h = let r : k + 1 ≤ m = counted-least (k + 1) m xs (counted-if (x == k) (counted (k + 1) xs) m h).1 in omega arith
+counted-least k m (x ∷ xs) h = let r : k + 1 ≤ m = counted-least (k + 1) m xs (counted-if (x == k) (counted (k + 1) xs) m h).1 in
+    omega arith
 
 is-row : (k n : ℕ) (xs : List ℕ) → counted k xs ≡ Some (k + n) → xs ≡ places k n
 is-row k n [] h =

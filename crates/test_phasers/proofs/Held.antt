@@ -8,6 +8,7 @@ pub all_pushed : {X : Type 0} (P : X → Type 0) (xs : List X) (x : X) → All P
 all_pushed P xs x are is = All-push P xs x are is
 
 -- one more of a kind, if there was memory for it
-pub all_kept : {X : Type 0} (P : X → Type 0) (xs ys : List X) (x : X) (b : Bool) → ys ≡ if b then xs ++ x ∷ [] else xs → All P xs → P x → All P ys
+pub all_kept : {X : Type 0} (P : X → Type 0) (xs ys : List X) (x : X) (b : Bool) → ys ≡ if b then xs ++ x ∷ []
+    else xs → All P xs → P x → All P ys
 all_kept P xs ys x true e are is = subst (All P) (sym e) (all_pushed P xs x are is)
 all_kept P xs ys x false e are is = subst (All P) (sym e) are

@@ -78,7 +78,8 @@ closed-as w names e f =
     ∙ ap (λ (x : List Word). record { format = w.format; arrays = w.arrays; bodies = x; starts = w.starts; inside = None }) bodies
 
 -- a header is in front of each line that is refused of anything else
-header-bad : (b : Bool) (o : Option ℕ) (x : Code) → ◌≡◌ {A = Result (Option Seen) Code} (if b then Ok None else see_first o) (Err x) → x ≡ BadHeader
+header-bad : (b : Bool) (o : Option ℕ) (x : Code) → ◌≡◌ {A = Result (Option Seen) Code} (if b then Ok None else see_first o) (Err x)
+    → x ≡ BadHeader
 header-bad true o x e = absurd cc
 header-bad false (Some format) x e = absurd cc
 header-bad false None x e = cc
@@ -90,7 +91,8 @@ begun : (p : Option Seen) (ws : Words) (x : Code) → see_words p ws ≡ Err x �
 begun None ws x e h = absurd (h (header-bad (is_skipped ws) (format_of ws) x e))
 begun (Some v) ws x e h = (v, refl)
 
-module _ (Front : List (List ℕ)) (v : Seen) (reads : see_lines None Front ≡ Ok (Some v)) (whole : list_all is_line Front ≡ true) (allowed : are_allowed Front ≡ true) where
+module _ (Front : List (List ℕ)) (v : Seen) (reads : see_lines None Front ≡ Ok (Some v)) (whole : list_all is_line Front ≡ true)
+    (allowed : are_allowed Front ≡ true) where
   abbrev Names : List Word
   Names = declared_in Front
 
@@ -116,7 +118,8 @@ module _ (Front : List (List ℕ)) (v : Seen) (reads : see_lines None Front ≡ 
   all-read capacity =
       let c = closes Front v reads in
       let names : so_far c.0 ≡ Names = (lines-tell Closed None (Some c.0) c.1).0 ∙ ends-declare Front Ends in
-      let shape : c.0 ≡ record { format = c.0.format; arrays = c.0.arrays; bodies = Names; starts = c.0.starts; inside = None } = closed-as c.0 Names c.2 names in
+      let shape : c.0 ≡ record { format = c.0.format; arrays = c.0.arrays; bodies = Names; starts = c.0.starts; inside = None } =
+      closed-as c.0 Names c.2 names in
       let r = lacking-read c.0.format (named_in Front) c.0.arrays Names c.0.starts names-free capacity in (
         r.0,
         ap (see_lines None) (sym (append_assoc Front (replicate Ends end_line) (empty_bodies Missing)))
@@ -128,7 +131,8 @@ module _ (Front : List (List ℕ)) (v : Seen) (reads : see_lines None Front ≡ 
 
   all-found : length (Names ++ Missing) ≤ 64 → are_found (declared Whole) Whole ≡ true
   all-found capacity =
-      let names : declared Whole ≡ Names ++ Missing = ap (take 64) (all-declare Front Ends Missing missing-free) ∙ take_all 64 (Names ++ Missing) capacity in
+      let names : declared Whole ≡ Names ++ Missing =
+      ap (take 64) (all-declare Front Ends Missing missing-free) ∙ take_all 64 (Names ++ Missing) capacity in
       subst (λ (x : List Word). are_found x Whole ≡ true) (sym names)
       (all-joined _ Front Ends end_line (empty_bodies Missing) (lines-found (Names ++ Missing) Front (all-known Names (named_in Front))) refl
       (empty-found (Names ++ Missing) Missing missing-free))
@@ -144,11 +148,17 @@ module _ (Front : List (List ℕ)) (v : Seen) (reads : see_lines None Front ≡ 
 
   -- lines that are read may go on to a job
   beginning : IsABeginning Front
-  beginning = (Ends, few-ends, λ capacity short. let c = all-read capacity in text-read Whole c.0 all-whole all-allowed (all-found capacity) c.1 c.2 short)
+  beginning = (
+    Ends,
+    few-ends,
+    λ capacity short. let c = all-read capacity in
+        text-read Whole c.0 all-whole all-allowed (all-found capacity) c.1 c.2 short,
+  )
 
 fault-of : (text : List ℕ) (r : Refusal) → IsRefusedOfALine text r → bad_byte_line 1 text ≡ None → IsFault None 1 (lines_of text) r
 fault-of text r h clean =
-    elim (by-byte (bad_byte_line 1 text) (read_from (declared (lines_of text)) 1 (lines_of text)) r (sym (short-read text h.short) ∙ h.refused)) [
+    elim
+    (by-byte (bad_byte_line 1 text) (read_from (declared (lines_of text)) 1 (lines_of text)) r (sym (short-read text h.short) ∙ h.refused)) [
       | inl bad ↦ let no : ◌≡◌ {A = Option ℕ} None (Some r.line) = sym clean ∙ bad in absurd cc
       | inr e ↦
           elim (spelled_out (declared (lines_of text)) (lines_of text) (lines_of text) [] 1 None r refl refl (λ m t. absurd cc) e.1) [
@@ -157,11 +167,13 @@ fault-of text r h clean =
           ]
     ]
 
-module _ (text : List ℕ) (r : Refusal) (fault : IsFault None 1 (lines_of text) r) (clean : bad_byte_line 1 text ≡ None) (other : r.code ≢ BadHeader) where
+module _ (text : List ℕ) (r : Refusal) (fault : IsFault None 1 (lines_of text) r) (clean : bad_byte_line 1 text ≡ None)
+    (other : r.code ≢ BadHeader) where
   front-is : above text r.line ≡ fault.front
   front-is =
       let count : r.line - 1 ≡ length fault.front = omega (arith, fault.place) in
-      ap (λ (k : ℕ). take k (lines_of text)) count ∙ ap (take (length fault.front)) fault.parts ∙ take-append_seam fault.front (fault.line ∷ fault.back)
+      ap (λ (k : ℕ). take k (lines_of text)) count ∙ ap (take (length fault.front)) fault.parts
+      ∙ take-append_seam fault.front (fault.line ∷ fault.back)
 
   seen-above : (v : Seen) × (see_lines None (above text r.line) ≡ Ok (Some v))
   seen-above =
@@ -187,7 +199,10 @@ step-or : (l : List ℕ) (ls : List (List ℕ)) (p : Option Seen) (s : Result (O
     → ((q : Option Seen) → see_words p (words_of l) ≡ Ok q → Either ls q)
     → Either (l ∷ ls) p
 step-or l ls p (Err c) e later =
-    inr (record { line = 1; code = c }, record { front = []; line = l; back = ls; there = p; parts = refl; reads = refl; fault = e; place = omega arith })
+    inr (
+      record { line = 1; code = c },
+      record { front = []; line = l; back = ls; there = p; parts = refl; reads = refl; fault = e; place = omega arith },
+    )
 step-or l ls p (Ok q) e later =
     elim (later q e) [
       | inl x ↦ inl (x.0, ap (λ (r : Result (Option Seen) Code). r >>= λ w. see_lines w ls) e ∙ x.1)
@@ -231,11 +246,13 @@ fault-within ls r f =
     let long : length ls ≡ length (f.front ++ f.line ∷ f.back) = ap length f.parts in
     omega (arith, f.place, long, length-append f.front (f.line ∷ f.back))
 
-fault-holds : (text : List ℕ) (r : Refusal) → IsFault None 1 (lines_of text) r → (other : List ℕ) (j : JobTree) → BeginAlike r.line text other
+fault-holds : (text : List ℕ) (r : Refusal) → IsFault None 1 (lines_of text) r → (other : List ℕ) (j : JobTree)
+    → BeginAlike r.line text other
     → IsTextOfJob j other
     → ⊥
 fault-holds text r f other j alike job =
-    let lines : read_from (declared (lines_of other)) 1 (lines_of other) ≡ Err r = fault-stays (declared (lines_of other)) (lines_of text) (lines_of other) r f alike in
+    let lines : read_from (declared (lines_of other)) 1 (lines_of other) ≡ Err r =
+    fault-stays (declared (lines_of other)) (lines_of text) (lines_of other) r f alike in
     let refusal : job_in other ≡ Err r =
     short-read other job.short
     ∙ ap (λ (o : Option ℕ). unless_bad o (read_from (declared (lines_of other)) 1 (lines_of other))) job.clean
@@ -243,7 +260,8 @@ fault-holds text r f other j alike job =
     let no : ◌≡◌ {A = Result JobTree Refusal} (Ok j) (Err r) = sym ((texts-are-read other j).1 job) ∙ refusal in
     absurd cc
 
-module _ (text : List ℕ) (r : Refusal) (lines : read_from (declared (lines_of text)) 1 (lines_of text) ≡ Err r) (clean : bad_byte_line 1 text ≡ None) (other : r.code ≢ BadHeader) where
+module _ (text : List ℕ) (r : Refusal) (lines : read_from (declared (lines_of text)) 1 (lines_of text) ≡ Err r)
+    (clean : bad_byte_line 1 text ≡ None) (other : r.code ≢ BadHeader) where
   of-line : (s : Refusal) → IsFault None 1 (lines_of text) s → IsOfItsLine text r
   of-line s f =
       let same : s ≡ r = sym (same-refusal _ r s lines (fault-stays (declared (lines_of text)) (lines_of text) (lines_of text) s f refl)) in
@@ -254,7 +272,8 @@ module _ (text : List ℕ) (r : Refusal) (lines : read_from (declared (lines_of 
   seen-all None e =
       let bad : read_from (declared (lines_of text)) 1 (lines_of text) ≡ refused (1 + length (lines_of text)) BadHeader =
       no-header (declared (lines_of text)) (lines_of text) 1 None e in
-      absurd (other (ap (λ (x : Refusal). x.code) (same-refusal _ r (record { line = 1 + length (lines_of text); code = BadHeader }) lines bad)))
+      absurd
+      (other (ap (λ (x : Refusal). x.code) (same-refusal _ r (record { line = 1 + length (lines_of text); code = BadHeader }) lines bad)))
   seen-all (Some v) e = beginning (lines_of text) v e (lines_back text).0 (text-allowed text clean)
 
   either-way : IsOfItsLine text r ⊎ IsABeginning (lines_of text)
@@ -262,7 +281,8 @@ module _ (text : List ℕ) (r : Refusal) (lines : read_from (declared (lines_of 
 
 pub of-a-line-or-go-on : RefusalsAreOfALineOrTextsGoOn
 of-a-line-or-go-on text r refusal short clean other =
-    let e = by-byte (bad_byte_line 1 text) (read_from (declared (lines_of text)) 1 (lines_of text)) r (sym (short-read text short) ∙ refusal) in
+    let e =
+    by-byte (bad_byte_line 1 text) (read_from (declared (lines_of text)) 1 (lines_of text)) r (sym (short-read text short) ∙ refusal) in
     let lines : read_from (declared (lines_of text)) 1 (lines_of text) ≡ Err r =
     elim e [ inl bad ↦ let no : ◌≡◌ {A = Option ℕ} None (Some r.line) = sym clean ∙ bad in absurd cc | inr x ↦ x.1 ] in
     either-way text r lines clean other

@@ -79,7 +79,8 @@ Reported plan c f g b =
     × ((left plan g b).phase ≡ f.phase → printed c f g b ≡ reply_text (answer c f))
 
 advanced_on : (plan : CountPlan) (c : Call) (f g : Flat) (ends b : Bool) → b ≡ false → g.phase ≡ f.phase
-    → (((if b then g else taken (Advance ends) g).phase ≢ f.phase → printed c f g true ≡ advance_line f.phase (registered (if b then g else taken (Advance ends) g)) ++ reply_text (answer c f))
+    → (((if b then g else taken (Advance ends) g).phase ≢ f.phase
+    → printed c f g true ≡ advance_line f.phase (registered (if b then g else taken (Advance ends) g)) ++ reply_text (answer c f))
     × ((if b then g else taken (Advance ends) g).phase ≡ f.phase → printed c f g true ≡ reply_text (answer c f)))
 advanced_on plan c f g ends true e same = absurd (false≢true (sym e))
 advanced_on plan c f g ends false e same = (λ h. refl, λ h. absurd (moves-on g.phase (h ∙ sym same)))

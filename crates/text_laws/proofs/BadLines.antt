@@ -42,9 +42,11 @@ if-none false o n m e h = let same : n ≡ m = cc in omega (arith, same)
 at-least : (ls : List (List ℕ)) (n m : ℕ) → bad_line n ls ≡ Some m → n ≤ m
 at-least [] n m e = absurd cc
 at-least (l ∷ ls) n m e =
-    if-none (list_all is_allowed l) (bad_line (n + 1) ls) n m e (λ f. let later : n + 1 ≤ m = at-least ls (n + 1) m f in omega (arith, later))
+    if-none (list_all is_allowed l) (bad_line (n + 1) ls) n m e
+    (λ f. let later : n + 1 ≤ m = at-least ls (n + 1) m f in omega (arith, later))
 
-if-same : (b : Bool) (o p : Option ℕ) (n m : ℕ) → (if b then o else Some n) ≡ Some m → (o ≡ Some m → p ≡ Some m) → (if b then p else Some n) ≡ Some m
+if-same : (b : Bool) (o p : Option ℕ) (n m : ℕ) → (if b then o else Some n) ≡ Some m → (o ≡ Some m → p ≡ Some m)
+    → (if b then p else Some n) ≡ Some m
 if-same true o p n m e h = h e
 if-same false o p n m e h = e
 

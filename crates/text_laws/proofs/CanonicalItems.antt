@@ -27,16 +27,19 @@ canonical_items j = array_items j.arrays ++ (body_items j.bodies ++ start_items 
 
 -- what they say
 
-starts-said : (format : ℕ) (ss : List Start) → job_of format (start_items ss) ≡ record { format = format; arrays = []; bodies = []; starts = ss }
+starts-said : (format : ℕ) (ss : List Start)
+    → job_of format (start_items ss) ≡ record { format = format; arrays = []; bodies = []; starts = ss }
 starts-said format [] = refl
 starts-said format (s ∷ ss) = ap (with_item (AStart s)) (starts-said format ss)
 
-bodies-said : (format : ℕ) (bs : List BodyTree) (ss : List Start) → job_of format (body_items bs ++ start_items ss) ≡ record { format = format; arrays = []; bodies = bs; starts = ss }
+bodies-said : (format : ℕ) (bs : List BodyTree) (ss : List Start)
+    → job_of format (body_items bs ++ start_items ss) ≡ record { format = format; arrays = []; bodies = bs; starts = ss }
 bodies-said format [] ss = starts-said format ss
 bodies-said format (b ∷ bs) ss = ap (with_item (ABody b)) (bodies-said format bs ss)
 
 arrays-said : (format : ℕ) (xs : List (Word × List ℤ)) (bs : List BodyTree) (ss : List Start)
-    → job_of format (array_items xs ++ (body_items bs ++ start_items ss)) ≡ record { format = format; arrays = xs; bodies = bs; starts = ss }
+    → job_of format (array_items xs ++ (body_items bs ++ start_items ss))
+    ≡ record { format = format; arrays = xs; bodies = bs; starts = ss }
 arrays-said format [] bs ss = bodies-said format bs ss
 arrays-said format (a ∷ xs) bs ss = ap (with_item (AnArray a.0 a.1 a.1)) (arrays-said format xs bs ss)
 
@@ -55,15 +58,20 @@ bodies-above format (b ∷ bs) = bodies-above format bs
 
 -- their lines
 
-arrays-written : (format : ℕ) (above bodies : List Word) (xs : List (Word × List ℤ)) → items_lines format above bodies (array_items xs) ≡ array_lines xs
+arrays-written : (format : ℕ) (above bodies : List Word) (xs : List (Word × List ℤ))
+    → items_lines format above bodies (array_items xs) ≡ array_lines xs
 arrays-written format above bodies [] = refl
-arrays-written format above bodies (a ∷ xs) = ap (λ (x : List Words). array_words a.0 (length a.1) a.1 ∷ x) (arrays-written format (above ++ a.0 ∷ []) bodies xs)
+arrays-written format above bodies (a ∷ xs) =
+    ap (λ (x : List Words). array_words a.0 (length a.1) a.1 ∷ x) (arrays-written format (above ++ a.0 ∷ []) bodies xs)
 
-bodies-written : (format : ℕ) (above bodies : List Word) (bs : List BodyTree) → items_lines format above bodies (body_items bs) ≡ bodies_lines format above bodies bs
+bodies-written : (format : ℕ) (above bodies : List Word) (bs : List BodyTree)
+    → items_lines format above bodies (body_items bs) ≡ bodies_lines format above bodies bs
 bodies-written format above bodies [] = refl
-bodies-written format above bodies (b ∷ bs) = ap (λ (x : List Words). body_lines format above bodies b ++ x) (bodies-written format above bodies bs)
+bodies-written format above bodies (b ∷ bs) =
+    ap (λ (x : List Words). body_lines format above bodies b ++ x) (bodies-written format above bodies bs)
 
-starts-written : (format : ℕ) (above bodies : List Word) (ss : List Start) → items_lines format above bodies (start_items ss) ≡ start_lines bodies ss
+starts-written : (format : ℕ) (above bodies : List Word) (ss : List Start)
+    → items_lines format above bodies (start_items ss) ≡ start_lines bodies ss
 starts-written format above bodies [] = refl
 starts-written format above bodies (s ∷ ss) = ap (λ (x : List Words). start_words bodies s ∷ x) (starts-written format above bodies ss)
 
@@ -99,11 +107,13 @@ abbrev pub AllSound : ℕ → List Word → List Word → List BodyTree → Type
 AllSound format arrays bodies [] = Unit {0}
 AllSound format arrays bodies (b ∷ bs) = IsSoundBody format arrays bodies b × AllSound format arrays bodies bs
 
-bodies-sound : (format : ℕ) (above bodies : List Word) (bs : List BodyTree) → AllSound format above bodies bs → AreSound format above bodies (body_items bs)
+bodies-sound : (format : ℕ) (above bodies : List Word) (bs : List BodyTree) → AllSound format above bodies bs
+    → AreSound format above bodies (body_items bs)
 bodies-sound format above bodies [] h = tt
 bodies-sound format above bodies (b ∷ bs) h = (h.0, bodies-sound format above bodies bs h.1)
 
-starts-sound : (format : ℕ) (above bodies : List Word) (ss : List Start) → list_all (λ s. nat_lt s.body (length bodies)) ss ≡ true → AreSound format above bodies (start_items ss)
+starts-sound : (format : ℕ) (above bodies : List Word) (ss : List Start) → list_all (λ s. nat_lt s.body (length bodies)) ss ≡ true
+    → AreSound format above bodies (start_items ss)
 starts-sound format above bodies [] h = tt
 starts-sound format above bodies (s ∷ ss) h = (
   ltb-true s.body (length bodies) (and-left _ (list_all (λ s. nat_lt s.body (length bodies)) ss) h),
@@ -116,6 +126,7 @@ items-sound j bodies h k =
     let f : ℕ = j.format in
     let rest : List Item = body_items j.bodies ++ start_items j.starts in
     let behind : AreSound f (array_names j) bodies rest =
-    sound-append f (array_names j) bodies (body_items j.bodies) (start_items j.starts) (bodies-sound f (array_names j) bodies j.bodies h) (starts-sound f _ bodies j.starts k) in
+    sound-append f (array_names j) bodies (body_items j.bodies) (start_items j.starts) (bodies-sound f (array_names j) bodies j.bodies h)
+    (starts-sound f _ bodies j.starts k) in
     sound-append f [] bodies (array_items j.arrays) rest (arrays-sound f [] bodies j.arrays)
     (subst (λ (x : List Word). AreSound f x bodies rest) (sym (arrays-above f j.arrays)) behind)

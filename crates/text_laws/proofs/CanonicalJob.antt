@@ -63,14 +63,19 @@ code-plain s (l ∷ ls) g h = and-true _ _ (line-plain s l g h.0) (code-plain s 
 listed-printed : (ns : List Word) → are_names ns ≡ true → list_all is_printed ns ≡ true
 listed-printed [] e = refl
 listed-printed (n ∷ ns) e =
-    and-true _ _ (name-printed n (and-left (is_free n) (not (is_among ns n)) (and-left _ (are_names ns) e))) (listed-printed ns (and-right (is_free n && not (is_among ns n)) _ e))
+    and-true _ _ (name-printed n (and-left (is_free n) (not (is_among ns n)) (and-left _ (are_names ns) e)))
+    (listed-printed ns (and-right (is_free n && not (is_among ns n)) _ e))
 
-body-plain : (format : ℕ) (arrays bodies : List Word) (b : BodyTree) → GoodBody format arrays bodies b → list_all is_plain_line (body_lines format arrays bodies b) ≡ true
+body-plain : (format : ℕ) (arrays bodies : List Word) (b : BodyTree) → GoodBody format arrays bodies b
+    → list_all is_plain_line (body_lines format arrays bodies b) ≡ true
 body-plain format arrays bodies b g =
     let s : Names = names_above arrays bodies b in
     let lines : list_all is_plain_line (block_lines s b.block) ≡ true =
-    ap (list_all is_plain_line) (sym (block-code s b.block)) ∙ code-plain s (flat b.block) g.good (all-lines s (flat b.block) g.fits g.numbers) in
-    and-true _ _ (and-true _ _ (name-printed b.name g.name) (listed-printed (listed_in format b.locals) (listed-names format b.locals g.good.locals))) (list_all-append is_plain_line (block_lines s b.block) (end_words ∷ []) ∙ and-true _ true lines refl)
+    ap (list_all is_plain_line) (sym (block-code s b.block))
+    ∙ code-plain s (flat b.block) g.good (all-lines s (flat b.block) g.fits g.numbers) in
+    and-true _ _
+    (and-true _ _ (name-printed b.name g.name) (listed-printed (listed_in format b.locals) (listed-names format b.locals g.good.locals)))
+    (list_all-append is_plain_line (block_lines s b.block) (end_words ∷ []) ∙ and-true _ true lines refl)
 
 -- the locals after words that mention them all in their order
 behind-all : (format : ℕ) (ls ms : List Word) → (format ≡ 1 → noted [] ms ≡ ls) → locals_behind format (listed_in format ls) ms ≡ ls
@@ -91,7 +96,8 @@ body-sound format arrays bodies b g =
           ∙ behind-all format b.locals (flat_map mentions_of (code_lines s (flat b.block)))
           (λ f.
           ap (noted []) (code-mentions s (flat b.block) g.good all)
-          ∙ noted-firsts b.locals (length b.locals) (mentions (flat b.block)) g.good.locals g.inside 0 (g.order f) ∙ take_all (length b.locals) b.locals none);
+          ∙ noted-firsts b.locals (length b.locals) (mentions (flat b.block)) g.good.locals g.inside 0 (g.order f)
+          ∙ take_all (length b.locals) b.locals none);
       lines = g.lines;
     }
 
@@ -100,42 +106,49 @@ module _ (format : ℕ) where
   GoodBodies arrays bodies [] = Unit {0}
   GoodBodies arrays bodies (b ∷ bs) = GoodBody format arrays bodies b × GoodBodies arrays bodies bs
 
-bodies-plain : (format : ℕ) (arrays bodies : List Word) (bs : List BodyTree) → GoodBodies format arrays bodies bs → list_all is_plain_line (bodies_lines format arrays bodies bs) ≡ true
+bodies-plain : (format : ℕ) (arrays bodies : List Word) (bs : List BodyTree) → GoodBodies format arrays bodies bs
+    → list_all is_plain_line (bodies_lines format arrays bodies bs) ≡ true
 bodies-plain format arrays bodies [] g = refl
 bodies-plain format arrays bodies (b ∷ bs) g =
     list_all-append is_plain_line (body_lines format arrays bodies b) (bodies_lines format arrays bodies bs)
     ∙ and-true _ _ (body-plain format arrays bodies b g.0) (bodies-plain format arrays bodies bs g.1)
 
-all-sound : (format : ℕ) (arrays bodies : List Word) (bs : List BodyTree) → GoodBodies format arrays bodies bs → AllSound format arrays bodies bs
+all-sound : (format : ℕ) (arrays bodies : List Word) (bs : List BodyTree) → GoodBodies format arrays bodies bs
+    → AllSound format arrays bodies bs
 all-sound format arrays bodies [] g = tt
 all-sound format arrays bodies (b ∷ bs) g = (body-sound format arrays bodies b g.0, all-sound format arrays bodies bs g.1)
 
 values-printed : (ns : List ℤ) → list_all fits_i64 ns ≡ true → list_all is_printed (map signed_decimal ns) ≡ true
 values-printed [] e = refl
-values-printed (n ∷ ns) e = and-true _ _ (number-printed n (fits-signed n (and-left _ (list_all fits_i64 ns) e))) (values-printed ns (and-right (fits_i64 n) _ e))
+values-printed (n ∷ ns) e =
+    and-true _ _ (number-printed n (fits-signed n (and-left _ (list_all fits_i64 ns) e))) (values-printed ns (and-right (fits_i64 n) _ e))
 
 few-cells : (n : ℕ) → nat_le n 4096 ≡ true → n < 2 ^ 64
 few-cells n e = let few : n ≤ 4096 = grind (arith, common_steps) in omega arith
 
-array-plain : (a : Word × List ℤ) → is_array a ≡ true → list_all fits_i64 a.1 ≡ true → is_plain_line (array_words a.0 (length a.1) a.1) ≡ true
+array-plain : (a : Word × List ℤ) → is_array a ≡ true → list_all fits_i64 a.1 ≡ true
+    → is_plain_line (array_words a.0 (length a.1) a.1) ≡ true
 array-plain a e f =
     let front : is_free a.0 && nat_le 1 (length a.1) ≡ true = and-left _ (nat_le (length a.1) 4096) e in
     and-true _ _ (name-printed a.0 (and-left _ (nat_le 1 (length a.1)) front))
     (and-true _ _ (decimal-printed (length a.1) (few-cells (length a.1) (and-right (is_free a.0 && nat_le 1 (length a.1)) _ e))) (values-printed a.1 f))
 
-arrays-plain : (xs : List (Word × List ℤ)) → list_all is_array xs ≡ true → list_all (λ a. list_all fits_i64 a.1) xs ≡ true → list_all is_plain_line (array_lines xs) ≡ true
+arrays-plain : (xs : List (Word × List ℤ)) → list_all is_array xs ≡ true → list_all (λ a. list_all fits_i64 a.1) xs ≡ true
+    → list_all is_plain_line (array_lines xs) ≡ true
 arrays-plain [] e f = refl
 arrays-plain (x ∷ xs) e f =
     and-true _ _ (array-plain x (and-left _ (list_all is_array xs) e) (and-left _ (list_all (λ a. list_all fits_i64 a.1) xs) f))
     (arrays-plain xs (and-right (is_array x) _ e) (and-right (list_all fits_i64 x.1) _ f))
 
-starts-plain : (bodies : List Word) (ss : List Start) → are_names bodies ≡ true → list_all (λ s. nat_lt s.body (length bodies)) ss ≡ true → list_all (λ s. fits_i64 s.arg) ss ≡ true
+starts-plain : (bodies : List Word) (ss : List Start) → are_names bodies ≡ true → list_all (λ s. nat_lt s.body (length bodies)) ss ≡ true
+    → list_all (λ s. fits_i64 s.arg) ss ≡ true
     → list_all is_plain_line (start_lines bodies ss) ≡ true
 starts-plain bodies [] g e f = refl
 starts-plain bodies (s ∷ ss) g e f =
     let there : s.body < length bodies = below s.body (length bodies) (and-left _ (list_all (λ s. nat_lt s.body (length bodies)) ss) e) in
     and-true _ _
-    (and-true _ _ (name-printed (name_at bodies s.body) (names-free bodies s.body g there)) (and-true _ true (number-printed s.arg (fits-signed s.arg (and-left _ (list_all (λ s. fits_i64 s.arg) ss) f))) refl))
+    (and-true _ _ (name-printed (name_at bodies s.body) (names-free bodies s.body g there))
+    (and-true _ true (number-printed s.arg (fits-signed s.arg (and-left _ (list_all (λ s. fits_i64 s.arg) ss) f))) refl))
     (starts-plain bodies ss g (and-right (nat_lt s.body (length bodies)) _ e) (and-right (fits_i64 s.arg) _ f))
 
 -- a line of a job names what is there
@@ -147,12 +160,14 @@ line-there n m line.EndIf e = refl
 line-there n m (line.While x k) e = e
 line-there n m (line.EndWhile x k) e = refl
 
-lines-there : (s : Names) (n m : ℕ) (code : List Line) → length s.arrays ≡ n → length s.bodies ≡ m → list_all (is_line n m) code ≡ true → AllBelow s (mentions code) → list_all (line_fits s) code ≡ true
+lines-there : (s : Names) (n m : ℕ) (code : List Line) → length s.arrays ≡ n → length s.bodies ≡ m → list_all (is_line n m) code ≡ true
+    → AllBelow s (mentions code) → list_all (line_fits s) code ≡ true
 lines-there s n m [] a b e h = refl
 lines-there s n m (l ∷ ls) a b e h =
     and-true _ _
     (and-true _ _
-    (ap (λ (x : ℕ). line_names x (length s.bodies) l) a ∙ ap (λ (x : ℕ). line_names n x l) b ∙ line-there n m l (and-left _ (list_all (is_line n m) ls) e))
+    (ap (λ (x : ℕ). line_names x (length s.bodies) l) a ∙ ap (λ (x : ℕ). line_names n x l) b
+    ∙ line-there n m l (and-left _ (list_all (is_line n m) ls) e))
     (all-left _ (in_line l) (mentions ls) h))
     (lines-there s n m ls a b (and-right (is_line n m l) _ e) (all-right _ (in_line l) (mentions ls) h))
 
@@ -180,20 +195,23 @@ in-format format code h = by (format == 1) refl
 
     first : (ls : List Line) → list_all is_of_first ls ≡ true → list_all (λ l. is_of_first l || false) ls ≡ true
     first [] e = refl
-    first (l ∷ ls) e = and-true _ _ (or-this (is_of_first l) (and-left _ (list_all is_of_first ls) e)) (first ls (and-right (is_of_first l) _ e))
+    first (l ∷ ls) e =
+        and-true _ _ (or-this (is_of_first l) (and-left _ (list_all is_of_first ls) e)) (first ls (and-right (is_of_first l) _ e))
 
     by : (b : Bool) → (format == 1) ≡ b → list_all (λ l. is_of_first l || not b) code ≡ true
     by true e = first code (h (same-number format 1 e))
     by false e = free code
 
-good-bodies : (format : ℕ) (arrays bodies : List Word) (n m : ℕ) (bs : List BodyTree) → Around arrays bodies n m → AllByRecursion IsBody (map flat_body bs)
+good-bodies : (format : ℕ) (arrays bodies : List Word) (n m : ℕ) (bs : List BodyTree) → Around arrays bodies n m
+    → AllByRecursion IsBody (map flat_body bs)
     → (format ≡ 1 → AllByRecursion IsOfFirst (map flat_body bs))
     → list_all (λ b. list_all (is_line n m) b.code) (map flat_body bs) ≡ true → GoodBodies format arrays bodies bs
 good-bodies format arrays bodies n m [] r h first e = tt
 good-bodies format arrays bodies n m (b ∷ bs) r h first e =
     let inside : list_all (λ i. nat_lt i (length b.locals)) (mentions (flat b.block)) ≡ true = h.0.mentions in
     let s : Names = names_above arrays bodies b in
-    let lines : list_all (is_line n m) (flat b.block) ≡ true = and-left _ (list_all (λ b. list_all (is_line n m) b.code) (map flat_body bs)) e in (
+    let lines : list_all (is_line n m) (flat b.block) ≡ true =
+    and-left _ (list_all (λ b. list_all (is_line n m) b.code) (map flat_body bs)) e in (
       record {
         name = h.0.name;
         good = record { arrays = r.arrays_named; bodies = r.bodies_named; locals = h.0.locals };
@@ -216,12 +234,15 @@ legal : (j : JobTree) → IsJobTree j → Legal j
 legal j h =
     let same : map (λ b. b.name) (map flat_body j.bodies) ≡ body_names j = map-map (λ b. b.name) flat_body j.bodies in
     let named : are_names (body_names j) ≡ true = ap are_names (sym same) ∙ h.bodies in
-    let many : length (body_names j) ≡ length (map flat_body j.bodies) = ap length (sym same) ∙ length-map (map flat_body j.bodies) (λ b. b.name) in
+    let many : length (body_names j) ≡ length (map flat_body j.bodies) =
+    ap length (sym same) ∙ length-map (map flat_body j.bodies) (λ b. b.name) in
     let around : Around (array_names j) (body_names j) (length j.arrays) (length (map flat_body j.bodies)) =
     record { arrays_named = h.named; bodies_named = named; many_arrays = length-map j.arrays (λ a. a.0); many_bodies = many } in
     record {
       names = named;
-      bodies = good-bodies j.format (array_names j) (body_names j) (length j.arrays) (length (map flat_body j.bodies)) j.bodies around h.each h.first h.lines;
+      bodies =
+          good-bodies j.format (array_names j) (body_names j) (length j.arrays) (length (map flat_body j.bodies)) j.bodies around h.each
+          h.first h.lines;
       starts = ap (λ (n : ℕ). list_all (λ s. nat_lt s.body n) j.starts) many ∙ h.starts;
     }
 
@@ -239,7 +260,8 @@ canonical-plain j h g =
     (list_all-append is_plain_line (array_lines j.arrays) (bodies_lines j.format (array_names j) (body_names j) j.bodies ++ start_lines (body_names j) j.starts)
     ∙ and-true _ _ (arrays-plain j.arrays h.arrays h.cells)
     (list_all-append is_plain_line (bodies_lines j.format (array_names j) (body_names j) j.bodies) (start_lines (body_names j) j.starts)
-    ∙ and-true _ _ (bodies-plain j.format (array_names j) (body_names j) j.bodies g.bodies) (starts-plain (body_names j) j.starts g.names g.starts h.args)))
+    ∙ and-true _ _ (bodies-plain j.format (array_names j) (body_names j) j.bodies g.bodies)
+    (starts-plain (body_names j) j.starts g.names g.starts h.args)))
 
 pub canonical-text : CanonicalTextsAreTexts
 canonical-text j h =
@@ -248,7 +270,8 @@ canonical-text j h =
       bytes-allowed (canonical j) plain,
       record {
         items = canonical_items j;
-        written = lines-back (canonical j) plain ∙ ap (λ (x : List Words). header_words j.format ∷ x) (sym (items-written j (body_names j)));
+        written =
+            lines-back (canonical j) plain ∙ ap (λ (x : List Words). header_words j.format ∷ x) (sym (items-written j (body_names j)));
         said = items-said j;
         sound = items-sound j (body_names j) (all-sound j.format (array_names j) (body_names j) j.bodies g.bodies) g.starts;
       },

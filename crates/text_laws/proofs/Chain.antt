@@ -26,7 +26,8 @@ abbrev pub Reads : List Word → List Words → Spot → Spot → Type 0
 Reads bodies [] p q = p ≡ q
 Reads bodies (ws ∷ lines) p q = (r : Spot) × Passes bodies ws p r × Reads bodies lines r q
 
-pub reads-append : (bodies : List Word) (xs ys : List Words) (p q r : Spot) → Reads bodies xs p q → Reads bodies ys q r → Reads bodies (xs ++ ys) p r
+pub reads-append : (bodies : List Word) (xs ys : List Words) (p q r : Spot) → Reads bodies xs p q → Reads bodies ys q r
+    → Reads bodies (xs ++ ys) p r
 reads-append bodies [] ys p q r h k = subst (λ (s : Spot). Reads bodies ys s r) (sym h) k
 reads-append bodies (x ∷ xs) ys p q r h k = (h.0, h.1, reads-append bodies xs ys h.0 q r h.2 k)
 
@@ -58,12 +59,18 @@ module _ (bodies : List Word) (l : List ℕ) (ls : List (List ℕ)) (n : ℕ) (j
   abbrev Rest : Spot → Type 0
   Rest q = (r : Spot) → Reads bodies (kept ls) r q → read_lines bodies (n + 1) (above r) ls ≡ Ok j
 
-  line-read : (p q : Spot) (b : Bool) → is_skipped (words_of l) ≡ b → Reads bodies (if b then kept ls else words_of l ∷ kept ls) p q → Rest q
+  line-read : (p q : Spot) (b : Bool) → is_skipped (words_of l) ≡ b → Reads bodies (if b then kept ls else words_of l ∷ kept ls) p q
+      → Rest q
       → read_lines bodies n (above p) (l ∷ ls) ≡ Ok j
   line-read p q true s h rest =
-      ap (λ (b : Bool). at n (if b then Ok (above p) else line_step bodies n (above p) (words_of l)) >>= λ b. read_lines bodies (n + 1) b ls) s ∙ rest p h
+      ap
+      (λ (b : Bool). at n (if b then Ok (above p) else line_step bodies n (above p) (words_of l)) >>= λ b. read_lines bodies (n + 1) b ls)
+      s
+      ∙ rest p h
   line-read p q false s h rest =
-      ap (λ (b : Bool). at n (if b then Ok (above p) else line_step bodies n (above p) (words_of l)) >>= λ b. read_lines bodies (n + 1) b ls) s
+      ap
+      (λ (b : Bool). at n (if b then Ok (above p) else line_step bodies n (above p) (words_of l)) >>= λ b. read_lines bodies (n + 1) b ls)
+      s
       ∙ ap (λ (r : Result Above Code). at n r >>= λ b. read_lines bodies (n + 1) b ls) (step-passes bodies n (words_of l) p h.0 h.1)
       ∙ rest h.0 h.2
 
@@ -85,7 +92,8 @@ module _ (bodies : List Word) (l : List ℕ) (ls : List (List ℕ)) (n : ℕ) (j
 pub lines-read : (bodies : List Word) (ls : List (List ℕ)) (n : ℕ) (p q : Spot) (j : JobTree) → Reads bodies (kept ls) p q → q ≡ (j, None)
     → read_lines bodies n (above p) ls ≡ Ok j
 lines-read bodies [] n p q j h e = end-passes n p q j h e
-lines-read bodies (l ∷ ls) n p q j h e = line-read bodies l ls n j p q (is_skipped (words_of l)) refl h (λ r k. lines-read bodies ls (n + 1) r q j k e)
+lines-read bodies (l ∷ ls) n p q j h e =
+    line-read bodies l ls n j p q (is_skipped (words_of l)) refl h (λ r k. lines-read bodies ls (n + 1) r q j k e)
 
 -- after the first line that isn't skipped, which is the header
 pub header-read : (bodies : List Word) (format : ℕ) (ls : List (List ℕ)) (n : ℕ) (rest : List Words) (j : JobTree) → is_format format ≡ true

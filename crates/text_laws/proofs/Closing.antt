@@ -59,11 +59,13 @@ behind-within v o n k None e h = tt
 behind-within v o n k (Some js) e h =
     let b = not-over n (length o.locals) k e in (b.0, b.1, subst (λ (m : ℕ). m ≤ 16) (sym (h js refl)) b.2)
 
-pub if-ok : {A : Type 0} (b : Bool) (c : Code) (x y : A) → ◌≡◌ {A = Result A Code} (if b then Err c else Ok x) (Ok y) → (b ≡ false) × (x ≡ y)
+pub if-ok : {A : Type 0} (b : Bool) (c : Code) (x y : A) → ◌≡◌ {A = Result A Code} (if b then Err c else Ok x) (Ok y)
+    → (b ≡ false) × (x ≡ y)
 if-ok true c x y e = absurd cc
 if-ok false c x y e = (refl, cc)
 
-if-both : {A : Type 0} (a b : Bool) (c d : Code) (x y : A) → ◌≡◌ {A = Result A Code} (if a then Err c else if b then Err d else Ok x) (Ok y) → x ≡ y
+if-both : {A : Type 0} (a b : Bool) (c d : Code) (x y : A) → ◌≡◌ {A = Result A Code} (if a then Err c else if b then Err d else Ok x) (Ok y)
+    → x ≡ y
 if-both true b c d x y e = absurd cc
 if-both false b c d x y e = (if-ok b d x y e).1
 
@@ -93,10 +95,12 @@ array-after v x w e = if-both (is_among v.arrays x.0) (nat_le 16 (length v.array
 
 pub body-after : (v : Seen) (head : Word × List Word) (w : Seen) → see_body v head ≡ Ok w → after_body v head ≡ w
 body-after v head w e =
-    if-both (is_among v.bodies head.0 || not (are_apart head.1)) (nat_le 64 (length v.bodies) || nat_lt 32 (length head.1)) Twice TooMany (after_body v head) w e
+    if-both (is_among v.bodies head.0 || not (are_apart head.1)) (nat_le 64 (length v.bodies) || nat_lt 32 (length head.1)) Twice TooMany
+    (after_body v head) w e
 
 -- a body that is begun lists few locals
-few-listed : (a b c : Bool) (x y : Seen) → ◌≡◌ {A = Result Seen Code} (if a then Err Twice else if b || c then Err TooMany else Ok x) (Ok y) → c ≡ false
+few-listed : (a b c : Bool) (x y : Seen) → ◌≡◌ {A = Result Seen Code} (if a then Err Twice else if b || c then Err TooMany else Ok x) (Ok y)
+    → c ≡ false
 few-listed true b c x y e = absurd cc
 few-listed false true c x y e = absurd cc
 few-listed false false true x y e = absurd cc
@@ -132,7 +136,8 @@ any-within v None (k ∷ ws) w e = outer-within v (outer_of k) ws w e
 any-within v (Some o) (k ∷ ws) w e =
     let key : Option Keyword = known_in v.format (keyword_of k) in
     let o' : SeenBody = see_mentioning v.format o key ws in
-    let said : Result Line Code = line_behind (record { arrays = v.arrays; bodies = []; locals = o'.locals }) (see_else o'.open_lines) key ws in
+    let said : Result Line Code =
+    line_behind (record { arrays = v.arrays; bodies = []; locals = o'.locals }) (see_else o'.open_lines) key ws in
     let b = bind-ok said (see_said v o') w e in
     said-within v (see_mentioning v.format o key ws) b.0 w b.2
 
@@ -170,7 +175,8 @@ unfolding keyword_of line_behind mentions_behind
 end-read v o h =
     let few : length o.open_lines - 1 ≤ 16 = omega (arith, h.2) in
     let end : Line = line.EndIf in
-    ap (λ (ls : List Word). see_said v (record { name = o.name; locals = ls; open_lines = o.open_lines; statements = o.statements }) end) (behind-none v.format o.locals)
+    ap (λ (ls : List Word). see_said v (record { name = o.name; locals = ls; open_lines = o.open_lines; statements = o.statements }) end)
+    (behind-none v.format o.locals)
     ∙ ap (λ (b : Bool). if b then Err TooMany else Ok (see_behind v o o.statements (see_step line.EndIf o.open_lines)))
     (still-not-over o.statements (length o.locals) (length o.open_lines - 1) h.0 h.1 few)
 
@@ -202,7 +208,8 @@ ends-read (k ∷ ks) format arrays bodies starts name locals n a b c =
     let few : length ks ≤ 16 = omega (arith, c) in
     let rest = ends-read ks format arrays bodies starts name locals n a b few in (
       rest.0,
-      ap (λ (r : Result Seen Code). made (λ w. Some w) r >>= λ w. see_lines w (replicate (suc (length ks)) end_line)) (end-read v o (a, b, c))
+      ap (λ (r : Result Seen Code). made (λ w. Some w) r >>= λ w. see_lines w (replicate (suc (length ks)) end_line))
+          (end-read v o (a, b, c))
           ∙ rest.1,
       rest.2,
     )
@@ -217,9 +224,12 @@ ends-few None h = omega arith
 ends-few (Some o) h = omega (arith, h.2)
 
 closed-by : (format : ℕ) (arrays bodies : List Word) (starts : ℕ) (i : Option SeenBody) → IsWithin i
-    → IsClosed (see_lines (Some (record { format = format; arrays = arrays; bodies = bodies; starts = starts; inside = i })) (replicate (ends i) end_line))
-closed-by format arrays bodies starts None h = (record { format = format; arrays = arrays; bodies = bodies; starts = starts; inside = None }, refl, refl)
-closed-by format arrays bodies starts (Some o) h = ends-read o.open_lines format arrays bodies starts o.name o.locals o.statements h.0 h.1 h.2
+    → IsClosed
+    (see_lines (Some (record { format = format; arrays = arrays; bodies = bodies; starts = starts; inside = i })) (replicate (ends i) end_line))
+closed-by format arrays bodies starts None h =
+    (record { format = format; arrays = arrays; bodies = bodies; starts = starts; inside = None }, refl, refl)
+closed-by format arrays bodies starts (Some o) h =
+    ends-read o.open_lines format arrays bodies starts o.name o.locals o.statements h.0 h.1 h.2
 
 pub lines-append : (ls more : List (List ℕ)) (p q : Option Seen) → see_lines p ls ≡ Ok q → see_lines p (ls ++ more) ≡ see_lines q more
 lines-append [] more p q e = let same : p ≡ q = cc in ap (λ (x : Option Seen). see_lines x more) same
@@ -227,7 +237,8 @@ lines-append (l ∷ ls) more p q e =
     let m = bind-ok (see_words p (words_of l)) (λ (w : Option Seen). see_lines w ls) q e in
     ap (λ (r : Result (Option Seen) Code). r >>= λ w. see_lines w (ls ++ more)) m.1 ∙ lines-append ls more m.0 q m.2
 
-pub closes : (ls : List (List ℕ)) (v : Seen) → see_lines None ls ≡ Ok (Some v) → IsClosed (see_lines None (ls ++ replicate (ends v.inside) end_line))
+pub closes : (ls : List (List ℕ)) (v : Seen) → see_lines None ls ≡ Ok (Some v)
+    → IsClosed (see_lines None (ls ++ replicate (ends v.inside) end_line))
 closes ls v e =
     let c = closed-by v.format v.arrays v.bodies v.starts v.inside (lines-within ls None (Some v) tt e) in
     (c.0, lines-append ls (replicate (ends v.inside) end_line) None (Some v) e ∙ c.1, c.2)

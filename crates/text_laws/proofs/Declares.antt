@@ -76,7 +76,8 @@ end-none : declared_in (end_words ∷ []) ≡ []
 unfolding outer_of
 end-none = refl
 
-body-declares : (format : ℕ) (name : Word) (locals : List Word) (lines : List Words) → declared_in (body_words format name locals ∷ lines) ≡ name ∷ declared_in lines
+body-declares : (format : ℕ) (name : Word) (locals : List Word) (lines : List Words)
+    → declared_in (body_words format name locals ∷ lines) ≡ name ∷ declared_in lines
 unfolding outer_of
 body-declares format name locals lines = refl
 
@@ -89,7 +90,8 @@ body-names format arrays bodies b =
     ∙ ap (λ (x : List Word). b.name ∷ x) end-none
 
 -- the lines of items declare their bodies
-items-names : (format : ℕ) (arrays bodies : List Word) (is : List Item) → declared_in (items_lines format arrays bodies is) ≡ body_names (job_of format is)
+items-names : (format : ℕ) (arrays bodies : List Word) (is : List Item)
+    → declared_in (items_lines format arrays bodies is) ≡ body_names (job_of format is)
 unfolding outer_of
 items-names format arrays bodies [] = refl
 items-names format arrays bodies (AnArray name given cells ∷ is) = items-names format (arrays ++ name ∷ []) bodies is
@@ -104,7 +106,8 @@ unfolding outer_of
 header-none format lines = refl
 
 -- the reader looks for the bodies of the job
-pub job-declared : (format : ℕ) (ls : List (List ℕ)) (bodies : List Word) (is : List Item) → kept ls ≡ header_words format ∷ items_lines format [] bodies is
+pub job-declared : (format : ℕ) (ls : List (List ℕ)) (bodies : List Word) (is : List Item)
+    → kept ls ≡ header_words format ∷ items_lines format [] bodies is
     → length (body_names (job_of format is)) ≤ 64
     → declared ls ≡ body_names (job_of format is)
 job-declared format ls bodies is e few =

@@ -44,15 +44,18 @@ none-inside None e = refl
 none-inside (Some o) e = absurd cc
 
 module _ (bodies : List Word) where
-  line-found : (n : ℕ) (a b : Above) (ws : Words) → a.missing ≡ None → is_missing bodies ws ≡ false → line_step bodies n a ws ≡ Ok b → b.missing ≡ None
+  line-found : (n : ℕ) (a b : Above) (ws : Words) → a.missing ≡ None → is_missing bodies ws ≡ false → line_step bodies n a ws ≡ Ok b
+      → b.missing ≡ None
   line-found n a b ws h f e =
-      let g : JobTree × Option Inside → Above = λ p. record { job = p.0; inside = p.1; missing = first_missing a.missing n (is_missing bodies ws) } in
+      let g : JobTree × Option Inside → Above =
+      λ p. record { job = p.0; inside = p.1; missing = first_missing a.missing n (is_missing bodies ws) } in
       let m = made-ok g (any_line bodies a.job a.inside ws) b e in
       ap (λ (x : Above). x.missing) (sym m.2)
       ∙ ap (λ (o : Option ℕ). first_missing o n (is_missing bodies ws)) h
       ∙ ap (λ (t : Bool). first_missing None n t) f
 
-  kept-found : (n : ℕ) (a b : Above) (ws : Words) → a.missing ≡ None → is_missing bodies ws ≡ false → kept_step bodies n a ws ≡ Ok b → b.missing ≡ None
+  kept-found : (n : ℕ) (a b : Above) (ws : Words) → a.missing ≡ None → is_missing bodies ws ≡ false → kept_step bodies n a ws ≡ Ok b
+      → b.missing ≡ None
   kept-found n a b ws h f e =
       elim (skip-ok (is_skipped ws) a b (line_step bodies n a ws) e) [
         | inl x ↦ ap (λ (y : Above). y.missing) (sym x) ∙ h

@@ -46,18 +46,21 @@ no_more b f t = let bad : true ≡ false = sym t ∙ f in absurd cc
 pub text_step : (steps token : ℕ) (s : State)
     → rest_text (suc steps) token s
     ≡ advance_reported s token
-    ++ (if is_underway (answer_to s (going_on s token)) then rest_text steps token (after s (going_on s token)) else answer_text (answer_to s (going_on s token)))
+    ++ (if is_underway (answer_to s (going_on s token)) then rest_text steps token (after s (going_on s token))
+    else answer_text (answer_to s (going_on s token)))
 unfolding rest_text
 text_step steps token s = refl
 
 pub after_step : (steps token : ℕ) (s : State)
     → rest_after (suc steps) token s
-    ≡ (if is_underway (answer_to s (going_on s token)) then rest_after steps token (after s (going_on s token)) else after s (going_on s token))
+    ≡ (if is_underway (answer_to s (going_on s token)) then rest_after steps token (after s (going_on s token))
+    else after s (going_on s token))
 unfolding rest_after
 after_step steps token s = refl
 
 one_text : (n more token : ℕ) (s : State)
-    → (is_underway (answer_to s (going_on s token)) ≡ true → rest_text (n + more) token (after s (going_on s token)) ≡ rest_text n token (after s (going_on s token)))
+    → (is_underway (answer_to s (going_on s token)) ≡ true
+    → rest_text (n + more) token (after s (going_on s token)) ≡ rest_text n token (after s (going_on s token)))
     → rest_text (suc n + more) token s ≡ rest_text (suc n) token s
 one_text n more token s h =
     let e : suc n + more ≡ suc (n + more) = omega arith in
@@ -68,7 +71,8 @@ one_text n more token s h =
     ∙ sym (text_step n token s)
 
 one_after : (n more token : ℕ) (s : State)
-    → (is_underway (answer_to s (going_on s token)) ≡ true → rest_after (n + more) token (after s (going_on s token)) ≡ rest_after n token (after s (going_on s token)))
+    → (is_underway (answer_to s (going_on s token)) ≡ true
+    → rest_after (n + more) token (after s (going_on s token)) ≡ rest_after n token (after s (going_on s token)))
     → rest_after (suc n + more) token s ≡ rest_after (suc n) token s
 one_after n more token s h =
     let e : suc n + more ≡ suc (n + more) = omega arith in
@@ -79,12 +83,14 @@ one_after n more token s h =
 
 same_text : (n more token : ℕ) (s : State) → IsAnsweredWithin n token s → rest_text (n + more) token s ≡ rest_text n token s
 same_text zero more token s h = absurd h
-same_text (suc n) more token s (inl a) = one_text n more token s (no_more (is_underway (answer_to s (going_on s token))) (answered s token a))
+same_text (suc n) more token s (inl a) =
+    one_text n more token s (no_more (is_underway (answer_to s (going_on s token))) (answered s token a))
 same_text (suc n) more token s (inr h) = one_text n more token s (λ on. same_text n more token (after s (going_on s token)) h)
 
 same_after : (n more token : ℕ) (s : State) → IsAnsweredWithin n token s → rest_after (n + more) token s ≡ rest_after n token s
 same_after zero more token s h = absurd h
-same_after (suc n) more token s (inl a) = one_after n more token s (no_more (is_underway (answer_to s (going_on s token))) (answered s token a))
+same_after (suc n) more token s (inl a) =
+    one_after n more token s (no_more (is_underway (answer_to s (going_on s token))) (answered s token a))
 same_after (suc n) more token s (inr h) = one_after n more token s (λ on. same_after n more token (after s (going_on s token)) h)
 
 pub runs_reach : RunsReachTheirAnswer
@@ -95,7 +101,8 @@ runs_reach s token more tiers core known going =
       ap (λ (b : Bool). if b then rest_after 16 token s else s) is ∙ sym (same_after 16 more token s within),
     )
 
-pub begun_goes : (s : State) (token : ℕ) (c : Call) → IsCore s → may_begin s token c ≡ true → is_idle (call_at (begun s token c).calls token) ≡ false
+pub begun_goes : (s : State) (token : ℕ) (c : Call) → IsCore s → may_begin s token c ≡ true
+    → is_idle (call_at (begun s token c).calls token) ≡ false
 begun_goes s token c core may =
     subst (λ (p : Progress). is_idle p ≡ false)
     (sym (get_or-set_same s.calls token (Begun c) Idle (let l = core.long in let h = begun_known s token c may in omega arith))) refl
@@ -105,11 +112,20 @@ calls_reach s token more c tiers core is tier may =
     let k : Call = call_of c in
     let now : State = begun s token k in
     let known : token < length s.views = begun_known s token k may in
-    let within : IsAnsweredWithin 16 token now = sixteen_steps_are_enough now token tiers (begun_core s token k core is may) known (begun_goes s token k core may) in
+    let within : IsAnsweredWithin 16 token now =
+    sixteen_steps_are_enough now token tiers (begun_core s token k core is may) known (begun_goes s token k core may) in
     let here : is_token s token ≡ true = lt-ltb token (length s.views) known in
     let begins : after s (step.Begin token k) ≡ now = ap (λ (b : Bool). if b then now else s) may in (
-      ap (λ (b : Bool). if b then (if has_tier s c then (if may_begin s token k then rest_text 16 token (after s (step.Begin token k)) else codes "not now\n") else codes "no tier\n") else codes "no token\n") here
-          ∙ ap (λ (b : Bool). if b then (if may_begin s token k then rest_text 16 token (after s (step.Begin token k)) else codes "not now\n") else codes "no tier\n") tier
+      ap
+          (λ (b : Bool). if b
+          then (if has_tier s c then (if may_begin s token k then rest_text 16 token (after s (step.Begin token k)) else codes "not now\n")
+          else codes "no tier\n")
+          else codes "no token\n")
+          here
+          ∙ ap
+          (λ (b : Bool). if b then (if may_begin s token k then rest_text 16 token (after s (step.Begin token k)) else codes "not now\n")
+          else codes "no tier\n")
+          tier
           ∙ ap (λ (b : Bool). if b then rest_text 16 token (after s (step.Begin token k)) else codes "not now\n") may
           ∙ ap (rest_text 16 token) begins ∙ sym (same_text 16 more token now within),
       ap (λ (b : Bool). if b then rest_after 16 token (after s (step.Begin token k)) else s) may

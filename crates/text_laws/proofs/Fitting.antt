@@ -32,7 +32,8 @@ use Rattle.text_lines.proofs.NumbersLemmas.{fits as number-fits}
 pub below : (i n : ℕ) → nat_lt i n ≡ true → i < n
 below i n e = ltb-true i n e
 
-index-is : (locals : List Word) (i : Index) → fits_index i ≡ true → are_below (length locals) (mentions.in_index i) ≡ true → IndexIs locals i
+index-is : (locals : List Word) (i : Index) → fits_index i ≡ true → are_below (length locals) (mentions.in_index i) ≡ true
+    → IndexIs locals i
 index-is locals (index.Number n) f e = number-fits n f
 index-is locals (index.Local i) f e = below i (length locals) (and-left (nat_lt i (length locals)) true e)
 index-is locals index.Arg f e = tt
@@ -50,9 +51,11 @@ expr-is : (s : Names) (x : Expr) → fits_expr x ≡ true → is_expr (length s.
 expr-is s (One a) f n e = operand-is s a f n e
 expr-is s (Two a op b) f n e =
     let k : ℕ = length s.locals in (
-      operand-is s a (and-left (fits_operand a) (fits_operand b) f) (and-left (is_operand (length s.arrays) a) (is_operand (length s.arrays) b) n)
+      operand-is s a (and-left (fits_operand a) (fits_operand b) f)
+          (and-left (is_operand (length s.arrays) a) (is_operand (length s.arrays) b) n)
           (all-left (λ i. nat_lt i k) (mentions.in_operand a) (mentions.in_operand b) e),
-      operand-is s b (and-right (fits_operand a) (fits_operand b) f) (and-right (is_operand (length s.arrays) a) (is_operand (length s.arrays) b) n)
+      operand-is s b (and-right (fits_operand a) (fits_operand b) f)
+          (and-right (is_operand (length s.arrays) a) (is_operand (length s.arrays) b) n)
           (all-right (λ i. nat_lt i k) (mentions.in_operand a) (mentions.in_operand b) e),
     )
 
@@ -60,22 +63,27 @@ action-is : (s : Names) (a : Action) → fits_action a ≡ true → is_action (l
     → are_below (length s.locals) (mentions.in_action a) ≡ true
     → ActionIs s a
 action-is s (action.Let i x) f n e =
-    let k : ℕ = length s.locals in
-    (below i k (and-left (nat_lt i k) (are_below k (mentions.in_expr x)) e), expr-is s x f n (and-right (nat_lt i k) (are_below k (mentions.in_expr x)) e))
+    let k : ℕ = length s.locals in (
+      below i k (and-left (nat_lt i k) (are_below k (mentions.in_expr x)) e),
+      expr-is s x f n (and-right (nat_lt i k) (are_below k (mentions.in_expr x)) e),
+    )
 action-is s (action.Put kind c x) f n e =
     let k : ℕ = length s.locals in
     let a : ℕ = length s.arrays in (
       (
         below c.array a (and-left (nat_lt c.array a) (is_expr a x) n),
-        index-is s.locals c.index (and-left (fits_index c.index) (fits_expr x) f) (all-left (λ i. nat_lt i k) (mentions.in_index c.index) (mentions.in_expr x) e),
+        index-is s.locals c.index (and-left (fits_index c.index) (fits_expr x) f)
+            (all-left (λ i. nat_lt i k) (mentions.in_index c.index) (mentions.in_expr x) e),
       ),
       expr-is s x (and-right (fits_index c.index) (fits_expr x) f) (and-right (nat_lt c.array a) (is_expr a x) n)
           (all-right (λ i. nat_lt i k) (mentions.in_index c.index) (mentions.in_expr x) e),
     )
 action-is s (action.Print x) f n e = expr-is s x f n e
 action-is s (action.Spawn b x) f n e =
-    let m : ℕ = length s.bodies in
-    (below b m (and-left (nat_lt b m) (is_expr (length s.arrays) x) n), expr-is s x f (and-right (nat_lt b m) (is_expr (length s.arrays) x) n) e)
+    let m : ℕ = length s.bodies in (
+      below b m (and-left (nat_lt b m) (is_expr (length s.arrays) x) n),
+      expr-is s x f (and-right (nat_lt b m) (is_expr (length s.arrays) x) n) e,
+    )
 action-is s action.Sync f n e = tt
 action-is s action.Stop f n e = tt
 

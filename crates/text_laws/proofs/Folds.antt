@@ -132,7 +132,8 @@ pub skip-ok : {A : Type 0} (b : Bool) (a x : A) (r : Result A Code) → (if b th
 skip-ok true a x r e = inl cc
 skip-ok false a x r e = inr e
 
-pub header-missing : (b : Bool) (o : Option ℕ) (q : Option Above) → ◌≡◌ {A = Result (Option Above) Code} (if b then Ok None else first_step o) (Ok q) → missing_in q ≡ None
+pub header-missing : (b : Bool) (o : Option ℕ) (q : Option Above)
+    → ◌≡◌ {A = Result (Option Above) Code} (if b then Ok None else first_step o) (Ok q) → missing_in q ≡ None
 header-missing true o q e = let same : None ≡ q = cc in ap missing_in (sym same)
 header-missing false (Some format) q e = let same : Some (nothing format) ≡ q = cc in ap missing_in (sym same)
 header-missing false None q e = absurd cc
@@ -141,7 +142,8 @@ module _ (bodies : List Word) (all : List (List ℕ)) where
   line-missing : (n : ℕ) (a b : Above) (ws : Words) → AreMissing bodies all (Some a) → words_at all n ≡ ws
       → line_step bodies n a ws ≡ Ok b → AreMissing bodies all (Some b)
   line-missing n a b ws h w e =
-      let f : JobTree × Option Inside → Above = λ p. record { job = p.0; inside = p.1; missing = first_missing a.missing n (is_missing bodies ws) } in
+      let f : JobTree × Option Inside → Above =
+      λ p. record { job = p.0; inside = p.1; missing = first_missing a.missing n (is_missing bodies ws) } in
       let m = made-ok f (any_line bodies a.job a.inside ws) b e in
       let same : b.missing ≡ first_missing a.missing n (is_missing bodies ws) = ap (λ (x : Above). x.missing) (sym m.2) in
       λ k t. first-kept bodies all n a.missing (is_missing bodies ws) h (ap (is_missing bodies) w) k (sym same ∙ t)
@@ -216,7 +218,8 @@ module _ (bodies : List Word) (all : List (List ℕ)) where
       → ((q : Option Above) → step bodies n p (words_of l) ≡ Ok q → read bodies (n + 1) q ls ≡ Err r → SpelledOut (n + 1) q ls r)
       → SpelledOut n p (l ∷ ls) r
   by-step l ls n p r (Err c) s e later =
-      let same : record { line = n; code = c } ≡ r = cc in here n p l ls r c s (ap (λ (x : Refusal). x.line) same) (ap (λ (x : Refusal). x.code) same)
+      let same : record { line = n; code = c } ≡ r = cc in
+      here n p l ls r c s (ap (λ (x : Refusal). x.line) same) (ap (λ (x : Refusal). x.code) same)
   by-step l ls n p r (Ok q) s e later = further n p q l ls r s (later q s e)
 
   at-words : (done : List (List ℕ)) (l : List ℕ) (ls : List (List ℕ)) (n : ℕ) → all ≡ done ++ l ∷ ls → n ≡ length done + 1
@@ -228,7 +231,8 @@ module _ (bodies : List Word) (all : List (List ℕ)) where
       ∙ ap (λ (x : Option (List ℕ)). words_of (unwrap_or x [])) (get-behind done l ls)
 
   -- a refusal is of a line, or of the end, or of a body that isn't there
-  pub spelled_out : (ls done : List (List ℕ)) (n : ℕ) (p : Option Above) (r : Refusal) → all ≡ done ++ ls → n ≡ length done + 1 → AreMissing bodies all p
+  pub spelled_out : (ls done : List (List ℕ)) (n : ℕ) (p : Option Above) (r : Refusal) → all ≡ done ++ ls → n ≡ length done + 1
+      → AreMissing bodies all p
       → read bodies n p ls ≡ Err r → SpelledOut n p ls r
   spelled_out [] done n p r a e h f = inr (end-late n p r h f)
   spelled_out (l ∷ ls) done n p r a e h f =
@@ -238,13 +242,15 @@ module _ (bodies : List Word) (all : List (List ℕ)) where
       (step-missing n p q (words_of l) h (at-words done l ls n a e) s) g)
 
 -- a fault of a line is one whatever follows it
-pub stays : (bodies : List Word) (front : List (List ℕ)) (l : List ℕ) (back : List (List ℕ)) (n : ℕ) (p : Option Above) (w : Option Seen) (c : Code)
+pub stays : (bodies : List Word) (front : List (List ℕ)) (l : List ℕ) (back : List (List ℕ)) (n : ℕ) (p : Option Above) (w : Option Seen)
+    (c : Code)
     → see_lines (glance p) front ≡ Ok w → see_words w (words_of l) ≡ Err c
     → read bodies n p (front ++ l ∷ back) ≡ refused (n + length front) c
 stays bodies [] l back n p w c e f =
     let same : glance p ≡ w = cc in
     let bad : step bodies n p (words_of l) ≡ Err c =
-    made-err glance (step bodies n p (words_of l)) c (step-seen bodies n p (words_of l) ∙ ap (λ (x : Option Seen). see_words x (words_of l)) same ∙ f) in
+    made-err glance (step bodies n p (words_of l)) c
+    (step-seen bodies n p (words_of l) ∙ ap (λ (x : Option Seen). see_words x (words_of l)) same ∙ f) in
     read-next bodies n p l back
     ∙ ap (λ (r : Result (Option Above) Code). at n r >>= λ q. read bodies (n + 1) q back) bad
     ∙ ap (λ (k : ℕ). refused k c) (omega arith)

@@ -38,20 +38,24 @@ taken-number (w ∷ ws) = chosen (begins_number w) refl
     chosen false e = (refl, tt)
 
 pub taken-behind : (key : Word) (ws : List Word) (r : Option Word × List Word) → take_behind key ws ≡ Some r → ws ≡ keyed key r.0 ++ r.1
-taken-behind key [] r e = let same : ◌≡◌ {A = Option Word × List Word} (None, []) r = cc in ap (λ (x : Option Word × List Word). keyed key x.0 ++ x.1) same
+taken-behind key [] r e = let same : ◌≡◌ {A = Option Word × List Word} (None, []) r = cc in
+    ap (λ (x : Option Word × List Word). keyed key x.0 ++ x.1) same
 taken-behind key (w ∷ []) r e = chosen (bytes_eq w key) e
   where
     chosen : (b : Bool) → cond {A = Option (Option Word × List Word)} b None (Some (None, w ∷ [])) ≡ Some r → w ∷ [] ≡ keyed key r.0 ++ r.1
     chosen true h = absurd (let wrong : ◌≡◌ {A = Option (Option Word × List Word)} None (Some r) = h in cc)
-    chosen false h = let same : ◌≡◌ {A = Option Word × List Word} (None, w ∷ []) r = cc in ap (λ (x : Option Word × List Word). keyed key x.0 ++ x.1) same
+    chosen false h = let same : ◌≡◌ {A = Option Word × List Word} (None, w ∷ []) r = cc in
+        ap (λ (x : Option Word × List Word). keyed key x.0 ++ x.1) same
 taken-behind key (w ∷ v ∷ ws) r e = chosen (bytes_eq w key) refl e
   where
-    chosen : (b : Bool) → bytes_eq w key ≡ b → cond {A = Option (Option Word × List Word)} b (Some (Some v, ws)) (Some (None, w ∷ v ∷ ws)) ≡ Some r
+    chosen : (b : Bool) → bytes_eq w key ≡ b
+        → cond {A = Option (Option Word × List Word)} b (Some (Some v, ws)) (Some (None, w ∷ v ∷ ws)) ≡ Some r
         → w ∷ v ∷ ws ≡ keyed key r.0 ++ r.1
     chosen true t h =
         let same : ◌≡◌ {A = Option Word × List Word} (Some v, ws) r = cc in
         ap (λ (x : Word). x ∷ v ∷ ws) ((bytes_eq-Decides w key).0 t) ∙ ap (λ (x : Option Word × List Word). keyed key x.0 ++ x.1) same
-    chosen false t h = let same : ◌≡◌ {A = Option Word × List Word} (None, w ∷ v ∷ ws) r = cc in ap (λ (x : Option Word × List Word). keyed key x.0 ++ x.1) same
+    chosen false t h = let same : ◌≡◌ {A = Option Word × List Word} (None, w ∷ v ∷ ws) r = cc in
+        ap (λ (x : Option Word × List Word). keyed key x.0 ++ x.1) same
 
 -- the words of a keyword that may lack
 abbrev pub worded : Word → Bool → List Word
@@ -62,7 +66,8 @@ pub taken-keyword : (key : Word) (ws : List Word) → ws ≡ worded key (take_ke
 taken-keyword key [] = refl
 taken-keyword key (w ∷ ws) = chosen (bytes_eq w key) refl
   where
-    chosen : (b : Bool) → bytes_eq w key ≡ b → let r : Bool × List Word = cond b (true, ws) (false, w ∷ ws) in w ∷ ws ≡ worded key r.0 ++ r.1
+    chosen : (b : Bool) → bytes_eq w key ≡ b → let r : Bool × List Word = cond b (true, ws) (false, w ∷ ws) in
+        w ∷ ws ≡ worded key r.0 ++ r.1
     chosen true t = ap (λ (x : Word). x ∷ ws) ((bytes_eq-Decides w key).0 t)
     chosen false t = refl
 
@@ -74,11 +79,13 @@ at-end {A} a b (w ∷ ws) e = absurd (let wrong : ◌≡◌ {A = Option A} None 
 
 -- what a part says is what it is written as
 
-pub number-said : (most usual n : ℕ) (o : Option Word) → usual ≤ most → number_or most usual o ≡ Some n → IsNumberOr usual n (alone o) × (n ≤ most)
+pub number-said : (most usual n : ℕ) (o : Option Word) → usual ≤ most → number_or most usual o ≡ Some n
+    → IsNumberOr usual n (alone o) × (n ≤ most)
 number-said most usual n None u e = let same : usual ≡ n = cc in (inr (sym same, refl), omega arith)
 number-said most usual n (Some w) u e = let s = up-to-said most n w e in (inl (ap (λ (x : Word). x ∷ []) s.0), s.1)
 
-pub key-said : (key : Word) (most usual n : ℕ) (o : Option Word) → usual ≤ most → number_or most usual o ≡ Some n → IsKeyOr key usual n (keyed key o) × (n ≤ most)
+pub key-said : (key : Word) (most usual n : ℕ) (o : Option Word) → usual ≤ most → number_or most usual o ≡ Some n
+    → IsKeyOr key usual n (keyed key o) × (n ≤ most)
 key-said key most usual n None u e = let same : usual ≡ n = cc in (inr (sym same, refl), omega arith)
 key-said key most usual n (Some w) u e = let s = up-to-said most n w e in (inl (ap (λ (x : Word). key ∷ x ∷ []) s.0), s.1)
 
@@ -86,7 +93,8 @@ from-some : (o : Option ℕ) (a : Option ℕ) → option_map Some o ≡ Some a �
 from-some (Some n) a e = (n, refl, cc)
 from-some None a e = absurd (let wrong : ◌≡◌ {A = Option (Option ℕ)} None (Some a) = e in cc)
 
-pub if-said : (key : Word) (most : ℕ) (a : Option ℕ) (o : Option Word) → number_if most o ≡ Some a → IsKey key a (keyed key o) × IsUpTo most a
+pub if-said : (key : Word) (most : ℕ) (a : Option ℕ) (o : Option Word) → number_if most o ≡ Some a
+    → IsKey key a (keyed key o) × IsUpTo most a
 if-said key most a None e =
     let same : ◌≡◌ {A = Option ℕ} None a = cc in
     let P : Option ℕ → Type 0 = λ x. IsKey key x [] × IsUpTo most x in
@@ -105,7 +113,8 @@ pub record IsPart (words : List Word) (n most usual : ℕ) : Type 0 where
   pub begins : Begins word
   pub says : number_or most usual word ≡ Some n
 
-pub number-part : (most usual n : ℕ) (words : List Word) → most ≤ 9223372036854775807 → n ≤ most → IsNumberOr usual n words → IsPart words n most usual
+pub number-part : (most usual n : ℕ) (words : List Word) → most ≤ 9223372036854775807 → n ≤ most → IsNumberOr usual n words
+    → IsPart words n most usual
 number-part most usual n words m h (inl e) = record {
   word = Some (decimal n);
   same = e;
@@ -119,7 +128,8 @@ pub record IsKeyPart (key : Word) (words : List Word) (n most usual : ℕ) : Typ
   pub same : words ≡ keyed key word
   pub says : number_or most usual word ≡ Some n
 
-pub key-part : (key : Word) (most usual n : ℕ) (words : List Word) → most ≤ 9223372036854775807 → n ≤ most → IsKeyOr key usual n words → IsKeyPart key words n most usual
+pub key-part : (key : Word) (most usual n : ℕ) (words : List Word) → most ≤ 9223372036854775807 → n ≤ most → IsKeyOr key usual n words
+    → IsKeyPart key words n most usual
 key-part key most usual n words m h (inl e) = record { word = Some (decimal n); same = e; says = up-to-read most n m h }
 key-part key most usual n words m h (inr e) = record { word = None; same = e.1; says = ap (λ (x : ℕ). Some x) (sym e.0) }
 
@@ -128,7 +138,8 @@ pub record IsIfPart (key : Word) (words : List Word) (a : Option ℕ) (most : �
   pub same : words ≡ keyed key word
   pub says : number_if most word ≡ Some a
 
-pub if-part : (key : Word) (most : ℕ) (a : Option ℕ) (words : List Word) → most ≤ 9223372036854775807 → IsUpTo most a → IsKey key a words → IsIfPart key words a most
+pub if-part : (key : Word) (most : ℕ) (a : Option ℕ) (words : List Word) → most ≤ 9223372036854775807 → IsUpTo most a → IsKey key a words
+    → IsIfPart key words a most
 if-part key most None words m h e = record { word = None; same = e; says = refl }
 if-part key most (Some n) words m h e = record { word = Some (decimal n); same = e; says = ap (option_map Some) (up-to-read most n m h) }
 
@@ -158,7 +169,8 @@ below-zero-said n w e = cases (number_of w) refl e
         let small : k ≤ 9223372036854775807 = grind (arith, common_steps, ints, fits) in
         (s.0 ∙ ap (λ (j : ℕ). decimal j) same, subst (λ (j : ℕ). j ≤ 9223372036854775807) same small)
 
-pub generation-said : (key : Word) (a : Option ℕ) (o : Option Word) → generation_if o ≡ Some a → IsKey key a (keyed key o) × IsUpTo 9223372036854775807 a
+pub generation-said : (key : Word) (a : Option ℕ) (o : Option Word) → generation_if o ≡ Some a
+    → IsKey key a (keyed key o) × IsUpTo 9223372036854775807 a
 generation-said key a None e =
     let same : ◌≡◌ {A = Option ℕ} None a = cc in
     let P : Option ℕ → Type 0 = λ x. IsKey key x [] × IsUpTo 9223372036854775807 x in
@@ -174,7 +186,8 @@ pub record IsGenerationPart (key : Word) (words : List Word) (a : Option ℕ) : 
   pub same : words ≡ keyed key word
   pub says : generation_if word ≡ Some a
 
-pub generation-part : (key : Word) (a : Option ℕ) (words : List Word) → IsUpTo 9223372036854775807 a → IsKey key a words → IsGenerationPart key words a
+pub generation-part : (key : Word) (a : Option ℕ) (words : List Word) → IsUpTo 9223372036854775807 a → IsKey key a words
+    → IsGenerationPart key words a
 generation-part key None words h e = record { word = None; same = e; says = refl }
 generation-part key (Some n) words h e = record {
   word = Some (decimal n);

@@ -29,7 +29,8 @@ may-listed format ls = by (format == 1) refl
 none-reserved : (ns : List Word) → are_names ns ≡ true → list_any is_reserved ns ≡ false
 none-reserved [] e = refl
 none-reserved (n ∷ ns) e =
-    or-none (is_reserved n) (list_any is_reserved ns) (not-true (is_reserved n) (and-right (is_name n) (not (is_reserved n)) (free-of n ns e))) (none-reserved ns (rest-of n ns e))
+    or-none (is_reserved n) (list_any is_reserved ns)
+    (not-true (is_reserved n) (and-right (is_name n) (not (is_reserved n)) (free-of n ns e))) (none-reserved ns (rest-of n ns e))
 
 all-names : (ns : List Word) → are_names ns ≡ true → list_all is_name ns ≡ true
 all-names [] e = refl
@@ -62,6 +63,8 @@ pub head-read : (format : ℕ) (name : Word) (locals : List Word) → is_free na
     → body_of format (name ∷ listed_in format locals) ≡ Ok (name, listed_in format locals)
 head-read format name locals free names =
     let ls : List Word = listed_in format locals in
-    ap (λ (b : Bool). if b then made (λ (_ : Unit {0} × Unit {0}). (name, ls)) (both (named name) (all_named ls)) else Err BadLine) (may-listed format locals)
+    ap (λ (b : Bool). if b then made (λ (_ : Unit {0} × Unit {0}). (name, ls)) (both (named name) (all_named ls)) else Err BadLine)
+    (may-listed format locals)
     ∙ ap (λ (r : Result (Unit {0}) Code). made (λ (_ : Unit {0} × Unit {0}). (name, ls)) (both r (all_named ls))) (named-free name free)
-    ∙ ap (λ (r : Result (Unit {0}) Code). made (λ (_ : Unit {0} × Unit {0}). (name, ls)) (both (Ok tt) r)) (all-named ls (listed-names format locals names))
+    ∙ ap (λ (r : Result (Unit {0}) Code). made (λ (_ : Unit {0} × Unit {0}). (name, ls)) (both (Ok tt) r))
+    (all-named ls (listed-names format locals names))

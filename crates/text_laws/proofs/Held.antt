@@ -21,11 +21,14 @@ pub short-read : (text : List ℕ) → length text ≤ 1048576
     → job_in text ≡ unless_bad (bad_byte_line 1 text) (read_from (declared (lines_of text)) 1 (lines_of text))
 unfolding job_in
 short-read text h =
-    ap (λ (b : Bool). if b then refused 1 TooLong else unless_bad (bad_byte_line 1 text) (read_from (declared (lines_of text)) 1 (lines_of text)))
+    ap
+    (λ (b : Bool). if b then refused 1 TooLong
+    else unless_bad (bad_byte_line 1 text) (read_from (declared (lines_of text)) 1 (lines_of text)))
     (short-text (length text) h)
 
 -- a refused text has a byte that isn't allowed in this line, or has none and is refused by its lines
-pub by-byte : (o : Option ℕ) (read : Result JobTree Refusal) (r : Refusal) → unless_bad o read ≡ Err r → (o ≡ Some r.line) ⊎ ((o ≡ None) × (read ≡ Err r))
+pub by-byte : (o : Option ℕ) (read : Result JobTree Refusal) (r : Refusal) → unless_bad o read ≡ Err r
+    → (o ≡ Some r.line) ⊎ ((o ≡ None) × (read ≡ Err r))
 by-byte None read r e = inr (refl, e)
 by-byte (Some n) read r e =
     let same : record { line = n; code = BadByte } ≡ r = cc in inl (ap (λ (x : Refusal). Some x.line) same)
@@ -62,7 +65,8 @@ fault-stays bodies ls other r f h =
     ∙ stays bodies f.front f.line (drop r.line other) 1 None f.there r.code f.reads f.fault
     ∙ ap (λ (k : ℕ). Err (record { line = k; code = r.code })) (sym f.place)
 
-pub not-late : (text : List ℕ) (r : Refusal) → IsRefusedOfALine text r → IsLate (declared (lines_of text)) (lines_of text) 1 (lines_of text) r → ⊥
+pub not-late : (text : List ℕ) (r : Refusal) → IsRefusedOfALine text r
+    → IsLate (declared (lines_of text)) (lines_of text) 1 (lines_of text) r → ⊥
 not-late text r h (inl e) = let low : r.line ≤ length (lines_of text) = h.within in absurd omega (arith, e, low)
 not-late text r h (inr m) = let no : true ≡ false = sym m.1 ∙ h.named m.0 in absurd cc
 
@@ -75,7 +79,8 @@ line-stays text r h e bodies other alike =
     ]
 
 pub why : (text : List ℕ) (r : Refusal) → IsRefusedOfALine text r
-    → (bad_byte_line 1 text ≡ Some r.line) ⊎ ((bad_byte_line 1 text ≡ None) × (read_from (declared (lines_of text)) 1 (lines_of text) ≡ Err r))
+    → (bad_byte_line 1 text ≡ Some r.line)
+    ⊎ ((bad_byte_line 1 text ≡ None) × (read_from (declared (lines_of text)) 1 (lines_of text) ≡ Err r))
 why text r h =
     by-byte (bad_byte_line 1 text) (read_from (declared (lines_of text)) 1 (lines_of text)) r (sym (short-read text h.short) ∙ h.refused)
 
@@ -99,13 +104,15 @@ refusals-hold text other r h alike j job =
 fewer-alike : (n m : ℕ) (ls others : List (List ℕ)) → n ≤ m → take m ls ≡ take m others → take n others ≡ take n ls
 fewer-alike n m ls others h e = sym (take-take n m others h) ∙ ap (take n) (sym e) ∙ take-take n m ls h
 
-above-read : (text other : List ℕ) (r s : Refusal) → IsRefusedOfALine text r → bad_byte_line 1 text ≡ None → BeginAlike (r.line - 1) text other
+above-read : (text other : List ℕ) (r s : Refusal) → IsRefusedOfALine text r → bad_byte_line 1 text ≡ None
+    → BeginAlike (r.line - 1) text other
     → IsRefusedOfALine other s
     → (b : Bool) → nat_lt s.line r.line ≡ b
     → r.line ≤ s.line
 above-read text other r s h clean alike k true e =
     let low : s.line ≤ r.line - 1 = grind (arith, common_steps) in
-    let again : job_in text ≡ Err s = refused-alike other text s k (fewer-alike s.line (r.line - 1) (lines_of text) (lines_of other) low alike) h.short clean in
+    let again : job_in text ≡ Err s =
+    refused-alike other text s k (fewer-alike s.line (r.line - 1) (lines_of text) (lines_of other) low alike) h.short clean in
     let both : ◌≡◌ {A = Result JobTree Refusal} (Err r) (Err s) = sym h.refused ∙ again in
     let same : r ≡ s = cc in
     let line : r.line ≡ s.line = ap (λ (x : Refusal). x.line) same in

@@ -46,13 +46,15 @@ names bodies j locals = record { arrays = array_names j; bodies = bodies; locals
 -- a line that says something within the limits is read
 said-passes : (bodies : List Word) (j : JobTree) (o : Inside) (ws : Words) (l : Line)
     → line_of (names bodies j (locals_behind j.format o.locals (mentions_of ws))) (can_else o.frames) ws ≡ Ok l
-    → is_over (statements_behind o.statements l) (length (locals_behind j.format o.locals (mentions_of ws))) (opened (length o.frames) l) ≡ false
+    → is_over (statements_behind o.statements l) (length (locals_behind j.format o.locals (mentions_of ws))) (opened (length o.frames) l)
+    ≡ false
     → is_in_format j.format l ≡ true
     → any_line bodies j (Some o) ws ≡ Ok (with_line j (noting j.format o ws) l)
 said-passes bodies j o [] l e f g = absurd cc
 said-passes bodies j o (k ∷ ws) l e f g =
     let o' : Inside = noting j.format o (k ∷ ws) in
-    ap (λ (x : Option Keyword). inner_line bodies j o x ws) (word-known (names bodies j o'.locals) (can_else o.frames) j.format (keyword_of k) ws l e g)
+    ap (λ (x : Option Keyword). inner_line bodies j o x ws)
+    (word-known (names bodies j o'.locals) (can_else o.frames) j.format (keyword_of k) ws l e g)
     ∙ ap (λ (r : Result Line Code). made (with_line j o') (r >>= within_limits o')) e
     ∙ ap (λ (b : Bool). made (with_line j o') (if b then Err TooMany else Ok l)) f
 
@@ -96,7 +98,8 @@ opens-read n line.EndIf = refl
 opens-read n (line.While e m) = refl
 opens-read n (line.EndWhile e m) = refl
 
-then-some : {A B : Type 0} (o : Option A) (f : A → Option B) (y : B) → option_and_then f o ≡ Some y → (x : A) × (o ≡ Some x) × (f x ≡ Some y)
+then-some : {A B : Type 0} (o : Option A) (f : A → Option B) (y : B) → option_and_then f o ≡ Some y
+    → (x : A) × (o ≡ Some x) × (f x ≡ Some y)
 then-some None f y e = absurd cc
 then-some (Some x) f y e = (x, refl, e)
 
@@ -110,7 +113,8 @@ count-more false n m h = omega arith
 
 count-next : (n : ℕ) (l : Line) (ls : List Line) → n + statements (l ∷ ls) ≤ 1024 → statements_behind n l + statements ls ≤ 1024
 count-next n l ls h =
-    let first : statements (l ∷ ls) ≡ cond (is_statement l) 1 0 + statements ls = sum_by-cons (λ (x : Line). cond (is_statement x) 1 0) l ls in
+    let first : statements (l ∷ ls) ≡ cond (is_statement l) 1 0 + statements ls =
+    sum_by-cons (λ (x : Line). cond (is_statement x) 1 0) l ls in
     count-more (is_statement l) n (statements ls) (subst (λ (m : ℕ). n + m ≤ 1024) first h)
 
 -- what is so of an open body in front of these lines of its code
@@ -134,17 +138,23 @@ module _ (bodies : List Word) (j : JobTree) (locals : List Word)
 
   good : (front more : List Word) → front ++ more ≡ locals → AreGood (names bodies j front)
   good front more e =
-      record { arrays = good_arrays; bodies = good_bodies; locals = names-front front more (subst (λ (x : List Word). are_names x ≡ true) (sym e) good_locals) }
+      record {
+        arrays = good_arrays;
+        bodies = good_bodies;
+        locals = names-front front more (subst (λ (x : List Word). are_names x ≡ true) (sym e) good_locals);
+      }
 
   -- the locals that a line mentions are those noted after it
-  known : (before more : List Word) (l : Line) (fs : List Frame) (b : Block) (st : List Frame × Block) → fits_line l ≡ true → line_fits all l ≡ true
+  known : (before more : List Word) (l : Line) (fs : List Frame) (b : Block) (st : List Frame × Block) → fits_line l ≡ true
+      → line_fits all l ≡ true
       → step_of l fs b ≡ Some st
       → noted before (mentions_of (line_words all l)) ++ more ≡ locals
       → line_fits (names bodies j (noted before (mentions_of (line_words all l)))) l ≡ true
   known before more l fs b st f h e n =
       let front : List Word = noted before (mentions_of (line_words all l)) in
       let mentioned : mentions_of (line_words all l) ≡ named_at locals (mentions.in_line l) =
-      line-mentions all (can_else fs) l (record { arrays = good_arrays; bodies = good_bodies; locals = good_locals }) (line-is all l fs b st f h e) in
+      line-mentions all (can_else fs) l (record { arrays = good_arrays; bodies = good_bodies; locals = good_locals })
+      (line-is all l fs b st f h e) in
       let among : list_all (is_among front) (named_at (front ++ more) (mentions.in_line l)) ≡ true =
       ap (λ (x : List Word). list_all (is_among front) x) (ap (λ (x : List Word). named_at x (mentions.in_line l)) n ∙ sym mentioned)
       ∙ noted-all before (mentions_of (line_words all l)) in
@@ -153,7 +163,8 @@ module _ (bodies : List Word) (j : JobTree) (locals : List Word)
       (subst (λ (x : List Word). are_below (length x) (mentions.in_line l) ≡ true) (sym n) (locals-below all l h)) among)
 
   -- those of a line are there, as they are listed or as they are noted
-  known-behind : (before later : List Word) (l : Line) (fs : List Frame) (b : Block) (st : List Frame × Block) → fits_line l ≡ true → line_fits all l ≡ true
+  known-behind : (before later : List Word) (l : Line) (fs : List Frame) (b : Block) (st : List Frame × Block) → fits_line l ≡ true
+      → line_fits all l ≡ true
       → step_of l fs b ≡ Some st
       → locals_behind j.format (locals_behind j.format before (mentions_of (line_words all l))) later ≡ locals
       → line_fits (names bodies j (locals_behind j.format before (mentions_of (line_words all l)))) l ≡ true
@@ -162,7 +173,8 @@ module _ (bodies : List Word) (j : JobTree) (locals : List Word)
       ms : List Word
       ms = mentions_of (line_words all l)
 
-      by : (t : Bool) → (if t then noted (if t then noted before ms else before) later else (if t then noted before ms else before)) ≡ locals
+      by : (t : Bool)
+          → (if t then noted (if t then noted before ms else before) later else (if t then noted before ms else before)) ≡ locals
           → line_fits (names bodies j (if t then noted before ms else before)) l ≡ true
       by true n =
           let more = noted-grows (noted before ms) later in
@@ -176,7 +188,8 @@ module _ (bodies : List Word) (j : JobTree) (locals : List Word)
       → locals_behind j.format (locals_behind j.format o.locals (mentions_of (line_words all l))) later ≡ locals
       → statements_behind o.statements l ≤ 1024
       → opened (length o.frames) l ≤ 16
-      → Passes bodies (line_words all l) (j, Some o) (j, Some (grown (noting j.format o (line_words all l)) (statements_behind o.statements l) st))
+      → Passes bodies (line_words all l) (j, Some o)
+      (j, Some (grown (noting j.format o (line_words all l)) (statements_behind o.statements l) st))
   line-passes o l st later f h g e notes count depth =
       let ws : Words = line_words all l in
       let front : List Word = locals_behind j.format o.locals (mentions_of ws) in
@@ -198,7 +211,8 @@ module _ (bodies : List Word) (j : JobTree) (locals : List Word)
       record {
         read = said-passes bodies j o ws (as_read l) says over (known-read j.format l ∙ g)
             ∙ ap (λ (m : ℕ). Ok (behind j (noting j.format o ws) m (step_of (as_read l) o.frames o.block))) (counts-read o.statements l)
-            ∙ ap (λ (x : Option (List Frame × Block)). Ok (behind j (noting j.format o ws) (statements_behind o.statements l) x)) (step-read l o.frames o.block ∙ e);
+            ∙ ap (λ (x : Option (List Frame × Block)). Ok (behind j (noting j.format o ws) (statements_behind o.statements l) x))
+            (step-read l o.frames o.block ∙ e);
         found = line-found all l good_bodies h;
       }
 
@@ -249,9 +263,13 @@ pub end-passes : (bodies : List Word) (j : JobTree) (name : Word) (locals : List
     (record j { bodies = j.bodies ++ (record { name = name; locals = locals; block = b }) ∷ [] }, None)
 unfolding keyword_of mentions_behind line_behind
 end-passes bodies j name locals b n h k = record {
-  read = ap (λ (ls : List Word). noted_line bodies j (record { name = name; locals = ls; frames = []; block = b; statements = n }) (Some End) []) (behind-none j.format locals)
+  read =
+      ap
+      (λ (ls : List Word). noted_line bodies j (record { name = name; locals = ls; frames = []; block = b; statements = n }) (Some End) [])
+      (behind-none j.format locals)
       ∙ ap (λ (x : Bool).
-      made (with_line j (record { name = name; locals = locals; frames = []; block = b; statements = n })) (if x then Err TooMany else Ok line.EndIf))
+      made (with_line j (record { name = name; locals = locals; frames = []; block = b; statements = n }))
+      (if x then Err TooMany else Ok line.EndIf))
       (not-over n (length locals) (0 - 1) h k (omega arith));
   found = refl;
 }

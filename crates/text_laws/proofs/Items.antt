@@ -91,20 +91,28 @@ joined k j = record { format = k.format; arrays = k.arrays ++ j.arrays; bodies =
 
 joined-nothing : (k : JobTree) → k ≡ joined k (job_of k.format [])
 joined-nothing k =
-    ap (λ (x : List (Word × List ℤ)). record { format = k.format; arrays = x; bodies = k.bodies; starts = k.starts }) (sym (append-nil k.arrays))
-    ∙ ap (λ (x : List BodyTree). record { format = k.format; arrays = k.arrays ++ []; bodies = x; starts = k.starts }) (sym (append-nil k.bodies))
-    ∙ ap (λ (x : List Start). record { format = k.format; arrays = k.arrays ++ []; bodies = k.bodies ++ []; starts = x }) (sym (append-nil k.starts))
+    ap (λ (x : List (Word × List ℤ)). record { format = k.format; arrays = x; bodies = k.bodies; starts = k.starts })
+    (sym (append-nil k.arrays))
+    ∙ ap (λ (x : List BodyTree). record { format = k.format; arrays = k.arrays ++ []; bodies = x; starts = k.starts })
+    (sym (append-nil k.bodies))
+    ∙ ap (λ (x : List Start). record { format = k.format; arrays = k.arrays ++ []; bodies = k.bodies ++ []; starts = x })
+    (sym (append-nil k.starts))
 
-joined-next : (format : ℕ) (k : JobTree) (i : Item) (is : List Item) → joined (put i k) (job_of format is) ≡ joined k (job_of format (i ∷ is))
+joined-next : (format : ℕ) (k : JobTree) (i : Item) (is : List Item)
+    → joined (put i k) (job_of format is) ≡ joined k (job_of format (i ∷ is))
 joined-next format k (AnArray n g c) is =
     let j : JobTree = job_of format is in
-    ap (λ (x : List (Word × List ℤ)). record { format = k.format; arrays = x; bodies = k.bodies ++ j.bodies; starts = k.starts ++ j.starts }) (append_assoc k.arrays ((n, c) ∷ []) j.arrays)
+    ap
+    (λ (x : List (Word × List ℤ)). record { format = k.format; arrays = x; bodies = k.bodies ++ j.bodies; starts = k.starts ++ j.starts })
+    (append_assoc k.arrays ((n, c) ∷ []) j.arrays)
 joined-next format k (ABody b) is =
     let j : JobTree = job_of format is in
-    ap (λ (x : List BodyTree). record { format = k.format; arrays = k.arrays ++ j.arrays; bodies = x; starts = k.starts ++ j.starts }) (append_assoc k.bodies (b ∷ []) j.bodies)
+    ap (λ (x : List BodyTree). record { format = k.format; arrays = k.arrays ++ j.arrays; bodies = x; starts = k.starts ++ j.starts })
+    (append_assoc k.bodies (b ∷ []) j.bodies)
 joined-next format k (AStart s) is =
     let j : JobTree = job_of format is in
-    ap (λ (x : List Start). record { format = k.format; arrays = k.arrays ++ j.arrays; bodies = k.bodies ++ j.bodies; starts = x }) (append_assoc k.starts (s ∷ []) j.starts)
+    ap (λ (x : List Start). record { format = k.format; arrays = k.arrays ++ j.arrays; bodies = k.bodies ++ j.bodies; starts = x })
+    (append_assoc k.starts (s ∷ []) j.starts)
 
 -- distinct names, and few of each kind
 pub record IsRoomy (t : JobTree) : Type 0 where
@@ -126,14 +134,16 @@ module _ (bodies : List Word) (t : JobTree) (good : are_names bodies ≡ true) (
       names-front (array_names k) (array_names j)
       (subst (λ (x : List Word). are_names x ≡ true) (names-of-arrays k j) (subst (λ (x : JobTree). are_names (array_names x) ≡ true) (sym e) roomy.arrays))
 
-  free-array : (format : ℕ) (k : JobTree) (name : Word) (given cells : List ℤ) (is : List Item) → is_free name ≡ true → joined k (job_of format (AnArray name given cells ∷ is)) ≡ t
+  free-array : (format : ℕ) (k : JobTree) (name : Word) (given cells : List ℤ) (is : List Item) → is_free name ≡ true
+      → joined k (job_of format (AnArray name given cells ∷ is)) ≡ t
       → IsFreeArray k name
   free-array format k name given cells is free e =
       let j : JobTree = job_of format is in
       let all : are_names (array_names k ++ name ∷ array_names j) ≡ true =
       subst (λ (x : List Word). are_names x ≡ true) (names-of-arrays k (job_of format (AnArray name given cells ∷ is)))
       (subst (λ (x : JobTree). are_names (array_names x) ≡ true) (sym e) roomy.arrays) in
-      let few : length (k.arrays ++ (name, cells) ∷ j.arrays) ≤ 16 = subst (λ (x : JobTree). length x.arrays ≤ 16) (sym e) roomy.few_arrays in
+      let few : length (k.arrays ++ (name, cells) ∷ j.arrays) ≤ 16 =
+      subst (λ (x : JobTree). length x.arrays ≤ 16) (sym e) roomy.few_arrays in
       let count : length (array_names k) ≡ length k.arrays = length-map k.arrays (λ (a : Word × List ℤ). a.0) in
       record {
         free = free;
@@ -141,7 +151,8 @@ module _ (bodies : List Word) (t : JobTree) (good : are_names bodies ≡ true) (
         capacity = omega (arith, length-append k.arrays ((name, cells) ∷ j.arrays));
       }
 
-  free-body : (format : ℕ) (k : JobTree) (b : BodyTree) (is : List Item) → IsLegalBody b → joined k (job_of format (ABody b ∷ is)) ≡ t → IsFreeBody k b.name
+  free-body : (format : ℕ) (k : JobTree) (b : BodyTree) (is : List Item) → IsLegalBody b → joined k (job_of format (ABody b ∷ is)) ≡ t
+      → IsFreeBody k b.name
   free-body format k b is legal e =
       let j : JobTree = job_of format is in
       let all : are_names (body_names k ++ b.name ∷ body_names j) ≡ true =
@@ -155,27 +166,31 @@ module _ (bodies : List Word) (t : JobTree) (good : are_names bodies ≡ true) (
         capacity = omega (arith, length-append k.bodies (b ∷ j.bodies));
       }
 
-  free-start : (format : ℕ) (k : JobTree) (s : Start) (is : List Item) → joined k (job_of format (AStart s ∷ is)) ≡ t → length k.starts < 4096
+  free-start : (format : ℕ) (k : JobTree) (s : Start) (is : List Item) → joined k (job_of format (AStart s ∷ is)) ≡ t
+      → length k.starts < 4096
   free-start format k s is e =
       let j : JobTree = job_of format is in
       let few : length (k.starts ++ s ∷ j.starts) ≤ 4096 = subst (λ (x : JobTree). length x.starts ≤ 4096) (sym e) roomy.few_starts in
       omega (arith, length-append k.starts (s ∷ j.starts))
 
   -- the lines of items lead from a job to the job with them
-  pub items-read : (is : List Item) (k : JobTree) → joined k (job_of k.format is) ≡ t → AreItems is → AreSound k.format (array_names k) bodies is
+  pub items-read : (is : List Item) (k : JobTree) → joined k (job_of k.format is) ≡ t → AreItems is
+      → AreSound k.format (array_names k) bodies is
       → Reads bodies (items_lines k.format (array_names k) bodies is) (k, None) (t, None)
   items-read [] k e h s = ap (λ (x : JobTree). (x, None)) (joined-nothing k ∙ e)
   items-read (AnArray name given cells ∷ is) k e h s =
       let k' : JobTree = put (AnArray name given cells) k in
       let named : array_names k' ≡ array_names k ++ name ∷ [] = map-append (λ (a : Word × List ℤ). a.0) k.arrays ((name, cells) ∷ []) in
       let rest : Reads bodies (items_lines k.format (array_names k') bodies is) (k', None) (t, None) =
-      items-read is k' (joined-next k.format k (AnArray name given cells) is ∙ e) h.1 (subst (λ (x : List Word). AreSound k.format x bodies is) (sym named) s.1) in (
+      items-read is k' (joined-next k.format k (AnArray name given cells) is ∙ e) h.1
+      (subst (λ (x : List Word). AreSound k.format x bodies is) (sym named) s.1) in (
         (k', None),
         array-passes bodies k name given cells (free-array k.format k name given cells is h.0.0 e) h.0.1 s.0,
         subst (λ (x : List Word). Reads bodies (items_lines k.format x bodies is) (k', None) (t, None)) named rest,
       )
   items-read (ABody b ∷ is) k e h s =
-      reads-append bodies (body_lines k.format (array_names k) bodies b) (items_lines k.format (array_names k) bodies is) (k, None) (put (ABody b) k, None) (t, None)
+      reads-append bodies (body_lines k.format (array_names k) bodies b) (items_lines k.format (array_names k) bodies is) (k, None)
+      (put (ABody b) k, None) (t, None)
       (body-reads bodies k b (arrays-good k (job_of k.format (ABody b ∷ is)) e) good (free-body k.format k b is h.0 e) h.0 s.0)
       (items-read is (put (ABody b) k) (joined-next k.format k (ABody b) is ∙ e) h.1 s.1)
   items-read (AStart a ∷ is) k e h s = (

@@ -31,7 +31,8 @@ not-over n e = grind (arith, common_steps)
 pub read-text : (text : List ℕ) (j : JobTree) → job_in text ≡ Ok j → IsTextOfJob j text
 unfolding job_in
 read-text text j e =
-    let allowed = not-long (nat_lt 1048576 (length text)) (bad_byte_line 1 text) (read_from (declared (lines_of text)) 1 (lines_of text)) j e in
+    let allowed =
+    not-long (nat_lt 1048576 (length text)) (bad_byte_line 1 text) (read_from (declared (lines_of text)) 1 (lines_of text)) j e in
     record { short = not-over (length text) allowed.0; clean = allowed.1; job = read-jobs text j e; written = text-spelled-out text j e }
 
 pub texts-are-read : TextsAreReadAsTheirJobs

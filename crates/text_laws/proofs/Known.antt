@@ -51,7 +51,8 @@ all-known front more (i ∷ is) e h k =
     let low : i < n = ltb-true i n (and-left (nat_lt i n) (are_below n is) h) in
     let rest : List Word = named_at (front ++ more) is in
     let w : Word = name_at (front ++ more) i in
-    and-true _ _ (below-true i (length front) (known-below front more i e low (and-left (is_among front w) (list_all (is_among front) rest) k)))
+    and-true _ _
+    (below-true i (length front) (known-below front more i e low (and-left (is_among front w) (list_all (is_among front) rest) k)))
     (all-known front more is e (and-right (nat_lt i n) (are_below n is) h) (and-right (is_among front w) (list_all (is_among front) rest) k))
 
 -- the first ones of names are names
@@ -72,7 +73,8 @@ among-here : (front : List Word) (n : Word) (more : List Word) → is_among (fro
 among-here [] n more = ap (λ (b : Bool). b || is_among more n) (same-bytes n)
 among-here (p ∷ ps) n more = or-true (bytes_eq p n) (is_among (ps ++ n ∷ more) n) (among-here ps n more)
 
-other-bytes : (b : Bool) (p n : Word) (names : List Word) → bytes_eq p n ≡ b → is_among names n ≡ true → is_among names p ≡ false → b ≡ false
+other-bytes : (b : Bool) (p n : Word) (names : List Word) → bytes_eq p n ≡ b → is_among names n ≡ true → is_among names p ≡ false
+    → b ≡ false
 other-bytes true p n names h there apart =
     let same : p ≡ n = same-word p n h in
     let both : true ≡ false = sym there ∙ ap (is_among names) (sym same) ∙ apart in

@@ -45,7 +45,8 @@ word-cases (c ∷ cs) b e = all-through is_in_name (λ d. not (d == 32)) (c ∷ 
 name-word : (w : Word) → is_free w ≡ true → is_word w ≡ true
 name-word w e =
     let name : is_name w ≡ true = and-left _ (not (is_reserved w)) e in
-    word-cases w (and-left (begins_lower w) _ (and-left (begins_lower w && nat_le (length w) 16) (list_all is_in_name w) name)) (name-bytes w e)
+    word-cases w (and-left (begins_lower w) _ (and-left (begins_lower w && nat_le (length w) 16) (list_all is_in_name w) name))
+    (name-bytes w e)
 
 -- the line of a body
 module _ (w : Word) (free : is_free w ≡ true) where
@@ -74,30 +75,39 @@ module _ (w : Word) (free : is_free w ≡ true) where
 
   body-fits : (v : Seen) → is_among v.bodies w ≡ false → nat_le 64 (length v.bodies) ≡ false → see_body v head ≡ Ok (after_body v head)
   body-fits v e f =
-      ap (λ (b : Bool). if b || false then Err Twice else if nat_le 64 (length v.bodies) || false then Err TooMany else Ok (after_body v head)) e
+      ap
+      (λ (b : Bool). if b || false then Err Twice else if nat_le 64 (length v.bodies) || false then Err TooMany
+      else Ok (after_body v head))
+      e
       ∙ ap (λ (b : Bool). if b || false then Err TooMany else Ok (after_body v head)) f
 
   -- a body of this name, and lines after it
-  body-read : (format : ℕ) (arrays there : List Word) (starts : ℕ) (ls : List (List ℕ)) → is_among there w ≡ false → nat_le 64 (length there) ≡ false
-      → see_lines (Some (record { format = format; arrays = arrays; bodies = there; starts = starts; inside = None })) ((codes "body " ++ w) ∷ codes "end" ∷ ls)
+  body-read : (format : ℕ) (arrays there : List Word) (starts : ℕ) (ls : List (List ℕ)) → is_among there w ≡ false
+      → nat_le 64 (length there) ≡ false
+      → see_lines (Some (record { format = format; arrays = arrays; bodies = there; starts = starts; inside = None }))
+      ((codes "body " ++ w) ∷ codes "end" ∷ ls)
       ≡ see_lines (Some (record { format = format; arrays = arrays; bodies = there ++ w ∷ []; starts = starts; inside = None })) ls
   body-read format arrays there starts ls e f =
       let v : Seen = record { format = format; arrays = arrays; bodies = there; starts = starts; inside = None } in
       let u : Seen = after_body v head in
       ap (λ (ws : Words). see_words (Some v) ws >>= λ x. see_lines x (codes "end" ∷ ls)) body-words
       ∙ ap (λ (r : Result Seen Code). made (λ x. Some x) r >>= λ x. see_lines x (codes "end" ∷ ls)) (body-named v ∙ body-fits v e f)
-      ∙ ap (λ (r : Result Seen Code). made (λ x. Some x) r >>= λ x. see_lines x ls) (end-read u (begun_body head) (begun-within head (omega arith)))
+      ∙ ap (λ (r : Result Seen Code). made (λ x. Some x) r >>= λ x. see_lines x ls)
+      (end-read u (begun_body head) (begun-within head (omega arith)))
 
 below-limit : (n m : ℕ) → n + suc m ≤ 64 → nat_le 64 n ≡ false
 below-limit n m h = grind (arith, common_steps)
 
 -- bodies of the names that are missing
-lacking-cases : (format : ℕ) (arrays there : List Word) (starts : ℕ) (w : Word) (ws : List Word) (b : Bool) → is_among there w ≡ b → is_free w ≡ true
+lacking-cases : (format : ℕ) (arrays there : List Word) (starts : ℕ) (w : Word) (ws : List Word) (b : Bool) → is_among there w ≡ b
+    → is_free w ≡ true
     → length (there ++ (if b then lacking there ws else w ∷ lacking (there ++ w ∷ []) ws)) ≤ 64
     → (length (there ++ lacking there ws) ≤ 64
-    → IsClosed (see_lines (Some (record { format = format; arrays = arrays; bodies = there; starts = starts; inside = None })) (empty_bodies (lacking there ws))))
+    → IsClosed
+    (see_lines (Some (record { format = format; arrays = arrays; bodies = there; starts = starts; inside = None })) (empty_bodies (lacking there ws))))
     → (length ((there ++ w ∷ []) ++ lacking (there ++ w ∷ []) ws) ≤ 64
-    → IsClosed (see_lines (Some (record { format = format; arrays = arrays; bodies = there ++ w ∷ []; starts = starts; inside = None })) (empty_bodies (lacking (there ++ w ∷ []) ws))))
+    → IsClosed
+    (see_lines (Some (record { format = format; arrays = arrays; bodies = there ++ w ∷ []; starts = starts; inside = None })) (empty_bodies (lacking (there ++ w ∷ []) ws))))
     → IsClosed (see_lines (Some (record { format = format; arrays = arrays; bodies = there; starts = starts; inside = None }))
     (empty_bodies (if b then lacking there ws else w ∷ lacking (there ++ w ∷ []) ws)))
 lacking-cases format arrays there starts w ws true e free h same more = same h
@@ -107,9 +117,12 @@ lacking-cases format arrays there starts w ws false e free h same more =
     let r = more (subst (λ (x : List Word). length x ≤ 64) (sym (append_assoc there (w ∷ []) rest)) h) in
     (r.0, body-read w free format arrays there starts (empty_bodies rest) e (below-limit (length there) (length rest) counted) ∙ r.1, r.2)
 
-pub lacking-read : (format : ℕ) (ws arrays there : List Word) (starts : ℕ) → list_all is_free ws ≡ true → length (there ++ lacking there ws) ≤ 64
-    → IsClosed (see_lines (Some (record { format = format; arrays = arrays; bodies = there; starts = starts; inside = None })) (empty_bodies (lacking there ws)))
-lacking-read format [] arrays there starts f h = (record { format = format; arrays = arrays; bodies = there; starts = starts; inside = None }, refl, refl)
+pub lacking-read : (format : ℕ) (ws arrays there : List Word) (starts : ℕ) → list_all is_free ws ≡ true
+    → length (there ++ lacking there ws) ≤ 64
+    → IsClosed
+    (see_lines (Some (record { format = format; arrays = arrays; bodies = there; starts = starts; inside = None })) (empty_bodies (lacking there ws)))
+lacking-read format [] arrays there starts f h =
+    (record { format = format; arrays = arrays; bodies = there; starts = starts; inside = None }, refl, refl)
 lacking-read format (w ∷ ws) arrays there starts f h =
     let others : list_all is_free ws ≡ true = and-right (is_free w) _ f in
     lacking-cases format arrays there starts w ws (is_among there w) refl (and-left _ (list_all is_free ws) f) h
@@ -125,7 +138,8 @@ pub lacking-free : (there ws : List Word) → list_all is_free ws ≡ true → l
 lacking-free there [] e = refl
 lacking-free there (w ∷ ws) e =
     let others : list_all is_free ws ≡ true = and-right (is_free w) _ e in
-    if-free (is_among there w) w _ _ (and-left _ (list_all is_free ws) e) (lacking-free there ws others) (lacking-free (there ++ w ∷ []) ws others)
+    if-free (is_among there w) w _ _ (and-left _ (list_all is_free ws) e) (lacking-free there ws others)
+    (lacking-free (there ++ w ∷ []) ws others)
 
 -- what these lines declare, and that they are lines of allowed bytes that name no body
 end-declares : (ls : List (List ℕ)) → declared_in (end_line ∷ ls) ≡ declared_in ls
@@ -138,7 +152,8 @@ empty-declare (n ∷ ns) e =
     ap (λ (o : Option Word). cons_option o (declared_in (codes "end" ∷ empty_bodies ns))) (declares n (and-left _ (list_all is_free ns) e))
     ∙ ap (λ (x : List Word). n ∷ x) (end-declares (empty_bodies ns) ∙ empty-declare ns (and-right (is_free n) _ e))
 
-pub empty-all : (p : List ℕ → Bool) (ns : List Word) → ((w : Word) → is_free w ≡ true → p (codes "body " ++ w) ≡ true) → p (codes "end") ≡ true
+pub empty-all : (p : List ℕ → Bool) (ns : List Word) → ((w : Word) → is_free w ≡ true → p (codes "body " ++ w) ≡ true)
+    → p (codes "end") ≡ true
     → list_all is_free ns ≡ true
     → list_all p (empty_bodies ns) ≡ true
 empty-all p [] h k e = refl

@@ -42,7 +42,8 @@ name-one w free =
 abbrev pub named_at : List Word → List ℕ → List Word
 named_at locals is = map (name_at locals) is
 
-index-mentions : (locals : List Word) (i : Index) → are_names locals ≡ true → IndexIs locals i → in_index (index_word locals i) ≡ named_at locals (mentions.in_index i)
+index-mentions : (locals : List Word) (i : Index) → are_names locals ≡ true → IndexIs locals i
+    → in_index (index_word locals i) ≡ named_at locals (mentions.in_index i)
 index-mentions locals (index.Number n) e h = number-none (signed_decimal n) (number-begins n h)
 index-mentions locals (index.Local i) e h = name-one (name_at locals i) (names-free locals i e h)
 index-mentions locals index.Arg e h = arg-none
@@ -53,10 +54,12 @@ cell-mentions s c g h =
     let name : Word = name_at s.arrays c.array in
     let at : Word = index_word s.locals c.index in
     operand-by (cell_word s c) true (cell-bracket name (at ++ 93 ∷ []))
-    ∙ ap in_parts (plain-cell name at (name-plain name (names-free s.arrays c.array g.arrays h.0)) (index-plain s.locals c.index g.locals h.1))
+    ∙ ap in_parts
+    (plain-cell name at (name-plain name (names-free s.arrays c.array g.arrays h.0)) (index-plain s.locals c.index g.locals h.1))
     ∙ index-mentions s.locals c.index g.locals h.1
 
-operand-mentions : (s : Names) (o : Operand) → AreGood s → OperandIs s o → in_operand (operand_word s o) ≡ named_at s.locals (mentions.in_operand o)
+operand-mentions : (s : Names) (o : Operand) → AreGood s → OperandIs s o
+    → in_operand (operand_word s o) ≡ named_at s.locals (mentions.in_operand o)
 operand-mentions s (operand.Plain i) g h =
     operand-by (index_word s.locals i) false (plain-bracket (index_word s.locals i) (index-plain s.locals i g.locals h))
     ∙ index-mentions s.locals i g.locals h
@@ -69,7 +72,8 @@ expr-mentions s (Two a op b) g h =
     ∙ ap (λ (x : List Word). named_at s.locals (mentions.in_operand a) ++ x) (operand-mentions s b g h.1)
     ∙ sym (map-append (name_at s.locals) (mentions.in_operand a) (mentions.in_operand b))
 
-action-mentions : (s : Names) (a : Action) → AreGood s → ActionIs s a → mentions_of (line_words s (line.Do a)) ≡ named_at s.locals (mentions.in_action a)
+action-mentions : (s : Names) (a : Action) → AreGood s → ActionIs s a
+    → mentions_of (line_words s (line.Do a)) ≡ named_at s.locals (mentions.in_action a)
 unfolding keyword_of mentions_behind
 action-mentions s (action.Let i e) g h = ap (λ (x : List Word). name_at s.locals i ∷ x) (expr-mentions s e g h.1)
 action-mentions s (action.Put Set c e) g h =
@@ -85,7 +89,8 @@ action-mentions s (action.Spawn b e) g h = expr-mentions s e g h.1
 action-mentions s action.Sync g h = refl
 action-mentions s action.Stop g h = refl
 
-pub line-mentions : (s : Names) (fits : Bool) (l : Line) → AreGood s → LineIs s fits l → mentions_of (line_words s l) ≡ named_at s.locals (mentions.in_line l)
+pub line-mentions : (s : Names) (fits : Bool) (l : Line) → AreGood s → LineIs s fits l
+    → mentions_of (line_words s l) ≡ named_at s.locals (mentions.in_line l)
 unfolding keyword_of mentions_behind
 line-mentions s fits (line.Do a) g h = action-mentions s a g h
 line-mentions s fits (line.If e n) g h = expr-mentions s e g h

@@ -54,7 +54,8 @@ local-cases w i false false false r t e = refl
 local-one : (locals : List Word) (w : Word) (i : ℕ) → index_of locals w ≡ Ok (index.Local i) → in_index w ≡ w ∷ []
 unfolding in_index index_of
 local-one locals w i e =
-    local-cases w i (begins_number w) (bytes_eq w (codes "arg")) (bytes_eq w (codes "step")) (numbered w) (made index.Local (declared_at locals w)) e
+    local-cases w i (begins_number w) (bytes_eq w (codes "arg")) (bytes_eq w (codes "step")) (numbered w)
+    (made index.Local (declared_at locals w)) e
 
 pub arg-none : in_index (codes "arg") ≡ []
 unfolding in_index
@@ -75,7 +76,8 @@ pub operand-if : (w : Word) (b : Bool) → has_bracket w ≡ b → in_operand w 
 unfolding in_operand
 operand-if w b e = ap (λ (x : Bool). if x then in_parts (cell_parts w) else in_index w) e
 
-cell-mentions : (s : Names) (c : Cell) → AreGood s → CellIs s c → in_operand (cell_word s c) ≡ map (name_at s.locals) (mentions.in_index c.index)
+cell-mentions : (s : Names) (c : Cell) → AreGood s → CellIs s c
+    → in_operand (cell_word s c) ≡ map (name_at s.locals) (mentions.in_index c.index)
 cell-mentions s c g h =
     let name : Word = name_at s.arrays c.array in
     let at : Word = index_word s.locals c.index in
@@ -83,9 +85,11 @@ cell-mentions s c g h =
     plain-cell name at (name-plain name (names-free s.arrays c.array g.arrays h.0)) (index-plain s.locals c.index g.locals h.1) in
     operand-if (cell_word s c) true (cell-bracket name (at ++ 93 ∷ [])) ∙ ap in_parts parts ∙ index-mentions s.locals c.index g.locals h.1
 
-operand-mentions : (s : Names) (o : Operand) → AreGood s → OperandIs s o → in_operand (operand_word s o) ≡ map (name_at s.locals) (mentions.in_operand o)
+operand-mentions : (s : Names) (o : Operand) → AreGood s → OperandIs s o
+    → in_operand (operand_word s o) ≡ map (name_at s.locals) (mentions.in_operand o)
 operand-mentions s (operand.Plain i) g h =
-    operand-if (index_word s.locals i) false (plain-bracket (index_word s.locals i) (index-plain s.locals i g.locals h)) ∙ index-mentions s.locals i g.locals h
+    operand-if (index_word s.locals i) false (plain-bracket (index_word s.locals i) (index-plain s.locals i g.locals h))
+    ∙ index-mentions s.locals i g.locals h
 operand-mentions s (operand.Cell c) g h = cell-mentions s c g h
 
 expr-mentions : (s : Names) (e : Expr) → AreGood s → ExprIs s e → in_expr (expr_words s e) ≡ map (name_at s.locals) (mentions.in_expr e)
@@ -95,7 +99,8 @@ expr-mentions s (Two a op b) g h =
     ∙ ap (λ (x : List Word). map (name_at s.locals) (mentions.in_operand a) ++ x) (operand-mentions s b g h.1)
     ∙ sym (map-append (name_at s.locals) (mentions.in_operand a) (mentions.in_operand b))
 
-action-mentions : (s : Names) (a : Action) → AreGood s → ActionIs s a → mentions_of (action_words s a) ≡ map (name_at s.locals) (mentions.in_action a)
+action-mentions : (s : Names) (a : Action) → AreGood s → ActionIs s a
+    → mentions_of (action_words s a) ≡ map (name_at s.locals) (mentions.in_action a)
 unfolding keyword_of mentions_behind
 action-mentions s (action.Let i e) g h = ap (λ (x : List Word). name_at s.locals i ∷ x) (expr-mentions s e g h.1)
 action-mentions s (action.Put Set c e) g h =
@@ -111,7 +116,8 @@ action-mentions s (action.Spawn b e) g h = expr-mentions s e g h.1
 action-mentions s action.Sync g h = refl
 action-mentions s action.Stop g h = refl
 
-line-mentions : (s : Names) (l : Line) → AreGood s → LineIs s true l → mentions_of (line_words s l) ≡ map (name_at s.locals) (mentions.in_line l)
+line-mentions : (s : Names) (l : Line) → AreGood s → LineIs s true l
+    → mentions_of (line_words s l) ≡ map (name_at s.locals) (mentions.in_line l)
 unfolding keyword_of mentions_behind
 line-mentions s (line.Do a) g h = action-mentions s a g h
 line-mentions s (line.If e n) g h = expr-mentions s e g h
@@ -137,7 +143,8 @@ code-mentions s (l ∷ ls) g h =
 abbrev pub NotesFirsts : List Word → ℕ → List ℕ → Type 0
 NotesFirsts ns m is = (k : ℕ) → mentions.mentioned k is ≡ Some m → noted (take k ns) (map (name_at ns) is) ≡ take m ns
 
-one-more : (ns : List Word) (k m i : ℕ) (is : List ℕ) (a b : Bool) → are_names ns ≡ true → i < length ns → NotesFirsts ns m is → nat_eq i k ≡ a → nat_lt i k ≡ b
+one-more : (ns : List Word) (k m i : ℕ) (is : List ℕ) (a b : Bool) → are_names ns ≡ true → i < length ns → NotesFirsts ns m is
+    → nat_eq i k ≡ a → nat_lt i k ≡ b
     → (if a then mentions.mentioned (k + 1) is else if b then mentions.mentioned k is else None) ≡ Some m
     → noted (if is_among (take k ns) (name_at ns i) then take k ns else take k ns ++ name_at ns i ∷ []) (map (name_at ns) is) ≡ take m ns
 one-more ns k m i is true b g below later p q f =
@@ -155,7 +162,8 @@ one-more ns k m i is false true g below later p q f =
 one-more ns k m i is false false g below later p q f = absurd cc
 
 -- locals that are mentioned in their order are noted in it
-pub noted-firsts : (ns : List Word) (m : ℕ) (is : List ℕ) → are_names ns ≡ true → list_all (λ i. nat_lt i (length ns)) is ≡ true → NotesFirsts ns m is
+pub noted-firsts : (ns : List Word) (m : ℕ) (is : List ℕ) → are_names ns ≡ true → list_all (λ i. nat_lt i (length ns)) is ≡ true
+    → NotesFirsts ns m is
 noted-firsts ns m [] g h = λ k e. ap (λ (x : ℕ). take x ns) (none-more k m e)
   where
     none-more : (k m : ℕ) → mentions.mentioned k [] ≡ Some m → k ≡ m

@@ -52,7 +52,8 @@ same-tells : (names : List Word) (ws : Words) (w : Seen) → so_far w ≡ names 
     → list_all is_free (listed (named_by ws)) ≡ true → Tells names ws w
 same-tells names ws w e d f = (e ∙ sym (append-nil names) ∙ ap (λ (o : Option Word). names ++ listed o) (sym d), f)
 
-named-cases : (a b : Bool) (u : Unit {0}) → ◌≡◌ {A = Result (Unit {0}) Code} (if a then Err Reserved else if b then Ok tt else Err BadName) (Ok u) → (b && not a) ≡ true
+named-cases : (a b : Bool) (u : Unit {0})
+    → ◌≡◌ {A = Result (Unit {0}) Code} (if a then Err Reserved else if b then Ok tt else Err BadName) (Ok u) → (b && not a) ≡ true
 named-cases true b u e = absurd cc
 named-cases false true u e = refl
 named-cases false false u e = absurd cc
@@ -104,7 +105,8 @@ inner-tells v o k ws None s fits w h e = absurd cc
 inner-tells v o k ws (Some x) s fits w h e =
     let b = bind-ok (line_behind s fits (Some x) ws) (see_said v o) w e in
     let n : ℕ = statements_behind o.statements b.0 in
-    let f = if-ok (is_over n (length o.locals) (opened (length o.open_lines) b.0)) TooMany (see_behind v o n (see_step b.0 o.open_lines)) w b.2 in
+    let f =
+    if-ok (is_over n (length o.locals) (opened (length o.open_lines) b.0)) TooMany (see_behind v o n (see_step b.0 o.open_lines)) w b.2 in
     let same : k ≡ keyword_text x = keyword-said k x h in
     same-tells (v.bodies ++ o.name ∷ []) (k ∷ ws) w
     (ap so_far (sym f.1) ∙ behind-names v o n (see_step b.0 o.open_lines))
@@ -130,7 +132,8 @@ body-free : (ws : Words) → list_all is_free (listed (named_by (codes "body" �
 body-free [] = refl
 body-free (b ∷ ws) = refl
 
-body-name : (format : ℕ) (ws : Words) (head : Word × List Word) → body_of format ws ≡ Ok head → name_if_body (Some outer.Body) ws ≡ Some head.0
+body-name : (format : ℕ) (ws : Words) (head : Word × List Word) → body_of format ws ≡ Ok head
+    → name_if_body (Some outer.Body) ws ≡ Some head.0
 body-name format [] head e = absurd cc
 body-name format (n ∷ ws) head e = ap (λ (x : Word × List Word). Some x.0) (head-parts format n ws head e).same
 
@@ -163,7 +166,8 @@ any-tells v (Some o) (k ∷ ws) w e =
     let o' : SeenBody = see_mentioning v.format o key ws in
     let s : Names = record { arrays = v.arrays; bodies = []; locals = o'.locals } in
     let b = bind-ok (line_behind s (see_else o'.open_lines) key ws) (see_said v o') w e in
-    inner-tells v o' k ws key s (see_else o'.open_lines) w (sym (known-cases s (see_else o'.open_lines) v.format (keyword_of k) ws b.0 b.1)) e
+    inner-tells v o' k ws key s (see_else o'.open_lines) w (sym (known-cases s (see_else o'.open_lines) v.format (keyword_of k) ws b.0 b.1))
+    e
 
 skipped-free : (ws : Words) → is_skipped ws ≡ true → list_all is_free (listed (named_by ws)) ≡ true
 skipped-free [] e = refl
@@ -189,7 +193,8 @@ bsp-none : (b : Word) → declared_by (codes "bsp" ∷ b ∷ []) ≡ None
 unfolding outer_of
 bsp-none b = refl
 
-header-none : (ws : Words) (format : ℕ) → format_of ws ≡ Some format → (declared_by ws ≡ None) × (list_all is_free (listed (named_by ws)) ≡ true)
+header-none : (ws : Words) (format : ℕ) → format_of ws ≡ Some format
+    → (declared_by ws ≡ None) × (list_all is_free (listed (named_by ws)) ≡ true)
 header-none ws format e =
     let same : ws ≡ header_words format = header-said ws format e in (
       ap declared_by same ∙ bsp-none (decimal format),
@@ -214,7 +219,8 @@ words-tell (Some v) q ws e =
     let t = skip-tells v ws m.0 (is_skipped ws) refl m.1 in
     (ap names_of (sym m.2) ∙ t.0, t.1)
 
-listed-free : (o : Option Word) (ws : List Word) → list_all is_free (listed o) ≡ true → list_all is_free ws ≡ true → list_all is_free (cons_option o ws) ≡ true
+listed-free : (o : Option Word) (ws : List Word) → list_all is_free (listed o) ≡ true → list_all is_free ws ≡ true
+    → list_all is_free (cons_option o ws) ≡ true
 listed-free None ws e f = f
 listed-free (Some w) ws e f = and-true _ _ (and-left _ true e) f
 

@@ -72,7 +72,8 @@ cells-read given cells c f =
     and-left (list_all fits_i64 given) (list_all fits_i64 zeros) (sym (list_all-append fits_i64 given zeros) ∙ split) in
     let within : (nat_le 1 n && nat_le n 4096 && nat_le (length given) n) ≡ true =
     and-true _ _ (and-true _ _ (le-true 1 n c.some) (le-true n 4096 c.few)) (le-true (length given) n f.0) in
-    ap (λ (r : Result ℤ Code). both r (all_numbered (map signed_decimal given)) >>= filled) (number-written (pos n) (number-fits (pos n) (length-fits n c.few)))
+    ap (λ (r : Result ℤ Code). both r (all_numbered (map signed_decimal given)) >>= filled)
+    (number-written (pos n) (number-fits (pos n) (length-fits n c.few)))
     ∙ ap (λ (r : Result (List ℤ) Code). both (Ok (pos n)) r >>= filled) (values-read given fit)
     ∙ ap (λ (b : Bool). if b then Ok (given ++ zeros) else Err BadLength) within
     ∙ ap (λ (x : List ℤ). Ok x) (sym f.1)
@@ -83,7 +84,8 @@ pub record IsFreeArray (k : JobTree) (name : Word) : Type 0 where
   pub fresh : is_among (array_names k) name ≡ false
   pub capacity : length (array_names k) < 16
 
-pub array-passes : (bodies : List Word) (k : JobTree) (name : Word) (given cells : List ℤ) → IsFreeArray k name → AreCells cells → IsFilled given cells
+pub array-passes : (bodies : List Word) (k : JobTree) (name : Word) (given cells : List ℤ) → IsFreeArray k name → AreCells cells
+    → IsFilled given cells
     → Passes bodies (array_words name (length cells) given) (k, None) (put (AnArray name given cells) k, None)
 unfolding outer_of
 array-passes bodies k name given cells h c f =
@@ -94,8 +96,11 @@ array-passes bodies k name given cells h c f =
     let all : JobTree = put (AnArray name given cells) k in
     record {
       read = ap (λ (r : Result (Word × List ℤ) Code). made (λ (i : JobTree). (i, None)) (r >>= with_array k)) read
-          ∙ ap (λ (b : Bool). made (λ (i : JobTree). (i, None)) (if b then Err Twice else if nat_le 16 (length (array_names k)) then Err TooMany else Ok all)) h.fresh
-          ∙ ap (λ (b : Bool). made (λ (i : JobTree). (i, None)) (if b then Err TooMany else Ok all)) (le-false 16 (length (array_names k)) h.capacity);
+          ∙ ap
+          (λ (b : Bool). made (λ (i : JobTree). (i, None)) (if b then Err Twice else if nat_le 16 (length (array_names k)) then Err TooMany else Ok all))
+          h.fresh
+          ∙ ap (λ (b : Bool). made (λ (i : JobTree). (i, None)) (if b then Err TooMany else Ok all))
+          (le-false 16 (length (array_names k)) h.capacity);
       found = refl;
     }
 
@@ -105,7 +110,8 @@ pub record IsFreeBody (k : JobTree) (name : Word) : Type 0 where
   pub fresh : is_among (body_names k) name ≡ false
   pub capacity : length (body_names k) < 64
 
-begin-passes : (bodies : List Word) (k : JobTree) (name : Word) (locals : List Word) → IsFreeBody k name → are_names locals ≡ true → length locals ≤ 32
+begin-passes : (bodies : List Word) (k : JobTree) (name : Word) (locals : List Word) → IsFreeBody k name → are_names locals ≡ true
+    → length locals ≤ 32
     → Passes bodies (body_words k.format name locals) (k, None) (k, Some (begun (name, listed_in k.format locals)))
 unfolding outer_of
 begin-passes bodies k name locals h names few =
@@ -113,10 +119,19 @@ begin-passes bodies k name locals h names few =
     let own : not (are_apart head.1) ≡ false = ap not (apart head.1 (listed-names k.format locals names)) in
     let short : nat_lt 32 (length head.1) ≡ false = lt-false 32 (length head.1) (listed-few k.format locals few) in
     record {
-      read = ap (λ (r : Result (Word × List Word) Code). made (λ (o : Inside). (k, Some o)) (r >>= new_body k)) (head-read k.format name locals h.free names)
-          ∙ ap (λ (b : Bool). made (λ (o : Inside). (k, Some o)) (if b || not (are_apart head.1) then Err Twice else if nat_le 64 (length (body_names k)) || nat_lt 32 (length head.1) then Err TooMany else Ok (begun head))) h.fresh
-          ∙ ap (λ (b : Bool). made (λ (o : Inside). (k, Some o)) (if b then Err Twice else if nat_le 64 (length (body_names k)) || nat_lt 32 (length head.1) then Err TooMany else Ok (begun head))) own
-          ∙ ap (λ (b : Bool). made (λ (o : Inside). (k, Some o)) (if b || nat_lt 32 (length head.1) then Err TooMany else Ok (begun head))) (le-false 64 (length (body_names k)) h.capacity)
+      read =
+          ap (λ (r : Result (Word × List Word) Code). made (λ (o : Inside). (k, Some o)) (r >>= new_body k))
+          (head-read k.format name locals h.free names)
+          ∙ ap
+          (λ (b : Bool). made (λ (o : Inside). (k, Some o))
+          (if b || not (are_apart head.1) then Err Twice else if nat_le 64 (length (body_names k)) || nat_lt 32 (length head.1)
+          then Err TooMany else Ok (begun head)))
+          h.fresh
+          ∙ ap
+          (λ (b : Bool). made (λ (o : Inside). (k, Some o)) (if b then Err Twice else if nat_le 64 (length (body_names k)) || nat_lt 32 (length head.1) then Err TooMany else Ok (begun head)))
+          own
+          ∙ ap (λ (b : Bool). made (λ (o : Inside). (k, Some o)) (if b || nat_lt 32 (length head.1) then Err TooMany else Ok (begun head)))
+          (le-false 64 (length (body_names k)) h.capacity)
           ∙ ap (λ (b : Bool). made (λ (o : Inside). (k, Some o)) (if b then Err TooMany else Ok (begun head))) short;
       found = refl;
     }
@@ -128,7 +143,8 @@ pub record IsLegalBody (b : BodyTree) : Type 0 where
 all-built : (b : Block) → build (flat b) [] Done ≡ Some ([], b)
 all-built b = ap (λ (c : List Line). build c [] Done) (sym (append-nil (flat b))) ∙ build-flat b [] [] Done
 
-pub body-reads : (bodies : List Word) (k : JobTree) (b : BodyTree) → are_names (array_names k) ≡ true → are_names bodies ≡ true → IsFreeBody k b.name → IsLegalBody b
+pub body-reads : (bodies : List Word) (k : JobTree) (b : BodyTree) → are_names (array_names k) ≡ true → are_names bodies ≡ true
+    → IsFreeBody k b.name → IsLegalBody b
     → IsSoundBody k.format (array_names k) bodies b
     → Reads bodies (body_lines k.format (array_names k) bodies b) (k, None) (put (ABody b) k, None)
 body-reads bodies k b ga gb h legal sound =
@@ -167,8 +183,13 @@ start-passes bodies k s g h f capacity =
     ∙ ap (λ (o : Option ℕ). Ok (unwrap_or o 0)) place
     ∙ ap (λ (x : ℕ). Ok x) number in
     record {
-      read = ap (λ (r : Result ℕ Code). made (λ (i : JobTree). (i, None)) (made start_from (both r (numbered (signed_decimal s.arg))) >>= with_start k)) body
-          ∙ ap (λ (r : Result ℤ Code). made (λ (i : JobTree). (i, None)) (made start_from (both (Ok s.body) r) >>= with_start k)) (number-written s.arg (number-fits s.arg f))
-          ∙ ap (λ (b : Bool). made (λ (i : JobTree). (i, None)) (if b then Err TooMany else Ok (put (AStart s) k))) (le-false 4096 (length k.starts) capacity);
+      read =
+          ap
+          (λ (r : Result ℕ Code). made (λ (i : JobTree). (i, None)) (made start_from (both r (numbered (signed_decimal s.arg))) >>= with_start k))
+          body
+          ∙ ap (λ (r : Result ℤ Code). made (λ (i : JobTree). (i, None)) (made start_from (both (Ok s.body) r) >>= with_start k))
+          (number-written s.arg (number-fits s.arg f))
+          ∙ ap (λ (b : Bool). made (λ (i : JobTree). (i, None)) (if b then Err TooMany else Ok (put (AStart s) k)))
+          (le-false 4096 (length k.starts) capacity);
       found = ap not (name-among bodies s.body g h);
     }

@@ -63,7 +63,8 @@ name-cases (c ∷ cs) b e = names-seen (c ∷ cs) e
 pub name-printed : (w : Word) → is_free w ≡ true → is_printed w ≡ true
 name-printed w e =
     let name : is_name w ≡ true = and-left _ (not (is_reserved w)) e in
-    name-cases w (and-left (begins_lower w) _ (and-left (begins_lower w && nat_le (length w) 16) (list_all is_in_name w) name)) (and-right (begins_lower w && nat_le (length w) 16) (list_all is_in_name w) name)
+    name-cases w (and-left (begins_lower w) _ (and-left (begins_lower w && nat_le (length w) 16) (list_all is_in_name w) name))
+    (and-right (begins_lower w && nat_le (length w) 16) (list_all is_in_name w) name)
 
 digit-seen : (c : ℕ) → (48 ≤ c) × (c ≤ 57) → is_seen c ≡ true
 digit-seen c e = let low : 48 ≤ c = e.0 in let high : c ≤ 57 = e.1 in grind (arith, common_steps)
@@ -88,26 +89,32 @@ number-printed (pos n) h = let small : n < 2 ^ 64 = omega (arith, ints, h) in de
 number-printed (negsuc n) h = let small : suc n < 2 ^ 64 = omega (arith, ints, h) in decimal-seen (suc n) small
 
 -- the numbers of a line fit, and what it names is there
-index-is : (locals : List Word) (i : Index) → fits_index i ≡ true → list_all (λ k. nat_lt k (length locals)) (mentions.in_index i) ≡ true → IndexIs locals i
+index-is : (locals : List Word) (i : Index) → fits_index i ≡ true → list_all (λ k. nat_lt k (length locals)) (mentions.in_index i) ≡ true
+    → IndexIs locals i
 index-is locals (index.Number n) e h = fits-signed n e
 index-is locals (index.Local i) e h = ltb-true i (length locals) (and-left _ true h)
 index-is locals index.Arg e h = tt
 index-is locals index.Step e h = tt
 
-operand-is : (s : Names) (o : Operand) → is_operand (length s.arrays) o ≡ true → fits_operand o ≡ true → AllBelow s (mentions.in_operand o) → OperandIs s o
+operand-is : (s : Names) (o : Operand) → is_operand (length s.arrays) o ≡ true → fits_operand o ≡ true → AllBelow s (mentions.in_operand o)
+    → OperandIs s o
 operand-is s (operand.Plain i) a e h = index-is s.locals i e h
 operand-is s (operand.Cell c) a e h = (ltb-true c.array (length s.arrays) a, index-is s.locals c.index e h)
 
 expr-is : (s : Names) (e : Expr) → is_expr (length s.arrays) e ≡ true → fits_expr e ≡ true → AllBelow s (mentions.in_expr e) → ExprIs s e
 expr-is s (One a) x e h = operand-is s a x e h
 expr-is s (Two a op b) x e h = (
-  operand-is s a (and-left _ (is_operand (length s.arrays) b) x) (and-left _ (fits_operand b) e) (all-left _ (mentions.in_operand a) (mentions.in_operand b) h),
-  operand-is s b (and-right (is_operand (length s.arrays) a) _ x) (and-right (fits_operand a) _ e) (all-right _ (mentions.in_operand a) (mentions.in_operand b) h),
+  operand-is s a (and-left _ (is_operand (length s.arrays) b) x) (and-left _ (fits_operand b) e)
+      (all-left _ (mentions.in_operand a) (mentions.in_operand b) h),
+  operand-is s b (and-right (is_operand (length s.arrays) a) _ x) (and-right (fits_operand a) _ e)
+      (all-right _ (mentions.in_operand a) (mentions.in_operand b) h),
 )
 
-action-is : (s : Names) (a : Action) → is_action (length s.arrays) (length s.bodies) a ≡ true → fits_action a ≡ true → AllBelow s (mentions.in_action a) → ActionIs s a
+action-is : (s : Names) (a : Action) → is_action (length s.arrays) (length s.bodies) a ≡ true → fits_action a ≡ true
+    → AllBelow s (mentions.in_action a) → ActionIs s a
 action-is s (action.Let i e) x f h = (
-  ltb-true i (length s.locals) (and-left (nat_lt i (length s.locals)) true (all-left (λ (k : ℕ). nat_lt k (length s.locals)) (i ∷ []) (mentions.in_expr e) h)),
+  ltb-true i (length s.locals)
+      (and-left (nat_lt i (length s.locals)) true (all-left (λ (k : ℕ). nat_lt k (length s.locals)) (i ∷ []) (mentions.in_expr e) h)),
   expr-is s e x f (all-right _ (i ∷ []) (mentions.in_expr e) h),
 )
 action-is s (action.Put kind c e) x f h = (
@@ -115,20 +122,29 @@ action-is s (action.Put kind c e) x f h = (
     ltb-true c.array (length s.arrays) (and-left _ (is_expr (length s.arrays) e) x),
     index-is s.locals c.index (and-left _ (fits_expr e) f) (all-left _ (mentions.in_index c.index) (mentions.in_expr e) h),
   ),
-  expr-is s e (and-right (nat_lt c.array (length s.arrays)) _ x) (and-right (fits_index c.index) _ f) (all-right _ (mentions.in_index c.index) (mentions.in_expr e) h),
+  expr-is s e (and-right (nat_lt c.array (length s.arrays)) _ x) (and-right (fits_index c.index) _ f)
+      (all-right _ (mentions.in_index c.index) (mentions.in_expr e) h),
 )
 action-is s (action.Print e) x f h = expr-is s e x f h
-action-is s (action.Spawn b e) x f h =
-    (ltb-true b (length s.bodies) (and-left _ (is_expr (length s.arrays) e) x), expr-is s e (and-right (nat_lt b (length s.bodies)) _ x) f h)
+action-is s (action.Spawn b e) x f h = (
+  ltb-true b (length s.bodies) (and-left _ (is_expr (length s.arrays) e) x),
+  expr-is s e (and-right (nat_lt b (length s.bodies)) _ x) f h,
+)
 action-is s action.Sync x f h = tt
 action-is s action.Stop x f h = tt
 
 pub line-is : (s : Names) (l : Line) → line_fits s l ≡ true → fits_line l ≡ true → LineIs s true l
-line-is s (line.Do a) e f = action-is s a (and-left _ (list_all (λ i. nat_lt i (length s.locals)) (mentions.in_action a)) e) f (and-right (is_action (length s.arrays) (length s.bodies) a) _ e)
-line-is s (line.If x n) e f = expr-is s x (and-left _ (list_all (λ i. nat_lt i (length s.locals)) (mentions.in_expr x)) e) f (and-right (is_expr (length s.arrays) x) _ e)
+line-is s (line.Do a) e f =
+    action-is s a (and-left _ (list_all (λ i. nat_lt i (length s.locals)) (mentions.in_action a)) e) f
+    (and-right (is_action (length s.arrays) (length s.bodies) a) _ e)
+line-is s (line.If x n) e f =
+    expr-is s x (and-left _ (list_all (λ i. nat_lt i (length s.locals)) (mentions.in_expr x)) e) f
+    (and-right (is_expr (length s.arrays) x) _ e)
 line-is s (line.Else n) e f = refl
 line-is s line.EndIf e f = tt
-line-is s (line.While x n) e f = expr-is s x (and-left _ (list_all (λ i. nat_lt i (length s.locals)) (mentions.in_expr x)) e) f (and-right (is_expr (length s.arrays) x) _ e)
+line-is s (line.While x n) e f =
+    expr-is s x (and-left _ (list_all (λ i. nat_lt i (length s.locals)) (mentions.in_expr x)) e) f
+    (and-right (is_expr (length s.arrays) x) _ e)
 line-is s (line.EndWhile x n) e f = tt
 
 behind-printed : (p q : Word) → is_printed p ≡ true → list_all is_seen q ≡ true → is_printed (p ++ q) ≡ true
@@ -146,7 +162,8 @@ cell-printed s c g h =
     let i : is_printed (index_word s.locals c.index) ≡ true = index-printed s.locals c.index g.locals h.1 in
     let tail : list_all is_seen (index_word s.locals c.index ++ 93 ∷ []) ≡ true =
     list_all-append is_seen (index_word s.locals c.index) (93 ∷ []) ∙ and-true _ true (printed-seen (index_word s.locals c.index) i) refl in
-    behind-printed (name_at s.arrays c.array) (91 ∷ (index_word s.locals c.index ++ 93 ∷ [])) (name-printed (name_at s.arrays c.array) (names-free s.arrays c.array g.arrays h.0)) tail
+    behind-printed (name_at s.arrays c.array) (91 ∷ (index_word s.locals c.index ++ 93 ∷ []))
+    (name-printed (name_at s.arrays c.array) (names-free s.arrays c.array g.arrays h.0)) tail
 
 operand-printed : (s : Names) (o : Operand) → AreGood s → OperandIs s o → is_printed (operand_word s o) ≡ true
 operand-printed s (operand.Plain i) g h = index-printed s.locals i g.locals h
@@ -169,11 +186,13 @@ expr-printed s (Two a op b) g h =
     and-true _ _ (operand-printed s a g h.0) (and-true _ _ (operator-printed op) (and-true _ true (operand-printed s b g h.1) refl))
 
 action-plain : (s : Names) (a : Action) → AreGood s → ActionIs s a → is_plain_line (action_words s a) ≡ true
-action-plain s (action.Let i e) g h = and-true _ _ (name-printed (name_at s.locals i) (names-free s.locals i g.locals h.0)) (expr-printed s e g h.1)
+action-plain s (action.Let i e) g h =
+    and-true _ _ (name-printed (name_at s.locals i) (names-free s.locals i g.locals h.0)) (expr-printed s e g h.1)
 action-plain s (action.Put Set c e) g h = and-true _ _ (cell-printed s c g h.0) (expr-printed s e g h.1)
 action-plain s (action.Put Add c e) g h = and-true _ _ (cell-printed s c g h.0) (expr-printed s e g h.1)
 action-plain s (action.Print e) g h = expr-printed s e g h
-action-plain s (action.Spawn b e) g h = and-true _ _ (name-printed (name_at s.bodies b) (names-free s.bodies b g.bodies h.0)) (expr-printed s e g h.1)
+action-plain s (action.Spawn b e) g h =
+    and-true _ _ (name-printed (name_at s.bodies b) (names-free s.bodies b g.bodies h.0)) (expr-printed s e g h.1)
 action-plain s action.Sync g h = refl
 action-plain s action.Stop g h = refl
 

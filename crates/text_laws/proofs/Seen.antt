@@ -54,7 +54,13 @@ seen_body o = record { name = o.name; locals = o.locals; open_lines = kinds o.fr
 
 abbrev pub seen_of : JobTree × Option Inside → Seen
 seen_of p =
-    record { format = p.0.format; arrays = array_names p.0; bodies = body_names p.0; starts = length p.0.starts; inside = option_map seen_body p.1 }
+    record {
+      format = p.0.format;
+      arrays = array_names p.0;
+      bodies = body_names p.0;
+      starts = length p.0.starts;
+      inside = option_map seen_body p.1;
+    }
 
 abbrev pub seen : Above → Seen
 seen a = seen_of (a.job, a.inside)
@@ -80,7 +86,8 @@ see_body v head =
 
 abbrev pub see_start : Seen → Start → Result Seen Code
 see_start v s =
-    if nat_le 4096 v.starts then Err TooMany else Ok (record { format = v.format; arrays = v.arrays; bodies = v.bodies; starts = v.starts + 1; inside = None })
+    if nat_le 4096 v.starts then Err TooMany
+    else Ok (record { format = v.format; arrays = v.arrays; bodies = v.bodies; starts = v.starts + 1; inside = None })
 
 abbrev pub see_outer : Seen → Option Outer → Words → Result Seen Code
 see_outer v None ws = Err UnknownLine
@@ -130,11 +137,17 @@ see_noted v o k ws =
 
 abbrev pub see_mentioning : ℕ → SeenBody → Option Keyword → Words → SeenBody
 see_mentioning format o k ws =
-    record { name = o.name; locals = locals_behind format o.locals (mentions_behind k ws); open_lines = o.open_lines; statements = o.statements }
+    record {
+      name = o.name;
+      locals = locals_behind format o.locals (mentions_behind k ws);
+      open_lines = o.open_lines;
+      statements = o.statements;
+    }
 
 abbrev pub see_any : Seen → Option SeenBody → Words → Result Seen Code
 see_any v i [] = Err UnknownLine
-see_any v (Some o) (k ∷ ws) = see_noted v (see_mentioning v.format o (known_in v.format (keyword_of k)) ws) (known_in v.format (keyword_of k)) ws
+see_any v (Some o) (k ∷ ws) =
+    see_noted v (see_mentioning v.format o (known_in v.format (keyword_of k)) ws) (known_in v.format (keyword_of k)) ws
 see_any v None (k ∷ ws) = see_outer v (outer_of k) ws
 
 -- a line, with no look at the bodies of the text

@@ -75,7 +75,8 @@ abbrev Spot : Type 0
 Spot = JobTree × Option Inside
 
 two-limits : {A : Type 0} (f : A → Spot) (b c : Bool) (x : A) (v : Seen) → seen_of (f x) ≡ v
-    → made seen_of (made f (if b then Err Twice else if c then Err TooMany else Ok x)) ≡ (if b then Err Twice else if c then Err TooMany else Ok v)
+    → made seen_of (made f (if b then Err Twice else if c then Err TooMany else Ok x))
+    ≡ (if b then Err Twice else if c then Err TooMany else Ok v)
 two-limits f true c x v e = refl
 two-limits f false true x v e = refl
 two-limits f false false x v e = ap (λ (z : Seen). Ok z) e
@@ -90,7 +91,8 @@ array-seen : (j : JobTree) (i : Option Inside) (r : Result (Word × List ℤ) Co
     → made seen_of (made (λ k. (k, None)) (r >>= with_array j)) ≡ (r >>= see_array (seen_of (j, i)))
 array-seen j i (Err c) = refl
 array-seen j i (Ok x) =
-    two-limits (λ (k : JobTree). (k, None)) (is_among (array_names j) x.0) (nat_le 16 (length (array_names j))) (record j { arrays = j.arrays ++ x ∷ [] })
+    two-limits (λ (k : JobTree). (k, None)) (is_among (array_names j) x.0) (nat_le 16 (length (array_names j)))
+    (record j { arrays = j.arrays ++ x ∷ [] })
     (record { format = j.format; arrays = array_names j ++ x.0 ∷ []; bodies = body_names j; starts = length j.starts; inside = None })
     (ap (λ (ns : List Word). record { format = j.format; arrays = ns; bodies = body_names j; starts = length j.starts; inside = None })
     (map-append (λ (a : Word × List ℤ). a.0) j.arrays (x ∷ [])))
@@ -171,12 +173,14 @@ behind-seen j o n None =
 behind-seen j o n (Some s) = refl
 
 with-seen : (j : JobTree) (o : Inside) (l : Line)
-    → seen_of (with_line j o l) ≡ see_behind (seen_of (j, Some o)) (seen_body o) (statements_behind o.statements l) (see_step l (kinds o.frames))
+    → seen_of (with_line j o l)
+    ≡ see_behind (seen_of (j, Some o)) (seen_body o) (statements_behind o.statements l) (see_step l (kinds o.frames))
 with-seen j o l =
     behind-seen j o (statements_behind o.statements l) (step_of l o.frames o.block)
     ∙ ap (see_behind (seen_of (j, Some o)) (seen_body o) (statements_behind o.statements l)) (step-seen l o.frames o.block)
 
-said-seen : (j : JobTree) (o : Inside) (l : Line) → made seen_of (made (with_line j o) (within_limits o l)) ≡ see_said (seen_of (j, Some o)) (seen_body o) l
+said-seen : (j : JobTree) (o : Inside) (l : Line)
+    → made seen_of (made (with_line j o) (within_limits o l)) ≡ see_said (seen_of (j, Some o)) (seen_body o) l
 said-seen j o l =
     let n : ℕ = statements_behind o.statements l in
     let v : Seen = see_behind (seen_of (j, Some o)) (seen_body o) n (see_step l (kinds o.frames)) in
@@ -215,7 +219,8 @@ module _ (v : Seen) (o : SeenBody) (arrays bodies locals : List Word) (fits : Bo
   spawn-bare [] = refl
   spawn-bare (b ∷ ws) =
       spawn-parts v o (λ u. unwrap_or (place_from 0 bodies b) 0) (λ u. unwrap_or (place_from 0 [] b) 0) (named b) (expr_of Here ws)
-      ∙ ap (λ (e : Result Expr Code). made spawn_line (both (made (λ u. unwrap_or (place_from 0 [] b) 0) (named b)) e) >>= see_said v o) (expr-bare ws)
+      ∙ ap (λ (e : Result Expr Code). made spawn_line (both (made (λ u. unwrap_or (place_from 0 [] b) 0) (named b)) e) >>= see_said v o)
+      (expr-bare ws)
 
   let-bare : (ws : Words) → let_of Here ws ≡ let_of Bare ws
   let-bare [] = refl
@@ -226,9 +231,11 @@ module _ (v : Seen) (o : SeenBody) (arrays bodies locals : List Word) (fits : Bo
   unfolding cell_of
   put-bare kind [] = refl
   put-bare kind (c ∷ []) = refl
-  put-bare kind (c ∷ is ∷ ws) = ap (λ (e : Result Expr Code). made (put_line kind) (both (both (cell_of Here c) (is_equals is)) e)) (expr-bare ws)
+  put-bare kind (c ∷ is ∷ ws) =
+      ap (λ (e : Result Expr Code). made (put_line kind) (both (both (cell_of Here c) (is_equals is)) e)) (expr-bare ws)
 
-  line-bare : (k : Option Keyword) (ws : Words) → (line_behind Here fits k ws >>= see_said v o) ≡ (line_behind Bare fits k ws >>= see_said v o)
+  line-bare : (k : Option Keyword) (ws : Words)
+      → (line_behind Here fits k ws >>= see_said v o) ≡ (line_behind Bare fits k ws >>= see_said v o)
   unfolding line_behind
   line-bare None ws = refl
   line-bare (Some keyword.Let) ws = ap (λ (r : Result Line Code). r >>= see_said v o) (let-bare ws)
@@ -249,7 +256,8 @@ noted-seen bodies j o k ws =
     let v : Seen = seen_of (j, Some o) in
     bind-seen j o (line_behind (record { arrays = array_names j; bodies = bodies; locals = o.locals }) (can_else o.frames) k ws)
     ∙ line-bare v (seen_body o) (array_names j) bodies o.locals (can_else o.frames) k ws
-    ∙ ap (λ (b : Bool). line_behind (record { arrays = array_names j; bodies = []; locals = o.locals }) b k ws >>= see_said v (seen_body o)) (sym (else-seen o.frames))
+    ∙ ap (λ (b : Bool). line_behind (record { arrays = array_names j; bodies = []; locals = o.locals }) b k ws >>= see_said v (seen_body o))
+    (sym (else-seen o.frames))
 
 -- any line
 any-seen : (bodies : List Word) (j : JobTree) (i : Option Inside) (ws : Words)
@@ -257,9 +265,11 @@ any-seen : (bodies : List Word) (j : JobTree) (i : Option Inside) (ws : Words)
 any-seen bodies j None [] = refl
 any-seen bodies j (Some o) [] = refl
 any-seen bodies j None (k ∷ ws) = outer-seen bodies j (outer_of k) ws
-any-seen bodies j (Some o) (k ∷ ws) = noted-seen bodies j (mentioning j.format o (known_in j.format (keyword_of k)) ws) (known_in j.format (keyword_of k)) ws
+any-seen bodies j (Some o) (k ∷ ws) =
+    noted-seen bodies j (mentioning j.format o (known_in j.format (keyword_of k)) ws) (known_in j.format (keyword_of k)) ws
 
-made-twice : {A B C : Type 0} (f : A → B) (g : B → C) (h : A → C) (r : Result A Code) → ((x : A) → g (f x) ≡ h x) → made g (made f r) ≡ made h r
+made-twice : {A B C : Type 0} (f : A → B) (g : B → C) (h : A → C) (r : Result A Code) → ((x : A) → g (f x) ≡ h x)
+    → made g (made f r) ≡ made h r
 made-twice f g h (Ok x) e = ap (λ z. Ok z) (e x)
 made-twice f g h (Err c) e = refl
 

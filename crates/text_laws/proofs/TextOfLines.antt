@@ -90,15 +90,19 @@ spaced-no-lf : (ws : Words) → list_all is_printed ws ≡ true → laws.is_line
 spaced-no-lf [] e = refl
 spaced-no-lf (w ∷ ws) e =
     list_all-append (λ c. not (nat_eq c 10)) w (spaced ws)
-    ∙ and-true _ _ (all-through is_seen (λ c. not (nat_eq c 10)) w seen-no-lf (printed-seen w (and-left _ (list_all is_printed ws) e))) (spaced-no-lf ws (and-right (is_printed w) _ e))
+    ∙ and-true _ _ (all-through is_seen (λ c. not (nat_eq c 10)) w seen-no-lf (printed-seen w (and-left _ (list_all is_printed ws) e)))
+    (spaced-no-lf ws (and-right (is_printed w) _ e))
 
 plain-no-lf : (l : Words) → is_plain_line l ≡ true → laws.is_line (line_bytes l) ≡ true
 plain-no-lf [] e = absurd cc
-plain-no-lf (w ∷ ws) e = spaced-no-lf (w ∷ ws) (and-true _ _ (and-right (not (begins_comment w)) _ (and-left _ (list_all is_printed ws) e)) (and-right _ (list_all is_printed ws) e))
+plain-no-lf (w ∷ ws) e =
+    spaced-no-lf (w ∷ ws)
+    (and-true _ _ (and-right (not (begins_comment w)) _ (and-left _ (list_all is_printed ws) e)) (and-right _ (list_all is_printed ws) e))
 
 all-lines : (ls : List Words) → list_all is_plain_line ls ≡ true → list_all laws.is_line (map line_bytes ls) ≡ true
 all-lines [] e = refl
-all-lines (l ∷ ls) e = and-true _ _ (plain-no-lf l (and-left _ (list_all is_plain_line ls) e)) (all-lines ls (and-right (is_plain_line l) _ e))
+all-lines (l ∷ ls) e =
+    and-true _ _ (plain-no-lf l (and-left _ (list_all is_plain_line ls) e)) (all-lines ls (and-right (is_plain_line l) _ e))
 
 line-joined : (l : Words) → line_text l ≡ line_bytes l ++ 10 ∷ []
 line-joined [] = refl
@@ -122,20 +126,24 @@ kept-lines (l ∷ ls) e =
 -- the lines of their text, without those that are skipped
 pub lines-back : (ls : List Words) → list_all is_plain_line ls ≡ true → kept (lines_of (text_of ls)) ≡ ls
 lines-back ls e =
-    ap (λ (x : List ℕ). kept (lines_of x)) (text-joined ls) ∙ ap kept (joined_lines (map line_bytes ls) (all-lines ls e)).0 ∙ kept-lines ls e
+    ap (λ (x : List ℕ). kept (lines_of x)) (text-joined ls) ∙ ap kept (joined_lines (map line_bytes ls) (all-lines ls e)).0
+    ∙ kept-lines ls e
 
 spaced-allowed : (ws : Words) → list_all is_printed ws ≡ true → list_all is_allowed (spaced ws) ≡ true
 spaced-allowed [] e = refl
 spaced-allowed (w ∷ ws) e =
     list_all-append is_allowed w (spaced ws)
-    ∙ and-true _ _ (all-through is_seen is_allowed w seen-allowed (printed-seen w (and-left _ (list_all is_printed ws) e))) (spaced-allowed ws (and-right (is_printed w) _ e))
+    ∙ and-true _ _ (all-through is_seen is_allowed w seen-allowed (printed-seen w (and-left _ (list_all is_printed ws) e)))
+    (spaced-allowed ws (and-right (is_printed w) _ e))
 
 line-allowed : (l : Words) → is_plain_line l ≡ true → list_all is_allowed (line_text l) ≡ true
 line-allowed [] e = absurd cc
 line-allowed (w ∷ ws) e =
     ap (list_all is_allowed) (line-joined (w ∷ ws))
     ∙ list_all-append is_allowed (w ++ spaced ws) (10 ∷ [])
-    ∙ and-true _ true (spaced-allowed (w ∷ ws) (and-true _ _ (and-right (not (begins_comment w)) _ (and-left _ (list_all is_printed ws) e)) (and-right _ (list_all is_printed ws) e))) refl
+    ∙ and-true _ true
+    (spaced-allowed (w ∷ ws) (and-true _ _ (and-right (not (begins_comment w)) _ (and-left _ (list_all is_printed ws) e)) (and-right _ (list_all is_printed ws) e)))
+    refl
 
 text-allowed : (ls : List Words) → list_all is_plain_line ls ≡ true → list_all is_allowed (text_of ls) ≡ true
 text-allowed [] e = refl

@@ -50,17 +50,20 @@ Which a b c x y z (OfTree h) = (b ≡ true) × (y ≡ Ok h)
 Which a b c x y z (OfBarrier h) = (c ≡ true) × (z ≡ Ok h)
 
 which : (a b c : Bool) (x : Result PhaserHead Code) (y : Result TreeAsked Code) (z : Result BarrierHead Code) (h : Head)
-    → (if a then made OfPhaser x else if b then made OfTree y else if c then made OfBarrier z else Err BadHeader) ≡ Ok h → Which a b c x y z h
+    → (if a then made OfPhaser x else if b then made OfTree y else if c then made OfBarrier z else Err BadHeader) ≡ Ok h
+    → Which a b c x y z h
 which true b c x y z h e = let m = from-made OfPhaser x h e in subst (Which true b c x y z) m.2 (refl, m.1)
 which false true c x y z h e = let m = from-made OfTree y h e in subst (Which false true c x y z) m.2 (refl, m.1)
 which false false true x y z h e = let m = from-made OfBarrier z h e in subst (Which false false true x y z) m.2 (refl, m.1)
 which false false false x y z h e = absurd (let wrong : ◌≡◌ {A = Result Head Code} (Err BadHeader) (Ok h) = e in cc)
 
 first : (w : Word) (ws : List Word) (h : Head) → head_of (w ∷ ws) ≡ Ok h
-    → Which (bytes_eq w (codes "phaser")) (bytes_eq w (codes "tree")) (bytes_eq w (codes "barrier")) (numbered (head_words ws)) (tree_numbered (tree_head_words ws))
+    → Which (bytes_eq w (codes "phaser")) (bytes_eq w (codes "tree")) (bytes_eq w (codes "barrier")) (numbered (head_words ws))
+    (tree_numbered (tree_head_words ws))
     (barrier_numbered (barrier_head_words ws)) h
 first w ws h e =
-    which (bytes_eq w (codes "phaser")) (bytes_eq w (codes "tree")) (bytes_eq w (codes "barrier")) (numbered (head_words ws)) (tree_numbered (tree_head_words ws))
+    which (bytes_eq w (codes "phaser")) (bytes_eq w (codes "tree")) (bytes_eq w (codes "barrier")) (numbered (head_words ws))
+    (tree_numbered (tree_head_words ws))
     (barrier_numbered (barrier_head_words ws)) h e
 
 word-is : (w k : Word) → bytes_eq w k ≡ true → w ≡ k
@@ -79,7 +82,8 @@ words-said (w ∷ ws) h e =
     let b = from-next _ (take_behind (codes "at") a.0.1) h a.2 in
     let c = at-end _ h b.0.1 b.2 in
     let last : a.0.1 ≡ keyed (codes "at") b.0.0 =
-    taken-behind (codes "at") a.0.1 b.0 b.1 ∙ ap (λ (x : List Word). keyed (codes "at") b.0.0 ++ x) c.0 ∙ append-nil (keyed (codes "at") b.0.0) in
+    taken-behind (codes "at") a.0.1 b.0 b.1 ∙ ap (λ (x : List Word). keyed (codes "at") b.0.0 ++ x) c.0
+    ∙ append-nil (keyed (codes "at") b.0.0) in
     let rest : (take_number ws).1 ≡ keyed (codes "least") a.0.0 ++ keyed (codes "at") b.0.0 =
     taken-behind (codes "least") (take_number ws).1 a.0 a.1 ∙ ap (λ (x : List Word). keyed (codes "least") a.0.0 ++ x) last in
     ap (λ (x : List Word). w ∷ x) (front.0 ∙ ap (λ (x : List Word). alone (take_number ws).0 ++ x) rest) ∙ ap laid c.1
@@ -117,8 +121,10 @@ phaser-said (w ∷ ws) h e =
       phase = alone n.0.phase;
       least = keyed (codes "least") n.0.least;
       at = keyed (codes "at") n.0.at;
-      whole = ap (λ (x : Word). x ∷ ws) (word-is w (codes "phaser") f.0) ∙ ap (λ (x : List Word). codes "phaser" ∷ x) (words-said ws n.0 n.1)
-          ∙ ap (λ (x : Word). codes "phaser" ∷ x ∷ (alone n.0.phase ++ (keyed (codes "least") n.0.least ++ keyed (codes "at") n.0.at))) parties.0;
+      whole =
+          ap (λ (x : Word). x ∷ ws) (word-is w (codes "phaser") f.0) ∙ ap (λ (x : List Word). codes "phaser" ∷ x) (words-said ws n.0 n.1)
+          ∙ ap (λ (x : Word). codes "phaser" ∷ x ∷ (alone n.0.phase ++ (keyed (codes "least") n.0.least ++ keyed (codes "at") n.0.at)))
+          parties.0;
       phase_is = phase.0;
       least_is = least.0;
       at_is = at.0;
@@ -129,16 +135,21 @@ phaser-said (w ∷ ws) h e =
     }
 
 words-read : (p : Word) (phase least at : Option Word) → Begins phase
-    → head_words (p ∷ (alone phase ++ (keyed (codes "least") least ++ keyed (codes "at") at))) ≡ Some (record { parties = p; phase = phase; least = least; at = at })
+    → head_words (p ∷ (alone phase ++ (keyed (codes "least") least ++ keyed (codes "at") at)))
+    ≡ Some (record { parties = p; phase = phase; least = least; at = at })
 words-read p None None None b = refl
 words-read p None None (Some q) b = refl
 words-read p None (Some l) None b = refl
 words-read p None (Some l) (Some q) b = refl
 words-read p (Some w) None None b = ap (λ (c : Bool). words_after p (if c then (Some w, []) else (None, w ∷ []))) b
-words-read p (Some w) None (Some q) b = ap (λ (c : Bool). words_after p (if c then (Some w, codes "at" ∷ q ∷ []) else (None, w ∷ codes "at" ∷ q ∷ []))) b
-words-read p (Some w) (Some l) None b = ap (λ (c : Bool). words_after p (if c then (Some w, codes "least" ∷ l ∷ []) else (None, w ∷ codes "least" ∷ l ∷ []))) b
+words-read p (Some w) None (Some q) b =
+    ap (λ (c : Bool). words_after p (if c then (Some w, codes "at" ∷ q ∷ []) else (None, w ∷ codes "at" ∷ q ∷ []))) b
+words-read p (Some w) (Some l) None b =
+    ap (λ (c : Bool). words_after p (if c then (Some w, codes "least" ∷ l ∷ []) else (None, w ∷ codes "least" ∷ l ∷ []))) b
 words-read p (Some w) (Some l) (Some q) b =
-    ap (λ (c : Bool). words_after p (if c then (Some w, codes "least" ∷ l ∷ codes "at" ∷ q ∷ []) else (None, w ∷ codes "least" ∷ l ∷ codes "at" ∷ q ∷ []))) b
+    ap
+    (λ (c : Bool). words_after p (if c then (Some w, codes "least" ∷ l ∷ codes "at" ∷ q ∷ []) else (None, w ∷ codes "least" ∷ l ∷ codes "at" ∷ q ∷ [])))
+    b
 
 numbers-read : (w : HeadWords) (h : PhaserHead) → NumbersSaid w h → head_numbers w ≡ Some h
 numbers-read w h s =
@@ -148,14 +159,19 @@ numbers-read w h s =
 phaser-read : (words : List Word) (h : PhaserHead) → SpellsPhaser h words → head_of words ≡ Ok (OfPhaser h)
 phaser-read words h s =
     let phase : IsPart s.phase h.phase 2147483647 0 = number-part 2147483647 0 h.phase s.phase (omega arith) s.phase_fits s.phase_is in
-    let least : IsKeyPart (codes "least") s.least h.plan.least 65536 1 = key-part (codes "least") 65536 1 h.plan.least s.least (omega arith) s.least_fits s.least_is in
-    let at : IsIfPart (codes "at") s.at h.plan.at 2147483647 = if-part (codes "at") 2147483647 h.plan.at s.at (omega arith) s.at_fits s.at_is in
+    let least : IsKeyPart (codes "least") s.least h.plan.least 65536 1 =
+    key-part (codes "least") 65536 1 h.plan.least s.least (omega arith) s.least_fits s.least_is in
+    let at : IsIfPart (codes "at") s.at h.plan.at 2147483647 =
+    if-part (codes "at") 2147483647 h.plan.at s.at (omega arith) s.at_fits s.at_is in
     let w : HeadWords = record { parties = signed_decimal h.parties; phase = phase.word; least = least.word; at = at.word } in
     let same : words ≡ codes "phaser" ∷ laid w =
     s.whole ∙ ap (λ (x : List Word). codes "phaser" ∷ signed_decimal h.parties ∷ (x ++ (s.least ++ s.at))) phase.same
     ∙ ap (λ (x : List Word). codes "phaser" ∷ signed_decimal h.parties ∷ (alone phase.word ++ (x ++ s.at))) least.same
-    ∙ ap (λ (x : List Word). codes "phaser" ∷ signed_decimal h.parties ∷ (alone phase.word ++ (keyed (codes "least") least.word ++ x))) at.same in
-    ap head_of same ∙ ap (λ (o : Option HeadWords). made OfPhaser (numbered o)) (words-read (signed_decimal h.parties) phase.word least.word at.word phase.begins)
+    ∙ ap (λ (x : List Word). codes "phaser" ∷ signed_decimal h.parties ∷ (alone phase.word ++ (keyed (codes "least") least.word ++ x)))
+    at.same in
+    ap head_of same
+    ∙ ap (λ (o : Option HeadWords). made OfPhaser (numbered o))
+    (words-read (signed_decimal h.parties) phase.word least.word at.word phase.begins)
     ∙ ap (λ (o : Option PhaserHead). made OfPhaser (or_else BadNumber o))
     (numbers-read w h (record { parties = numbers_law.0 h.parties s.parties_fit; phase = phase.says; least = least.says; at = at.says }))
 
@@ -172,7 +188,8 @@ tree-words-said (w ∷ ws) h e =
     let b = from-next _ (take_behind (codes "at") keep.1) h e in
     let c = at-end _ h b.0.1 b.2 in
     let last : keep.1 ≡ keyed (codes "at") b.0.0 =
-    taken-behind (codes "at") keep.1 b.0 b.1 ∙ ap (λ (x : List Word). keyed (codes "at") b.0.0 ++ x) c.0 ∙ append-nil (keyed (codes "at") b.0.0) in
+    taken-behind (codes "at") keep.1 b.0 b.1 ∙ ap (λ (x : List Word). keyed (codes "at") b.0.0 ++ x) c.0
+    ∙ append-nil (keyed (codes "at") b.0.0) in
     let rest : (take_number ws).1 ≡ worded (codes "keep") keep.0 ++ keyed (codes "at") b.0.0 =
     taken-keyword (codes "keep") (take_number ws).1 ∙ ap (λ (x : List Word). worded (codes "keep") keep.0 ++ x) last in
     ap (λ (x : List Word). w ∷ x) (front.0 ∙ ap (λ (x : List Word). alone (take_number ws).0 ++ x) rest) ∙ ap laid_tree c.1
@@ -190,7 +207,8 @@ tree-numbers-said w h e =
     let same : record { widths = w.widths; phase = b.0; plan = record { when_empty = not w.keep; at = d.0 } } ≡ h = cc in
     subst (TreeNumbersSaid w) same (record { widths = refl; phase = b.1; keep = refl; at = d.1 })
 
-from-tree-numbered : (o : Option TreeHeadWords) (h : TreeAsked) → tree_numbered o ≡ Ok h → (w : TreeHeadWords) × (o ≡ Some w) × (tree_head_numbers w ≡ Some h)
+from-tree-numbered : (o : Option TreeHeadWords) (h : TreeAsked) → tree_numbered o ≡ Ok h
+    → (w : TreeHeadWords) × (o ≡ Some w) × (tree_head_numbers w ≡ Some h)
 from-tree-numbered (Some w) h e = (w, refl, from-or BadNumber (tree_head_numbers w) h e)
 from-tree-numbered None h e = absurd (let wrong : ◌≡◌ {A = Result TreeAsked Code} (Err BadLine) (Ok h) = e in cc)
 
@@ -211,8 +229,10 @@ tree-said (w ∷ ws) h e =
       phase = alone n.0.phase;
       keep = worded (codes "keep") (not h.plan.when_empty);
       at = keyed (codes "at") n.0.at;
-      whole = ap (λ (x : Word). x ∷ ws) (word-is w (codes "tree") f.0) ∙ ap (λ (x : List Word). codes "tree" ∷ x) (tree-words-said ws n.0 n.1)
-          ∙ ap (λ (x : Word). codes "tree" ∷ x ∷ (alone n.0.phase ++ (worded (codes "keep") n.0.keep ++ keyed (codes "at") n.0.at))) s.widths
+      whole =
+          ap (λ (x : Word). x ∷ ws) (word-is w (codes "tree") f.0) ∙ ap (λ (x : List Word). codes "tree" ∷ x) (tree-words-said ws n.0 n.1)
+          ∙ ap (λ (x : Word). codes "tree" ∷ x ∷ (alone n.0.phase ++ (worded (codes "keep") n.0.keep ++ keyed (codes "at") n.0.at)))
+          s.widths
           ∙ ap (λ (x : Bool). codes "tree" ∷ h.widths ∷ (alone n.0.phase ++ (worded (codes "keep") x ++ keyed (codes "at") n.0.at))) keep;
       phase_is = phase.0;
       keep_is = worded-said (codes "keep") (not h.plan.when_empty);
@@ -222,7 +242,8 @@ tree-said (w ∷ ws) h e =
     }
 
 tree-words-read : (p : Word) (phase : Option Word) (keep : Bool) (at : Option Word) → Begins phase
-    → tree_head_words (p ∷ (alone phase ++ (worded (codes "keep") keep ++ keyed (codes "at") at))) ≡ Some (record { widths = p; phase = phase; keep = keep; at = at })
+    → tree_head_words (p ∷ (alone phase ++ (worded (codes "keep") keep ++ keyed (codes "at") at)))
+    ≡ Some (record { widths = p; phase = phase; keep = keep; at = at })
 tree-words-read p None false None b = refl
 tree-words-read p None false (Some q) b = refl
 tree-words-read p None true None b = refl
@@ -230,9 +251,12 @@ tree-words-read p None true (Some q) b = refl
 tree-words-read p (Some w) false None b = ap (λ (c : Bool). words_after_phase p (if c then (Some w, []) else (None, w ∷ []))) b
 tree-words-read p (Some w) false (Some q) b =
     ap (λ (c : Bool). words_after_phase p (if c then (Some w, codes "at" ∷ q ∷ []) else (None, w ∷ codes "at" ∷ q ∷ []))) b
-tree-words-read p (Some w) true None b = ap (λ (c : Bool). words_after_phase p (if c then (Some w, codes "keep" ∷ []) else (None, w ∷ codes "keep" ∷ []))) b
+tree-words-read p (Some w) true None b =
+    ap (λ (c : Bool). words_after_phase p (if c then (Some w, codes "keep" ∷ []) else (None, w ∷ codes "keep" ∷ []))) b
 tree-words-read p (Some w) true (Some q) b =
-    ap (λ (c : Bool). words_after_phase p (if c then (Some w, codes "keep" ∷ codes "at" ∷ q ∷ []) else (None, w ∷ codes "keep" ∷ codes "at" ∷ q ∷ []))) b
+    ap
+    (λ (c : Bool). words_after_phase p (if c then (Some w, codes "keep" ∷ codes "at" ∷ q ∷ []) else (None, w ∷ codes "keep" ∷ codes "at" ∷ q ∷ [])))
+    b
 
 not-not : (b : Bool) → not (not b) ≡ b
 not-not true = refl
@@ -241,16 +265,19 @@ not-not false = refl
 tree-read : (words : List Word) (h : TreeAsked) → SpellsTree h words → head_of words ≡ Ok (OfTree h)
 tree-read words h s =
     let phase : IsPart s.phase h.phase 2147483647 0 = number-part 2147483647 0 h.phase s.phase (omega arith) s.phase_fits s.phase_is in
-    let at : IsIfPart (codes "at") s.at h.plan.at 2147483647 = if-part (codes "at") 2147483647 h.plan.at s.at (omega arith) s.at_fits s.at_is in
+    let at : IsIfPart (codes "at") s.at h.plan.at 2147483647 =
+    if-part (codes "at") 2147483647 h.plan.at s.at (omega arith) s.at_fits s.at_is in
     let keep : Bool = not h.plan.when_empty in
     let same : words ≡ codes "tree" ∷ laid_tree (record { widths = h.widths; phase = phase.word; keep = keep; at = at.word }) =
     s.whole ∙ ap (λ (x : List Word). codes "tree" ∷ h.widths ∷ (x ++ (s.keep ++ s.at))) phase.same
     ∙ ap (λ (x : List Word). codes "tree" ∷ h.widths ∷ (alone phase.word ++ (x ++ s.at))) (worded-is (codes "keep") keep s.keep s.keep_is)
     ∙ ap (λ (x : List Word). codes "tree" ∷ h.widths ∷ (alone phase.word ++ (worded (codes "keep") keep ++ x))) at.same in
-    ap head_of same ∙ ap (λ (o : Option TreeHeadWords). made OfTree (tree_numbered o)) (tree-words-read h.widths phase.word keep at.word phase.begins)
+    ap head_of same
+    ∙ ap (λ (o : Option TreeHeadWords). made OfTree (tree_numbered o)) (tree-words-read h.widths phase.word keep at.word phase.begins)
     ∙ ap (λ (o : Option TreeAsked). made OfTree (or_else BadNumber o))
     (next-some _ (number_or 2147483647 0 phase.word) h.phase phase.says ∙ next-some _ (number_if 2147483647 at.word) h.plan.at at.says
-    ∙ ap (λ (b : Bool). Some (record { widths = h.widths; phase = h.phase; plan = record { when_empty = b; at = h.plan.at } })) (not-not h.plan.when_empty))
+    ∙ ap (λ (b : Bool). Some (record { widths = h.widths; phase = h.phase; plan = record { when_empty = b; at = h.plan.at } }))
+    (not-not h.plan.when_empty))
 
 -- a barrier's head
 
@@ -263,7 +290,8 @@ barrier-words-said (w ∷ ws) h e =
     let b = from-next _ (take_behind (codes "fails") ws) h e in
     let c = at-end _ h b.0.1 b.2 in
     ap (λ (x : List Word). w ∷ x)
-    (taken-behind (codes "fails") ws b.0 b.1 ∙ ap (λ (x : List Word). keyed (codes "fails") b.0.0 ++ x) c.0 ∙ append-nil (keyed (codes "fails") b.0.0))
+    (taken-behind (codes "fails") ws b.0 b.1 ∙ ap (λ (x : List Word). keyed (codes "fails") b.0.0 ++ x) c.0
+    ∙ append-nil (keyed (codes "fails") b.0.0))
     ∙ ap laid_barrier c.1
 
 record BarrierNumbersSaid (w : BarrierHeadWords) (h : BarrierHead) : Type 0 where
@@ -277,7 +305,8 @@ barrier-numbers-said w h e =
     let same : record { parties = a.0; fails = b.0 } ≡ h = cc in
     subst (BarrierNumbersSaid w) same (record { parties = a.1; fails = b.1 })
 
-from-barrier-numbered : (o : Option BarrierHeadWords) (h : BarrierHead) → barrier_numbered o ≡ Ok h → (w : BarrierHeadWords) × (o ≡ Some w) × (barrier_head_numbers w ≡ Some h)
+from-barrier-numbered : (o : Option BarrierHeadWords) (h : BarrierHead) → barrier_numbered o ≡ Ok h
+    → (w : BarrierHeadWords) × (o ≡ Some w) × (barrier_head_numbers w ≡ Some h)
 from-barrier-numbered (Some w) h e = (w, refl, from-or BadNumber (barrier_head_numbers w) h e)
 from-barrier-numbered None h e = absurd (let wrong : ◌≡◌ {A = Result BarrierHead Code} (Err BadLine) (Ok h) = e in cc)
 
@@ -291,14 +320,17 @@ barrier-said (w ∷ ws) h e =
     let fails = generation-said (codes "fails") h.fails n.0.fails s.fails in
     record {
       fails = keyed (codes "fails") n.0.fails;
-      whole = ap (λ (x : Word). x ∷ ws) (word-is w (codes "barrier") f.0) ∙ ap (λ (x : List Word). codes "barrier" ∷ x) (barrier-words-said ws n.0 n.1)
+      whole =
+          ap (λ (x : Word). x ∷ ws) (word-is w (codes "barrier") f.0)
+          ∙ ap (λ (x : List Word). codes "barrier" ∷ x) (barrier-words-said ws n.0 n.1)
           ∙ ap (λ (x : Word). codes "barrier" ∷ x ∷ keyed (codes "fails") n.0.fails) parties.0;
       fails_is = fails.0;
       parties_fit = parties.1;
       fails_fit = fails.1;
     }
 
-barrier-words-read : (p : Word) (fails : Option Word) → barrier_head_words (p ∷ keyed (codes "fails") fails) ≡ Some (record { parties = p; fails = fails })
+barrier-words-read : (p : Word) (fails : Option Word)
+    → barrier_head_words (p ∷ keyed (codes "fails") fails) ≡ Some (record { parties = p; fails = fails })
 barrier-words-read p None = refl
 barrier-words-read p (Some g) = refl
 
@@ -307,9 +339,12 @@ barrier-read words h s =
     let fails : IsGenerationPart (codes "fails") s.fails h.fails = generation-part (codes "fails") h.fails s.fails s.fails_fit s.fails_is in
     let same : words ≡ codes "barrier" ∷ laid_barrier (record { parties = signed_decimal h.parties; fails = fails.word }) =
     s.whole ∙ ap (λ (x : List Word). codes "barrier" ∷ signed_decimal h.parties ∷ x) fails.same in
-    ap head_of same ∙ ap (λ (o : Option BarrierHeadWords). made OfBarrier (barrier_numbered o)) (barrier-words-read (signed_decimal h.parties) fails.word)
+    ap head_of same
+    ∙ ap (λ (o : Option BarrierHeadWords). made OfBarrier (barrier_numbered o))
+    (barrier-words-read (signed_decimal h.parties) fails.word)
     ∙ ap (λ (o : Option BarrierHead). made OfBarrier (or_else BadNumber o))
-    (next-some _ (number_of (signed_decimal h.parties)) h.parties (numbers_law.0 h.parties s.parties_fit) ∙ next-some _ (generation_if fails.word) h.fails fails.says)
+    (next-some _ (number_of (signed_decimal h.parties)) h.parties (numbers_law.0 h.parties s.parties_fit)
+    ∙ next-some _ (generation_if fails.word) h.fails fails.says)
 
 pub heads-spelled : HeadsAreSpelled
 heads-spelled = (

@@ -74,30 +74,35 @@ go-stays s token core =
     let next : MayPlay s token (turn_at s token) = turn_may s token core a.0 a.1 in
     played-stays s token (turn_at s token) core a.0 next
     (no-advance (turn_at s token).kind (λ ends e.
-    active_owes s.parents (call_at s.calls token) (view_at s.views token) a.1 (core.calls token a.0) (advancing s token (turn_at s token) ends next e))))
+    active_owes s.parents (call_at s.calls token) (view_at s.views token) a.1 (core.calls token a.0)
+    (advancing s token (turn_at s token) ends next e))))
     (λ _. refl)
 
 -- what a step prints that leaves the root in its phase
-alone : (old new : State) (text : List ℕ) (a : Answer) → (root_of new).phase ≡ (root_of old).phase → text ≡ answer_text a → IsInOrder old new text a
+alone : (old new : State) (text : List ℕ) (a : Answer) → (root_of new).phase ≡ (root_of old).phase → text ≡ answer_text a
+    → IsInOrder old new text a
 alone old new text a same e = record { advances = λ n. absurd (n same); done = λ n. absurd (n same); stays = λ _. e }
 
 -- the advance itself
 
 moves-on : (n : ℕ) → next_phase_of n ≢ n
-moves-on n = by_test (λ b. cond b 0 (n + 1) ≢ n) (n == 2147483647) (λ e h. absurd (grind (arith, common_steps))) (λ e h. absurd (omega arith))
+moves-on n =
+    by_test (λ b. cond b 0 (n + 1) ≢ n) (n == 2147483647) (λ e h. absurd (grind (arith, common_steps))) (λ e h. absurd (omega arith))
 
 -- the root as the step of a token leaves it that has to advance: it advances, or the token looks at a root that has ended
 finish-left : (s : State) (token : ℕ) → IsCore s
     → root_of (played_by s token (finish_at s token (plan_ends s)))
     ≡ word_after (cond (root_of s).ended Look (Advance (plan_ends s))) 0 (root_of s) (view_at s.views token)
 finish-left s token core =
-    get_or-set_same s.words 0 (word_after (cond (root_of s).ended Look (Advance (plan_ends s))) 0 (root_of s) (view_at s.views token)) blank core.tally.some
+    get_or-set_same s.words 0 (word_after (cond (root_of s).ended Look (Advance (plan_ends s))) 0 (root_of s) (view_at s.views token)) blank
+    core.tally.some
 
 -- in the phase that the root is in
 done-now : (s : State) (token : ℕ) → IsCore s → may_finish s token ≡ true → (view_at s.views token).phase ≡ (root_of s).phase
 done-now s token core may =
     let a = known_due s token may in
-    let owes : (view_at s.views token).errand ≡ Advancing = due_advances s.parents (call_at s.calls token) (view_at s.views token) a.1 (core.calls token a.0) in
+    let owes : (view_at s.views token).errand ≡ Advancing =
+    due_advances s.parents (call_at s.calls token) (view_at s.views token) a.1 (core.calls token a.0) in
     subst (λ (e : Errand). ErrandFits s.parents (root_phase s.words) (view_at s.views token) e) owes (fits_at s token core a.0).errand
 
 abbrev played_line : State → ℕ → List ℕ
@@ -107,7 +112,8 @@ finish-reported : (s : State) (token : ℕ) (ended ends : Bool) (t : State) → 
     → root_of t ≡ word_after (cond ended Look (Advance ends)) 0 (root_of s) (view_at s.views token)
     → IsInOrder s t ((if not ended then advance_line (root_of s).phase (root_of s).parties else []) ++ played_line s token)
     (answer.Played (played.Done (view_at s.views token).phase))
-finish-reported s token true ends t now e = alone s t (played_line s token) (answer.Played (played.Done (view_at s.views token).phase)) (ap (λ w. w.phase) e) refl
+finish-reported s token true ends t now e =
+    alone s t (played_line s token) (answer.Played (played.Done (view_at s.views token).phase)) (ap (λ w. w.phase) e) refl
 finish-reported s token false ends t now e = record {
   advances = λ n. ap (λ k. advance_line (root_of s).phase k ++ played_line s token) (sym (ap (λ w. w.parties) e));
   done = λ n. ap (λ k. answer.Played (played.Done k)) now;
@@ -116,11 +122,13 @@ finish-reported s token false ends t now e = record {
 
 -- a step with which a token goes on, and what is printed in front of its answer
 finish-first : (s : State) (token : ℕ) → IsCore s → may_finish s token ≡ true
-    → IsInOrder s (after s (step.Finish token)) (advance_reported s token ++ answer_text (answer_to s (step.Finish token))) (answer_to s (step.Finish token))
+    → IsInOrder s (after s (step.Finish token)) (advance_reported s token ++ answer_text (answer_to s (step.Finish token)))
+    (answer_to s (step.Finish token))
 finish-first s token core may =
     let r : Turn = finish_at s token (plan_ends s) in
     subst (λ (b : Bool). IsInOrder s (if b then played_by s token r else s)
-    ((if b && not (root_of s).ended then advance_line (root_of s).phase (root_of s).parties else []) ++ answer_text (if b then answer.Played r.answer else answer.NotNow))
+    ((if b && not (root_of s).ended then advance_line (root_of s).phase (root_of s).parties else [])
+    ++ answer_text (if b then answer.Played r.answer else answer.NotNow))
     (if b then answer.Played r.answer else answer.NotNow)) (sym may)
     (finish-reported s token (root_of s).ended (plan_ends s) (played_by s token r) (done-now s token core may) (finish-left s token core))
 
@@ -128,17 +136,21 @@ unreported : (s : State) (token : ℕ) → may_finish s token ≡ false → adva
 unreported s token no_ = ap (λ b. if b && not (root_of s).ended then advance_line (root_of s).phase (root_of s).parties else []) no_
 
 unfinished : (s : State) (token : ℕ) → may_finish s token ≡ false
-    → IsInOrder s (after s (step.Finish token)) (advance_reported s token ++ answer_text (answer_to s (step.Finish token))) (answer_to s (step.Finish token))
+    → IsInOrder s (after s (step.Finish token)) (advance_reported s token ++ answer_text (answer_to s (step.Finish token)))
+    (answer_to s (step.Finish token))
 unfinished s token no_ =
     let r : Turn = finish_at s token (plan_ends s) in
     subst (λ (b : Bool). IsInOrder s (if b then played_by s token r else s)
-    ((if b && not (root_of s).ended then advance_line (root_of s).phase (root_of s).parties else []) ++ answer_text (if b then answer.Played r.answer else answer.NotNow))
+    ((if b && not (root_of s).ended then advance_line (root_of s).phase (root_of s).parties else [])
+    ++ answer_text (if b then answer.Played r.answer else answer.NotNow))
     (if b then answer.Played r.answer else answer.NotNow)) (sym no_) (alone s s (answer_text answer.NotNow) answer.NotNow refl refl)
 
 finish-order : (s : State) (token : ℕ) → IsCore s
-    → IsInOrder s (after s (step.Finish token)) (advance_reported s token ++ answer_text (answer_to s (step.Finish token))) (answer_to s (step.Finish token))
+    → IsInOrder s (after s (step.Finish token)) (advance_reported s token ++ answer_text (answer_to s (step.Finish token)))
+    (answer_to s (step.Finish token))
 finish-order s token core =
-    by_test (λ b. IsInOrder s (after s (step.Finish token)) (advance_reported s token ++ answer_text (answer_to s (step.Finish token))) (answer_to s (step.Finish token)))
+    by_test
+    (λ b. IsInOrder s (after s (step.Finish token)) (advance_reported s token ++ answer_text (answer_to s (step.Finish token))) (answer_to s (step.Finish token)))
     (may_finish s token) (finish-first s token core) (unfinished s token)
 
 goes-finish : (s : State) (token : ℕ) → may_finish s token ≡ true → going_on s token ≡ step.Finish token
@@ -148,9 +160,11 @@ goes-go : (s : State) (token : ℕ) → may_finish s token ≡ false → going_o
 goes-go s token no_ = ap (λ b. if b then step.Finish token else step.Go token) no_
 
 one-order : (s : State) (token : ℕ) → IsCore s
-    → IsInOrder s (after s (going_on s token)) (advance_reported s token ++ answer_text (answer_to s (going_on s token))) (answer_to s (going_on s token))
+    → IsInOrder s (after s (going_on s token)) (advance_reported s token ++ answer_text (answer_to s (going_on s token)))
+    (answer_to s (going_on s token))
 one-order s token core =
-    by_test (λ b. IsInOrder s (after s (going_on s token)) (advance_reported s token ++ answer_text (answer_to s (going_on s token))) (answer_to s (going_on s token)))
+    by_test
+    (λ b. IsInOrder s (after s (going_on s token)) (advance_reported s token ++ answer_text (answer_to s (going_on s token))) (answer_to s (going_on s token)))
     (may_finish s token)
     (λ may. subst (λ (x : Step). IsInOrder s (after s x) (advance_reported s token ++ answer_text (answer_to s x)) (answer_to s x)) (sym (goes-finish s token may))
     (finish-first s token core may))
@@ -166,7 +180,8 @@ finish-ends s token may =
 
 last_step : (steps token : ℕ) (s : State)
     → last_answer (suc steps) token s
-    ≡ (if is_underway (answer_to s (going_on s token)) then last_answer steps token (after s (going_on s token)) else answer_to s (going_on s token))
+    ≡ (if is_underway (answer_to s (going_on s token)) then last_answer steps token (after s (going_on s token))
+    else answer_to s (going_on s token))
 unfolding last_answer
 last_step steps token s = refl
 
@@ -191,7 +206,8 @@ carried s t t' l l' a a' e f g o = record {
 abbrev StepOrder : State → ℕ → ℕ → Bool → Type 0
 StepOrder s token n b =
     IsInOrder s (if b then rest_after n token (after s (going_on s token)) else after s (going_on s token))
-    (advance_reported s token ++ (if b then rest_text n token (after s (going_on s token)) else answer_text (answer_to s (going_on s token))))
+    (advance_reported s token
+    ++ (if b then rest_text n token (after s (going_on s token)) else answer_text (answer_to s (going_on s token))))
     (if b then last_answer n token (after s (going_on s token)) else answer_to s (going_on s token))
 
 from-step : (n token : ℕ) (s : State) → StepOrder s token n (is_underway (answer_to s (going_on s token)))
@@ -200,7 +216,8 @@ from-step n token s o =
     let b : Bool = is_underway (answer_to s (going_on s token)) in
     let next : State = after s (going_on s token) in
     carried s (if b then rest_after n token next else next) (rest_after (suc n) token s)
-    (advance_reported s token ++ (if b then rest_text n token next else answer_text (answer_to s (going_on s token)))) (rest_text (suc n) token s)
+    (advance_reported s token ++ (if b then rest_text n token next else answer_text (answer_to s (going_on s token))))
+    (rest_text (suc n) token s)
     (if b then last_answer n token next else answer_to s (going_on s token)) (last_answer (suc n) token s)
     (after_step n token s) (text_step n token s) (last_step n token s) o
 
@@ -215,7 +232,8 @@ goes-on : (n token : ℕ) (s : State) → IsCore s → is_underway (answer_to s 
 goes-on n token s core on rest =
     let next : State = after s (going_on s token) in
     let no_ : may_finish s token ≡ false =
-    by_test (λ b. b ≡ false) (may_finish s token) (λ may. not_both (is_underway (answer_to s (going_on s token))) on (finish-ends s token may)) (λ _. refl) in
+    by_test (λ b. b ≡ false) (may_finish s token)
+    (λ may. not_both (is_underway (answer_to s (going_on s token))) on (finish-ends s token may)) (λ _. refl) in
     let go : going_on s token ≡ step.Go token = goes-go s token no_ in
     let same : (root_of next).phase ≡ (root_of s).phase = ap (λ x. (root_of (after s x)).phase) go ∙ go-stays s token core in
     let kept : IsCore next = subst (λ (x : Step). IsCore (after s x)) (sym go) (core_after s (step.Go token) core tt) in
@@ -224,7 +242,8 @@ goes-on n token s core on rest =
     from-step n token s (subst (λ (b : Bool). StepOrder s token n b) (sym on)
     (subst (λ (l : List ℕ). IsInOrder s (rest_after n token next) (l ++ rest_text n token next) (last_answer n token next)) (sym (unreported s token no_)) here))
 
-rest-order : (n token : ℕ) (s : State) → IsCore s → IsAnsweredWithin n token s → IsInOrder s (rest_after n token s) (rest_text n token s) (last_answer n token s)
+rest-order : (n token : ℕ) (s : State) → IsCore s → IsAnsweredWithin n token s
+    → IsInOrder s (rest_after n token s) (rest_text n token s) (last_answer n token s)
 rest-order zero token s core within = absurd within
 rest-order (suc n) token s core (inl a) = once n token s core (answered s token a)
 rest-order (suc n) token s core (inr h) =
@@ -270,7 +289,8 @@ run-order s token tiers core known =
 -- each command
 
 begin-stays : (s : State) (token : ℕ) (c : Call) → (root_of (after s (step.Begin token c))).phase ≡ (root_of s).phase
-begin-stays s token c = by_test (λ b. (root_of (if b then begun s token c else s)).phase ≡ (root_of s).phase) (may_begin s token c) (λ _. refl) (λ _. refl)
+begin-stays s token c =
+    by_test (λ b. (root_of (if b then begun s token c else s)).phase ≡ (root_of s).phase) (may_begin s token c) (λ _. refl) (λ _. refl)
 
 is-call : (c : TokenCall) → HasMembers c → IsCall (call_of c)
 is-call (asked.Join tier n) h = h
@@ -280,7 +300,8 @@ is-call asked.Poll h = tt
 is-call asked.Force h = tt
 
 -- a call that begins is of a token and a tier that are there
-has-tier : (s : State) (token : ℕ) (c : TokenCall) → may_call (length s.parents) (call_of c) (view_at s.views token) ≡ true → has_tier s c ≡ true
+has-tier : (s : State) (token : ℕ) (c : TokenCall) → may_call (length s.parents) (call_of c) (view_at s.views token) ≡ true
+    → has_tier s c ≡ true
 has-tier s token (asked.Join tier n) e = (both_true (nat_lt tier (length s.parents)) ((view_at s.views token).size == 0) e).0
 has-tier s token asked.Arrive e = refl
 has-tier s token asked.Leave e = refl
@@ -289,14 +310,18 @@ has-tier s token asked.Force e = refl
 
 is-known : (s : State) (token : ℕ) (c : TokenCall) → may_begin s token (call_of c) ≡ true → (is_token s token && has_tier s c) ≡ true
 is-known s token c may =
-    let a = both_true (nat_lt token (length s.views)) (is_idle (call_at s.calls token) && may_call (length s.parents) (call_of c) (view_at s.views token)) may in
+    let a =
+    both_true (nat_lt token (length s.views))
+    (is_idle (call_at s.calls token) && may_call (length s.parents) (call_of c) (view_at s.views token)) may in
     let b = both_true (is_idle (call_at s.calls token)) (may_call (length s.parents) (call_of c) (view_at s.views token)) a.1 in
     ap (λ x. x && has_tier s c) a.0 ∙ has-tier s token c b.1
 
-known-text : (s : State) (token : ℕ) (c : TokenCall) (text : List ℕ) → (is_token s token && has_tier s c) ≡ true → if_known s token c text ≡ text
+known-text : (s : State) (token : ℕ) (c : TokenCall) (text : List ℕ) → (is_token s token && has_tier s c) ≡ true
+    → if_known s token c text ≡ text
 known-text s token c text e =
     let a = both_true (is_token s token) (has_tier s c) e in
-    ap (λ b. if b then (if has_tier s c then text else codes "no tier\n") else codes "no token\n") a.0 ∙ ap (λ b. if b then text else codes "no tier\n") a.1
+    ap (λ b. if b then (if has_tier s c then text else codes "no tier\n") else codes "no token\n") a.0
+    ∙ ap (λ b. if b then text else codes "no tier\n") a.1
 
 do-order : (s : State) (token : ℕ) (c : TokenCall) → IsTiers s.parents → IsCore s → HasMembers c
     → IsInOrder s (tree_after (command.Do token c) s)

@@ -21,7 +21,8 @@ upgraded-read text j e short = canonical-read (upgraded_tree j) (legal text j e)
 pub twice-once : UpgradingTwiceIsUpgradingOnce
 twice-once text j k e f =
     let again : IsTextOfJob k (canonical_text (upgraded_tree j)) = read-text (canonical_text (upgraded_tree j)) k f in
-    let read : job_in (canonical_text (upgraded_tree j)) ≡ Ok (upgraded_tree j) = canonical-read (upgraded_tree j) (legal text j e) again.short in
+    let read : job_in (canonical_text (upgraded_tree j)) ≡ Ok (upgraded_tree j) =
+    canonical-read (upgraded_tree j) (legal text j e) again.short in
     let both : ◌≡◌ {A = Result JobTree Refusal} (Ok k) (Ok (upgraded_tree j)) = sym f ∙ read in
     let same : k ≡ upgraded_tree j = cc in
     let twice : upgraded_tree k ≡ upgraded_tree j = ap upgraded_tree same in

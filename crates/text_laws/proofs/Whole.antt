@@ -45,7 +45,8 @@ text-lines-read ls j job w =
     (subst (λ (n : ℕ). n ≤ 64) (sym (length-map j.bodies (λ (b : BodyTree). b.name))) capacity.few_bodies) in
     let looked : declared ls ≡ names = job-declared j.format ls names w.items w.written few ∙ ap body_names w.said in
     let items : AreItems w.items = items-fit j.format w.items (subst AreFit (sym w.said) (fit j job)) in
-    let reads : Reads names (items_lines j.format [] names w.items) (no_job j.format, None) (j, None) = items-read names j capacity.bodies capacity w.items (no_job j.format) (joined-none j.format w.items ∙ w.said) items w.sound in
+    let reads : Reads names (items_lines j.format [] names w.items) (no_job j.format, None) (j, None) =
+    items-read names j capacity.bodies capacity w.items (no_job j.format) (joined-none j.format w.items ∙ w.said) items w.sound in
     ap (λ (x : List Word). read_from x 1 ls) looked
     ∙ header-read names j.format ls 1 (items_lines j.format [] names w.items) j job.format w.written
     (λ m behind e. lines-read names behind m (no_job j.format, None) (j, None) j (subst (λ (x : List Words). Reads names x (no_job j.format, None) (j, None)) (sym e) reads) refl)
@@ -53,9 +54,14 @@ text-lines-read ls j job w =
 pub text-of-job-read : TextsOfJobsAreRead
 unfolding job_in
 text-of-job-read text j h =
-    ap (λ (b : Bool). if b then refused 1 TooLong else unless_bad (bad_byte_line 1 text) (read_from (declared (lines_of text)) 1 (lines_of text))) (short-text (length text) h.short)
+    ap
+    (λ (b : Bool). if b then refused 1 TooLong
+    else unless_bad (bad_byte_line 1 text) (read_from (declared (lines_of text)) 1 (lines_of text)))
+    (short-text (length text) h.short)
     ∙ ap (λ (o : Option ℕ). unless_bad o (read_from (declared (lines_of text)) 1 (lines_of text))) h.clean
     ∙ text-lines-read (lines_of text) j h.job h.written
 
 pub one-job : OneJobAText
-one-job text j k h i = let same : ◌≡◌ {A = Result JobTree Refusal} (Ok j) (Ok k) = sym (text-of-job-read text j h) ∙ text-of-job-read text k i in cc
+one-job text j k h i =
+    let same : ◌≡◌ {A = Result JobTree Refusal} (Ok j) (Ok k) = sym (text-of-job-read text j h) ∙ text-of-job-read text k i in
+    cc

@@ -13,5 +13,6 @@ use Rattle.trace_text.specs.Answers.{reply_text, command_text}
 abbrev pub AdvancesComeFirst : Type 0
 AdvancesComeFirst =
     (plan : CountPlan) (call : Call) (f : Flat) → f.due ≡ false
-    → ((after plan call f).phase ≢ f.phase → command_text (command.Call call) f ≡ advance_line f.phase (registered (after plan call f)) ++ reply_text (answer call f))
+    → ((after plan call f).phase ≢ f.phase
+    → command_text (command.Call call) f ≡ advance_line f.phase (registered (after plan call f)) ++ reply_text (answer call f))
     × ((after plan call f).phase ≡ f.phase → command_text (command.Call call) f ≡ reply_text (answer call f))

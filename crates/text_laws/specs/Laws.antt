@@ -42,4 +42,5 @@ CanonicalTextsAreRead = (j : JobTree) → IsJobTree j → length (canonical_text
 -- What the canonical text of a read job is read as is that job, and has that same canonical text.
 abbrev pub WritingTwiceIsWritingOnce : Type 0
 WritingTwiceIsWritingOnce =
-    (text : List ℕ) (j k : JobTree) → job_in text ≡ Ok j → job_in (canonical_text j) ≡ Ok k → (k ≡ j) × (canonical_text k ≡ canonical_text j)
+    (text : List ℕ) (j k : JobTree) → job_in text ≡ Ok j → job_in (canonical_text j) ≡ Ok k
+    → (k ≡ j) × (canonical_text k ≡ canonical_text j)

@@ -36,7 +36,8 @@ RefusalsHoldForAllThatFollows =
 -- Texts that have the same lines up to it, that are short and whose bytes are allowed, are refused of it alike.
 abbrev pub PlainTextsAreRefusedAlike : Type 0
 PlainTextsAreRefusedAlike =
-    (text other : List ℕ) (r : Refusal) → IsRefusedOfALine text r → BeginAlike r.line text other → length other ≤ most_bytes → bad_byte_line 1 other ≡ None
+    (text other : List ℕ) (r : Refusal) → IsRefusedOfALine text r → BeginAlike r.line text other → length other ≤ most_bytes
+    → bad_byte_line 1 other ≡ None
     → job_in other ≡ Err r
 
 -- If the bytes of the text are allowed, no text that has the lines above that line is refused at one of them.
@@ -89,7 +90,8 @@ IsABeginning lines =
 -- The lines above that line, unless it should have been the header, may go on to a job.
 abbrev pub LinesAboveGoOn : Type 0
 LinesAboveGoOn =
-    (text : List ℕ) (r : Refusal) → IsRefusedOfALine text r → bad_byte_line 1 text ≡ None → r.code ≢ BadHeader → IsABeginning (above text r.line)
+    (text : List ℕ) (r : Refusal) → IsRefusedOfALine text r → bad_byte_line 1 text ≡ None → r.code ≢ BadHeader
+    → IsABeginning (above text r.line)
 
 -- No text with the same lines up to the refused one is a job's, and the lines above it may go on to one.
 pub record IsOfItsLine (text : List ℕ) (r : Refusal) : Type 0 where

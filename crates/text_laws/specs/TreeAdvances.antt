@@ -22,7 +22,8 @@ root_of s = word_at s.words 0
 unfoldable pub last_answer : ℕ → ℕ → State → Answer
 last_answer zero token s = answer.NotNow
 last_answer (suc steps) token s =
-    if is_underway (answer_to s (going_on s token)) then last_answer steps token (after s (going_on s token)) else answer_to s (going_on s token)
+    if is_underway (answer_to s (going_on s token)) then last_answer steps token (after s (going_on s token))
+    else answer_to s (going_on s token)
 
 -- the answer to a command's last step, if there are such a token and such a tier
 abbrev pub answer_of : TreeCommand → State → Option Answer
@@ -32,7 +33,8 @@ answer_of (command.Go token) s = if is_token s token then Some (answer_to s (ste
 answer_of (command.Finish token) s = if is_token s token then Some (answer_to s (step.Finish token)) else None
 answer_of (command.Run token) s = if is_token s token then Some (last_answer 16 token s) else None
 answer_of (command.Do token c) s =
-    if is_token s token && has_tier s c then Some (if may_begin s token (call_of c) then last_answer 16 token (begun s token (call_of c)) else answer.NotNow)
+    if is_token s token && has_tier s c
+    then Some (if may_begin s token (call_of c) then last_answer 16 token (begun s token (call_of c)) else answer.NotNow)
     else None
 answer_of (command.Show tier) s = None
 

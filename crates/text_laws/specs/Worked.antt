@@ -17,11 +17,15 @@ use Rattle.job_reader.specs.Reading.{job_in}
 
 -- a text with each statement, a comment and an indented line
 abbrev pub worked_text : List ℕ
-worked_text = codes "# one of each\nbsp 1\narray a 2 10 -20\nbody p\n  let i = 0\nwhile i < 2\nspawn q a[i]\nlet i = i + 1\nend\nsync\nend\nbody q\nif arg == 10\nput a[0] = arg * 2\nelse\nput a[step] = a[1] % 7\nend\nprint a[arg]\nstop\nend\nstart p 5\n"
+worked_text =
+    codes
+    "# one of each\nbsp 1\narray a 2 10 -20\nbody p\n  let i = 0\nwhile i < 2\nspawn q a[i]\nlet i = i + 1\nend\nsync\nend\nbody q\nif arg == 10\nput a[0] = arg * 2\nelse\nput a[step] = a[1] % 7\nend\nprint a[arg]\nstop\nend\nstart p 5\n"
 
 -- the same as it is written
 abbrev pub written_text : List ℕ
-written_text = codes "bsp 1\narray a 2 10 -20\nbody p\nlet i = 0\nwhile i < 2\nspawn q a[i]\nlet i = i + 1\nend\nsync\nend\nbody q\nif arg == 10\nput a[0] = arg * 2\nelse\nput a[step] = a[1] % 7\nend\nprint a[arg]\nstop\nend\nstart p 5\n"
+written_text =
+    codes
+    "bsp 1\narray a 2 10 -20\nbody p\nlet i = 0\nwhile i < 2\nspawn q a[i]\nlet i = i + 1\nend\nsync\nend\nbody q\nif arg == 10\nput a[0] = arg * 2\nelse\nput a[step] = a[1] % 7\nend\nprint a[arg]\nstop\nend\nstart p 5\n"
 
 -- a cell of the array, and a number
 abbrev pub cell : Index → Cell
@@ -47,7 +51,9 @@ abbrev pub worked_job : JobTree
 worked_job = record {
   format = 1;
   arrays = (codes "a", pos 10 ∷ negsuc 19 ∷ []) ∷ [];
-  bodies = record { name = codes "p"; locals = codes "i" ∷ []; block = spawning } ∷ record { name = codes "q"; locals = []; block = choosing } ∷ [];
+  bodies =
+      record { name = codes "p"; locals = codes "i" ∷ []; block = spawning } ∷ record { name = codes "q"; locals = []; block = choosing }
+      ∷ [];
   starts = record { body = 0; arg = pos 5 } ∷ [];
 }
 

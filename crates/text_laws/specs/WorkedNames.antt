@@ -42,7 +42,8 @@ letters = codes "abcdefghijklmnopqrstuvwxyz"
 -- the words of the language
 abbrev pub words : List Word
 words =
-    codes "arg" ∷ codes "step" ∷ codes "let" ∷ codes "put" ∷ codes "add" ∷ codes "print" ∷ codes "spawn" ∷ codes "sync" ∷ codes "stop" ∷ codes "if"
+    codes "arg" ∷ codes "step" ∷ codes "let" ∷ codes "put" ∷ codes "add" ∷ codes "print" ∷ codes "spawn" ∷ codes "sync" ∷ codes "stop"
+    ∷ codes "if"
     ∷ codes "else" ∷ codes "while" ∷ codes "end" ∷ codes "array" ∷ codes "body" ∷ codes "start" ∷ codes "bsp" ∷ []
 
 -- A name has 1 to 16 bytes out of 37: 26 letters, one of them first, ten digits and the underscore. 17 words are no

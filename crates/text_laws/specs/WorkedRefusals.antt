@@ -12,7 +12,8 @@ use Rattle.job_reader.specs.Reading.{job_in}
 -- the codes in the order in which the faults of a line count
 abbrev pub counting : List Code
 counting =
-    TooLong ∷ BadByte ∷ BadHeader ∷ UnknownLine ∷ BadNesting ∷ BadLine ∷ Reserved ∷ BadName ∷ BadNumber ∷ BadLength ∷ UnknownName ∷ Twice ∷ TooMany
+    TooLong ∷ BadByte ∷ BadHeader ∷ UnknownLine ∷ BadNesting ∷ BadLine ∷ Reserved ∷ BadName ∷ BadNumber ∷ BadLength ∷ UnknownName ∷ Twice
+    ∷ TooMany
     ∷ Unclosed ∷ []
 
 -- it counts before each of these, whichever of the two is first in the line
@@ -30,7 +31,8 @@ FaultsCountInOrder = are_in_order counting ≡ true
 -- the codes and their numbers
 abbrev pub CodesAreNumbered : Type 0
 CodesAreNumbered =
-    map code_number (TooLong ∷ BadByte ∷ BadHeader ∷ UnknownLine ∷ BadName ∷ BadNumber ∷ BadLine ∷ Twice ∷ UnknownName ∷ Unclosed ∷ BadNesting ∷ TooMany
+    map code_number
+    (TooLong ∷ BadByte ∷ BadHeader ∷ UnknownLine ∷ BadName ∷ BadNumber ∷ BadLine ∷ Twice ∷ UnknownName ∷ Unclosed ∷ BadNesting ∷ TooMany
     ∷ BadLength ∷ Reserved ∷ [])
     ≡ 1 ∷ 2 ∷ 3 ∷ 4 ∷ 5 ∷ 6 ∷ 7 ∷ 8 ∷ 9 ∷ 10 ∷ 11 ∷ 12 ∷ 13 ∷ 14 ∷ []
 
@@ -39,7 +41,9 @@ refused line code = Err (record { line = line; code = code })
 
 -- sixteen arrays
 abbrev pub arrays : List ℕ
-arrays = codes "bsp 1\narray a 1\narray b 1\narray c 1\narray d 1\narray e 1\narray f 1\narray g 1\narray h 1\narray i 1\narray j 1\narray k 1\narray l 1\narray m 1\narray n 1\narray o 1\narray p 1\n"
+arrays =
+    codes
+    "bsp 1\narray a 1\narray b 1\narray c 1\narray d 1\narray e 1\narray f 1\narray g 1\narray h 1\narray i 1\narray j 1\narray k 1\narray l 1\narray m 1\narray n 1\narray o 1\narray p 1\n"
 
 -- Each of these lines has two faults and more.
 pub record RefusalsAreWorkedOut : Type 0 where

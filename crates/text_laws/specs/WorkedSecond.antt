@@ -60,7 +60,8 @@ pub record SecondFormatIsWorkedOut : Type 0 where
   pub read : job_in second_text ≡ Ok second_job
   pub written : canonical_text second_job ≡ second_written
   pub first : job_in (codes "bsp 1\narray a 1\nbody b\nlet x = y + 1\nput a[i] = x\nend\nstart b 0\n") ≡ Ok first_job
-  pub upgraded : canonical_text (upgraded_tree first_job) ≡ codes "bsp 2\narray a 1 0\nbody b x y i\nlet x = y + 1\nput a[i] = x\nend\nstart b 0\n"
+  pub upgraded : canonical_text (upgraded_tree first_job)
+      ≡ codes "bsp 2\narray a 1 0\nbody b x y i\nlet x = y + 1\nput a[i] = x\nend\nstart b 0\n"
   pub own_name : job_in (codes "bsp 2\nbody x x\nend\n") ≡ Ok named_job
   -- a local that isn't listed, one that is listed twice, and what format 1 doesn't have
   pub not_listed : job_in (codes "bsp 2\nbody b x\nlet y = 1\nend\n") ≡ Err (record { line = 3; code = UnknownName })

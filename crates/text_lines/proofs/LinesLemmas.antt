@@ -34,7 +34,8 @@ not_space c h = grind (arith, common_steps)
 space : (c : ℕ) → c ≡ 32 → nat_eq c 32 ≡ true
 space c h = grind (arith, common_steps)
 
-pub words_skip : (line : List ℕ) (i : ℕ) → i ≤ length line → ((k : ℕ) → k < i → get_or line k 0 ≡ 32) → words_of line ≡ words_of (drop i line)
+pub words_skip : (line : List ℕ) (i : ℕ) → i ≤ length line → ((k : ℕ) → k < i → get_or line k 0 ≡ 32)
+    → words_of line ≡ words_of (drop i line)
 words_skip line zero h all = refl
 words_skip [] (suc i) h all = absurd (omega arith)
 words_skip (c ∷ cs) (suc i) h all =
@@ -43,7 +44,8 @@ words_skip (c ∷ cs) (suc i) h all =
     let rest : words_of cs ≡ words_of (drop i cs) = words_skip cs i short (λ k l. all (suc k) (omega arith)) in
     rw here rest
 
-pub word_at : (line : List ℕ) (i : ℕ) → 0 < i → i ≤ length line → ((k : ℕ) → k < i → get_or line k 0 ≢ 32) → (i < length line → get_or line i 0 ≡ 32)
+pub word_at : (line : List ℕ) (i : ℕ) → 0 < i → i ≤ length line → ((k : ℕ) → k < i → get_or line k 0 ≢ 32)
+    → (i < length line → get_or line i 0 ≡ 32)
     → words_of line ≡ take i line ∷ words_of (drop i line)
 word_at line zero p h none stop = absurd (omega arith)
 word_at [] (suc i) p h none stop = absurd (omega arith)
@@ -68,7 +70,8 @@ words_none (c ∷ cs) all =
     let here : nat_eq c 32 ≡ true = space c (all 0 (omega arith)) in
     rw here (words_none cs (λ k l. all (suc k) (omega arith)))
 
-pub line_split : (text front back after : List ℕ) (i : ℕ) → i < length text → ((k : ℕ) → k < i → get_or text k 0 ≢ 10) → get_or text i 0 ≡ 10
+pub line_split : (text front back after : List ℕ) (i : ℕ) → i < length text → ((k : ℕ) → k < i → get_or text k 0 ≢ 10)
+    → get_or text i 0 ≡ 10
     → front ≡ take i text → back ≡ drop i text → after ≡ drop 1 back → lines_of text ≡ front ∷ lines_of after
 line_split text front back after i h none e f b a =
     let same : after ≡ drop (i + 1) text = a ∙ ap (drop 1) b ∙ grind (arith, common_steps) in

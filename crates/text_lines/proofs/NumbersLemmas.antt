@@ -27,17 +27,20 @@ none_from false b z h = refl
 
 pub number_none : (word : List ℕ) → ((n : ℤ) → FitsSigned w64 n → word ≢ signed_decimal n) → None ≡ number_of word
 number_none word none =
-    none_from (bytes_eq (signed_decimal (signed_digits_value 10 word)) word) (fits_i64 (signed_digits_value 10 word)) (signed_digits_value 10 word)
+    none_from (bytes_eq (signed_decimal (signed_digits_value 10 word)) word) (fits_i64 (signed_digits_value 10 word))
+    (signed_digits_value 10 word)
     (λ e f. none _ (fits _ f) (sym ((bytes_eq-Decides (signed_decimal (signed_digits_value 10 word)) word).0 e)))
 
 mag_of : (n : ℤ) → FitsSigned w64 n → mag n < 2 ^ 63
 mag_of n f = omega (arith, ints, f)
 
-pub none_unparsed : (word text : List ℕ) → text ≡ word → ParsesSigned {E = ℕ} w64 10 text (Err 0) → (n : ℤ) → FitsSigned w64 n → word ≢ signed_decimal n
+pub none_unparsed : (word text : List ℕ) → text ≡ word → ParsesSigned {E = ℕ} w64 10 text (Err 0) → (n : ℤ) → FitsSigned w64 n
+    → word ≢ signed_decimal n
 none_unparsed word text t h n f same =
     let bad : ◌≡◌ {A = Result ℤ ℕ} (Err 0) (Ok n) = parse-signed_decimal w64 n text (Err 0) f (mag_of n f) (t ∙ same) h in cc
 
-pub none_other : (word text : List ℕ) (m : ℤ) → text ≡ word → ParsesSigned {E = ℕ} w64 10 text (Ok m) → signed_decimal m ≢ word → (n : ℤ) → FitsSigned w64 n → word ≢ signed_decimal n
+pub none_other : (word text : List ℕ) (m : ℤ) → text ≡ word → ParsesSigned {E = ℕ} w64 10 text (Ok m) → signed_decimal m ≢ word → (n : ℤ)
+    → FitsSigned w64 n → word ≢ signed_decimal n
 none_other word text m t h ne n f same =
     let good : ◌≡◌ {A = Result ℤ ℕ} (Ok m) (Ok n) = parse-signed_decimal w64 n text (Ok m) f (mag_of n f) (t ∙ same) h in
     let e : m ≡ n = cc in
@@ -83,7 +86,8 @@ chosen_parts false b z n e = absurd (let wrong : ◌≡◌ {A = Option ℤ} None
 number_read : (n : ℤ) → FitsSigned w64 n → number_of (signed_decimal n) ≡ Some n
 number_read n f =
     let value = value_of_text n f in
-    let same : bytes_eq (signed_decimal (signed_digits_value 10 (signed_decimal n))) (signed_decimal n) ≡ true = (bytes_eq-Decides _ _).1 (ap signed_decimal value) in
+    let same : bytes_eq (signed_decimal (signed_digits_value 10 (signed_decimal n))) (signed_decimal n) ≡ true =
+    (bytes_eq-Decides _ _).1 (ap signed_decimal value) in
     let fit : fits_i64 (signed_digits_value 10 (signed_decimal n)) ≡ true = ap fits_i64 value ∙ fits_back n f in
     chosen _ _ (signed_digits_value 10 (signed_decimal n)) same fit ∙ ap Some value
 

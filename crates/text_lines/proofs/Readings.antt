@@ -47,7 +47,8 @@ joined_read (l ∷ ls) h =
     let both = both_true (is_line l) (list_all is_line ls) h in
     line_before l (joined ls) both.0 ∙ ap (λ (m : List (List ℕ)). l ∷ m) (joined_read ls both.1)
 
-joined_last : (lines : List (List ℕ)) (last : List ℕ) → list_all is_line lines ≡ true → is_line last ≡ true → last ≢ [] → lines_of (joined lines ++ last) ≡ lines ++ last ∷ []
+joined_last : (lines : List (List ℕ)) (last : List ℕ) → list_all is_line lines ≡ true → is_line last ≡ true → last ≢ []
+    → lines_of (joined lines ++ last) ≡ lines ++ last ∷ []
 joined_last [] last h k some = last_line last k some
 joined_last (l ∷ ls) last h k some =
     let both = both_true (is_line l) (list_all is_line ls) h in
@@ -62,7 +63,8 @@ onto_joined : (c : ℕ) (ls : List (List ℕ)) → ls ≢ [] → joined (onto_fi
 onto_joined c [] some = absurd (some refl)
 onto_joined c (l ∷ ls) some = refl
 
-onto_lines : (c : ℕ) (ls : List (List ℕ)) → not (nat_eq c 10) ≡ true → list_all is_line ls ≡ true → list_all is_line (onto_first c ls) ≡ true
+onto_lines : (c : ℕ) (ls : List (List ℕ)) → not (nat_eq c 10) ≡ true → list_all is_line ls ≡ true
+    → list_all is_line (onto_first c ls) ≡ true
 onto_lines c [] h k = rw h refl
 onto_lines c (l ∷ ls) h k = rw h k
 
@@ -73,7 +75,8 @@ onto_some c (l ∷ ls) e = cc
 some_lines : (c : ℕ) (cs : List ℕ) → lines_of (c ∷ cs) ≢ []
 some_lines c cs e = ⊎_elim
     (λ (lf : nat_eq c 10 ≡ true). let same : lines_of (c ∷ cs) ≡ [] ∷ lines_of cs = rw lf refl in cc)
-    (λ (other : nat_eq c 10 ≡ false). let same : lines_of (c ∷ cs) ≡ onto_first c (lines_of cs) = rw other refl in onto_some c (lines_of cs) (sym same ∙ e))
+    (λ (other : nat_eq c 10 ≡ false). let same : lines_of (c ∷ cs) ≡ onto_first c (lines_of cs) = rw other refl in
+    onto_some c (lines_of cs) (sym same ∙ e))
     (either (nat_eq c 10))
 
 not_true : (b : Bool) → b ≡ false → not b ≡ true
@@ -95,14 +98,17 @@ same_text (c ∷ []) = ⊎_elim
 same_text (c ∷ d ∷ ds) = ⊎_elim
     (λ (lf : nat_eq c 10 ≡ true).
     let same : c ≡ 10 = grind (arith, common_steps) in
-    let begins : joined (lines_of (c ∷ d ∷ ds)) ≡ c ∷ joined (lines_of (d ∷ ds)) = rw lf (ap (λ (e : ℕ). e ∷ joined (lines_of (d ∷ ds))) (sym same)) in
+    let begins : joined (lines_of (c ∷ d ∷ ds)) ≡ c ∷ joined (lines_of (d ∷ ds)) =
+    rw lf (ap (λ (e : ℕ). e ∷ joined (lines_of (d ∷ ds))) (sym same)) in
     behind c (joined (lines_of (c ∷ d ∷ ds))) (joined (lines_of (d ∷ ds))) (d ∷ ds) begins (same_text (d ∷ ds)))
     (λ (other : nat_eq c 10 ≡ false).
-    let begins : joined (lines_of (c ∷ d ∷ ds)) ≡ c ∷ joined (lines_of (d ∷ ds)) = rw other (onto_joined c (lines_of (d ∷ ds)) (some_lines d ds)) in
+    let begins : joined (lines_of (c ∷ d ∷ ds)) ≡ c ∷ joined (lines_of (d ∷ ds)) =
+    rw other (onto_joined c (lines_of (d ∷ ds)) (some_lines d ds)) in
     behind c (joined (lines_of (c ∷ d ∷ ds))) (joined (lines_of (d ∷ ds))) (d ∷ ds) begins (same_text (d ∷ ds)))
     (either (nat_eq c 10))
   where
-    behind : (c : ℕ) (whole rest text : List ℕ) → whole ≡ c ∷ rest → (rest ≡ text) ⊎ (rest ≡ text ++ 10 ∷ []) → (whole ≡ c ∷ text) ⊎ (whole ≡ c ∷ (text ++ 10 ∷ []))
+    behind : (c : ℕ) (whole rest text : List ℕ) → whole ≡ c ∷ rest → (rest ≡ text) ⊎ (rest ≡ text ++ 10 ∷ [])
+        → (whole ≡ c ∷ text) ⊎ (whole ≡ c ∷ (text ++ 10 ∷ []))
     behind c whole rest text e (inl f) = inl (e ∙ ap (λ (t : List ℕ). c ∷ t) f)
     behind c whole rest text e (inr f) = inr (e ∙ ap (λ (t : List ℕ). c ∷ t) f)
 
@@ -140,7 +146,8 @@ spaced_read ((c ∷ cs) ∷ ws) h =
     let both = both_true (is_word (c ∷ cs)) (list_all is_word ws) h in
     word_before c cs (spaced ws) both.0 ∙ ap (λ (m : List (List ℕ)). (c ∷ cs) ∷ m) (spaced_read ws both.1)
 
-spaced_last : (words : List (List ℕ)) (last : List ℕ) → list_all is_word words ≡ true → is_word last ≡ true → words_of (spaced words ++ last) ≡ words ++ last ∷ []
+spaced_last : (words : List (List ℕ)) (last : List ℕ) → list_all is_word words ≡ true → is_word last ≡ true
+    → words_of (spaced words ++ last) ≡ words ++ last ∷ []
 spaced_last [] [] h k = no_word k
 spaced_last [] (c ∷ cs) h k = word_alone c cs k
 spaced_last ([] ∷ ws) last h k = no_word (both_true (is_word []) (list_all is_word ws) h).0
@@ -152,7 +159,8 @@ spaced_last ((c ∷ cs) ∷ ws) last h k =
 pub spaced_words : SpacedWordsAreRead
 spaced_words words h = (spaced_read words h, λ last k. spaced_last words last h k)
 
-onto_words : (c : ℕ) (ws : List (List ℕ)) → not (nat_eq c 32) ≡ true → list_all is_word ws ≡ true → list_all is_word (onto_first c ws) ≡ true
+onto_words : (c : ℕ) (ws : List (List ℕ)) → not (nat_eq c 32) ≡ true → list_all is_word ws ≡ true
+    → list_all is_word (onto_first c ws) ≡ true
 onto_words c [] h k = rw h refl
 onto_words c ([] ∷ ws) h k = no_word (both_true (is_word []) (list_all is_word ws) k).0
 onto_words c ((d ∷ ds) ∷ ws) h k = rw h k
@@ -167,7 +175,8 @@ each_word (c ∷ cs) = ⊎_elim
     (λ (other : nat_eq c 32 ≡ false). rw other (chosen (begins_word cs) c (words_of cs) (not_true (nat_eq c 32) other) (each_word cs)))
     (either (nat_eq c 32))
   where
-    chosen : (b : Bool) (c : ℕ) (ws : List (List ℕ)) → not (nat_eq c 32) ≡ true → list_all is_word ws ≡ true → list_all is_word (cond b (onto_first c ws) ((c ∷ []) ∷ ws)) ≡ true
+    chosen : (b : Bool) (c : ℕ) (ws : List (List ℕ)) → not (nat_eq c 32) ≡ true → list_all is_word ws ≡ true
+        → list_all is_word (cond b (onto_first c ws) ((c ∷ []) ∷ ws)) ≡ true
     chosen true c ws h k = onto_words c ws h k
     chosen false c ws h k = one_word c ws h k
 

@@ -33,7 +33,9 @@ JoinedLinesAreRead =
 
 -- The lines of a text hold no LF, and joined they are the text, or the text and the LF that its last line lacks.
 abbrev pub LinesGiveBackTheText : Type 0
-LinesGiveBackTheText = (text : List ℕ) → (list_all is_line (lines_of text) ≡ true) × ((joined (lines_of text) ≡ text) ⊎ (joined (lines_of text) ≡ text ++ 10 ∷ []))
+LinesGiveBackTheText =
+    (text : List ℕ)
+    → (list_all is_line (lines_of text) ≡ true) × ((joined (lines_of text) ≡ text) ⊎ (joined (lines_of text) ≡ text ++ 10 ∷ []))
 
 -- Words are the words of what they join to.
 abbrev pub SpacedWordsAreRead : Type 0

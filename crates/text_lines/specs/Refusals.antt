@@ -1,6 +1,22 @@
 -- Why a text is refused, by number, and its place (own).
 pub use Rattle.text_lines.specs.declared.refusal.Code.{Code}
-pub use Rattle.text_lines.specs.declared.refusal.Code.TheVariants.{TooLong, BadByte, BadHeader, UnknownLine, BadName, BadNumber, BadLine, Twice, UnknownName, Unclosed, BadNesting, TooMany, BadLength, Reserved}
+pub use
+    Rattle.text_lines.specs.declared.refusal.Code.TheVariants.{
+      TooLong,
+      BadByte,
+      BadHeader,
+      UnknownLine,
+      BadName,
+      BadNumber,
+      BadLine,
+      Twice,
+      UnknownName,
+      Unclosed,
+      BadNesting,
+      TooMany,
+      BadLength,
+      Reserved,
+    }
 pub use Rattle.text_lines.specs.declared.refusal.Refusal.{Refusal}
 use Rattle.std.specs.Prelude.{ℕ}
 

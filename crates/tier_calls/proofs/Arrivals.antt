@@ -33,19 +33,25 @@ less w n = record w { unarrived = w.unarrived - n }
 
 pub arrivals : (t : ℕ) (v : View) (w : Fields) (n : ℕ) → after_many Arrive t v w n ≡ less w n
 arrivals t v w zero = ap (λ (u : ℕ). record w { unarrived = u }) (let a : w.unarrived ≡ w.unarrived - 0 = omega arith in a)
-arrivals t v w (suc n) = ap arrived_one (arrivals t v w n) ∙ ap (λ (u : ℕ). record w { unarrived = u }) (let a : w.unarrived - n - 1 ≡ w.unarrived - suc n = omega arith in a)
+arrivals t v w (suc n) =
+    ap arrived_one (arrivals t v w n)
+    ∙ ap (λ (u : ℕ). record w { unarrived = u }) (let a : w.unarrived - n - 1 ≡ w.unarrived - suc n = omega arith in a)
 
 pub still_can : (t : ℕ) (v : View) (w : Fields) (n : ℕ) → CanPass t w v → CanPass t (after_many Arrive t v w n) v
 still_can t v w zero can = can
-still_can t v w (suc n) can = let c = still_can t v w n can in record { rest = c.rest; own = c.own; going = c.going; current = c.current; unarrived = c.unarrived }
+still_can t v w (suc n) can = let c = still_can t v w n can in
+    record { rest = c.rest; own = c.own; going = c.going; current = c.current; unarrived = c.unarrived }
 
-pub arrive_goes : (k : Key) (t : ℕ) (v : View) (w : Fields) (l : List Sight) → AreAlike k v l → CanPass t w v → Goes k t w l (less w (length l)) (all_stepped Arrive 1 t v w l)
+pub arrive_goes : (k : Key) (t : ℕ) (v : View) (w : Fields) (l : List Sight) → AreAlike k v l → CanPass t w v
+    → Goes k t w l (less w (length l)) (all_stepped Arrive 1 t v w l)
 arrive_goes k t v w l alike can =
     subst (λ (u : Fields). Goes k t w l u (all_stepped Arrive 1 t v w l)) (arrivals t v w (length l))
     (sweep k Arrive 1 t v w l (omega arith) (λ j. refl) alike (λ n h. (still_can t v w n can, tt)))
 
 pub less_legal : (w : Fields) (n : ℕ) → IsLegal w → IsLegal (less w n)
-less_legal w n legal = is_legal (less w n) legal.phase legal.parties (λ e. let a = legal_empty w legal e in omega arith) (λ h. let a = legal_open w legal h in omega arith)
+less_legal w n legal =
+    is_legal (less w n) legal.phase legal.parties (λ e. let a = legal_empty w legal e in omega arith)
+    (λ h. let a = legal_open w legal h in omega arith)
 
 pub owed_rest : (above t : ℕ) (w : Fields) → 2 ≤ w.unarrived → owed above t Arrival w ≡ Rest
 owed_rest above zero w h = ap (λ (b : Bool). cond b Advancing Rest) (ne_eqb w.unarrived 1 (omega arith))
@@ -56,7 +62,8 @@ pub none_yet : (t : ℕ) (w : Fields) (v : View) → CanPass t w v → IsOne v �
 none_yet t w v can one = let a = can.unarrived in let b = one.one in omega arith
 
 -- the views of those that don't arrive last
-pub early : (k : Key) (t : ℕ) (v : View) (w : Fields) (l : List Sight) → AreAlike k v l → v.arrived ≡ 0 → v.errand ≡ Rest → length l < w.unarrived
+pub early : (k : Key) (t : ℕ) (v : View) (w : Fields) (l : List Sight) → AreAlike k v l → v.arrived ≡ 0 → v.errand ≡ Rest
+    → length l < w.unarrived
     → AreAlike k (record v { arrived = 1 }) (all_stepped Arrive 1 t v w l)
 early k t v w [] alike none rests more = tt
 early k t v w (x ∷ xs) alike none rests more =
@@ -75,29 +82,37 @@ early k t v w (x ∷ xs) alike none rests more =
 -- what a word counts in the root's phase is in its field
 late_field : (root : ℕ) (w : Fields) → w.phase ≡ root → late root w ≤ w.unarrived
 late_field root w is =
-    subst (λ (b : Bool). cond (eqb w.parties 0) 0 (cond b w.unarrived w.parties) ≤ w.unarrived) (sym (eq-eqb w.phase root is)) (go (eqb w.parties 0))
+    subst (λ (b : Bool). cond (eqb w.parties 0) 0 (cond b w.unarrived w.parties) ≤ w.unarrived) (sym (eq-eqb w.phase root is))
+    (go (eqb w.parties 0))
   where
     go : (b : Bool) → cond b 0 w.unarrived ≤ w.unarrived
     go true = omega arith
     go false = omega arith
 
-share_one : (root : ℕ) (ps : List ℕ) (t : ℕ) (v : View) → v.errand ≡ Rest → v.tier ≡ t → v.phase ≡ root → v.size ≡ 1 → v.arrived ≡ 0 → late_share root ps t v ≡ 1
+share_one : (root : ℕ) (ps : List ℕ) (t : ℕ) (v : View) → v.errand ≡ Rest → v.tier ≡ t → v.phase ≡ root → v.size ≡ 1 → v.arrived ≡ 0
+    → late_share root ps t v ≡ 1
 share_one root ps t v rests own is one none =
     let a = resting_late root ps t v rests in
     let b = absent_current root v is in
-    let c : only_at v.tier (absent root v) t ≡ absent root v = ap (λ (n : ℕ). only_at n (absent root v) t) own ∙ only_here t (absent root v) in
+    let c : only_at v.tier (absent root v) t ≡ absent root v =
+    ap (λ (n : ℕ). only_at n (absent root v) t) own ∙ only_here t (absent root v) in
     omega arith
 
 pub shares : (k : Key) (f : View → ℕ) (v : View) (l : List Sight) → f v ≡ 1 → AreAlike k v l → sum_by f (those l) ≡ length l
 shares k f v [] is alike = refl
-shares k f v (x ∷ xs) is alike = let a = ap f alike.0.1 in let b = shares k f v xs is alike.1 in let c = sum_by-append f (x.view ∷ []) (those xs) in omega arith
+shares k f v (x ∷ xs) is alike = let a = ap f alike.0.1 in
+    let b = shares k f v xs is alike.1 in
+    let c = sum_by-append f (x.view ∷ []) (those xs) in
+    omega arith
 
-pub first_fits : (k : Key) (P : View → Type 0) (v : View) (l : List Sight) → 0 < length l → AreAlike k v l → AllByRecursion P (those l) → P v
+pub first_fits : (k : Key) (P : View → Type 0) (v : View) (l : List Sight) → 0 < length l → AreAlike k v l → AllByRecursion P (those l)
+    → P v
 first_fits k P v [] h alike all = absurd (omega arith)
 first_fits k P v (x ∷ xs) h alike all = subst P alike.0.1 all.0
 
 -- a tier counts all that are to arrive there
-pub enough : (k : Key) (t : ℕ) (w : Fields) (v : View) (l : List Sight) → Among k.shape t w (those l) → AreAlike k v l → CanPass t w v → IsOne v → 0 < length l → length l ≤ w.unarrived
+pub enough : (k : Key) (t : ℕ) (w : Fields) (v : View) (l : List Sight) → Among k.shape t w (those l) → AreAlike k v l → CanPass t w v
+    → IsOne v → 0 < length l → length l ≤ w.unarrived
 enough k t w v l among alike can one some' =
     let ws = among.words in
     let root : ℕ = root_phase ws in
@@ -106,7 +121,9 @@ enough k t w v l among alike can one some' =
     (all_front (ViewFits k.shape root (word_at ws 0).ended) (those l) among.back (all_back (ViewFits k.shape root (word_at ws 0).ended) among.front (those l ++ among.back) among.tally.fits)) in
     let is : v.phase ≡ root = unarrived_is_current k.shape root (word_at ws 0).ended v fits can.unarrived in
     let one_each = shares k share v l (share_one root k.shape t v can.rest can.own is one.one (none_yet t w v can one)) alike in
-    let balance = among.tally.unarrived t among.within (λ e. ap (λ (n : ℕ). (word_at ws n).ended) (sym e) ∙ (ap (λ (z : Fields). z.ended) among.word ∙ can.going)) in
+    let balance =
+    among.tally.unarrived t among.within
+    (λ e. ap (λ (n : ℕ). (word_at ws n).ended) (sym e) ∙ (ap (λ (z : Fields). z.ended) among.word ∙ can.going)) in
     let here : late root (word_at ws t) ≡ late root w = ap (late root) among.word in
     let field = late_field root w (can.current ∙ is) in
     let a = sum_by-append share among.front (those l ++ among.back) in
@@ -122,13 +139,15 @@ first_alike k v (x ∷ xs) h alike = alike.0.1
 
 -- the seat's first sight has the view of all
 pub first_view : {me : Seat} {v : View} {count : ℕ} → AreSeated me v count → (sight_of me).view ≡ v
-first_view {me} {v} {count} seated = first_alike (sight_of me).key v me.0 (let a = seated.long in let b = seated.some in omega arith) seated.alike
+first_view {me} {v} {count} seated =
+    first_alike (sight_of me).key v me.0 (let a = seated.long in let b = seated.some in omega arith) seated.alike
 
 pub stepped_long : (kind : Kind) (tries t : ℕ) (v : View) (w : Fields) (l : List Sight) → length (all_stepped kind tries t v w l) ≡ length l
 stepped_long kind tries t v w [] = refl
 stepped_long kind tries t v w (x ∷ xs) = ap suc (stepped_long kind tries t v w xs)
 
-pub stepped_key : (kind : Kind) (tries t : ℕ) (v : View) (w : Fields) (me me' : Seat) → me'.0 ≡ all_stepped kind tries t v w me.0 → (sight_of me').key ≡ (sight_of me).key
+pub stepped_key : (kind : Kind) (tries t : ℕ) (v : View) (w : Fields) (me me' : Seat) → me'.0 ≡ all_stepped kind tries t v w me.0
+    → (sight_of me').key ≡ (sight_of me).key
 stepped_key kind tries t v w me me' is = ap (λ (l : List Sight). (first_of no_sight l).key) is ∙ go me.0
   where
     go : (l : List Sight) → (first_of no_sight (all_stepped kind tries t v w l)).key ≡ (first_of no_sight l).key
@@ -136,8 +155,10 @@ stepped_key kind tries t v w me me' is = ap (λ (l : List Sight). (first_of no_s
     go (x ∷ xs) = refl
 
 -- the tokens of a seat may all arrive
-pub early_may : {id : TableId} {me : Seat} {v : View} {count : ℕ} {h : GroupHeld} {n : Named} {w next : Fields} → AreSeated me v count → group_of id me v ≡ h → h.tree ≡ n
-    → IsLegal w → CanPass h.view.tier w h.view → next ≡ less w count → MayGo n.key v.tier w next me (all_stepped Arrive 1 v.tier (sight_of me).view w me.0)
+pub early_may : {id : TableId} {me : Seat} {v : View} {count : ℕ} {h : GroupHeld} {n : Named} {w next : Fields} → AreSeated me v count
+    → group_of id me v ≡ h → h.tree ≡ n
+    → IsLegal w → CanPass h.view.tier w h.view → next ≡ less w count
+    → MayGo n.key v.tier w next me (all_stepped Arrive 1 v.tier (sight_of me).view w me.0)
 early_may {id} {me} {v} {count} {h} {n} {w} {next} seated is own legal can to =
     let can' : CanPass v.tier w v = subst (λ (z : GroupHeld). CanPass z.view.tier w z.view) (sym is) can in
     let key : (sight_of me).key ≡ n.key = ap (λ (z : GroupHeld). z.tree.key) is ∙ ap (λ (z : Named). z.key) own in
@@ -146,32 +167,44 @@ early_may {id} {me} {v} {count} {h} {n} {w} {next} seated is own legal can to =
       bare = seated.bare;
       legal = legal;
       own = alike_own n.key v me.0 alike;
-      goes = subst (λ (z : Fields). Goes n.key v.tier w me.0 z (all_stepped Arrive 1 v.tier (sight_of me).view w me.0)) (ap (less w) seated.long ∙ sym to)
-          (subst (λ (u : View). Goes n.key v.tier w me.0 (less w (length me.0)) (all_stepped Arrive 1 v.tier u w me.0)) (sym (first_view {me = me} seated)) (arrive_goes n.key v.tier v w me.0 alike can'));
+      goes =
+          subst (λ (z : Fields). Goes n.key v.tier w me.0 z (all_stepped Arrive 1 v.tier (sight_of me).view w me.0))
+          (ap (less w) seated.long ∙ sym to)
+          (subst (λ (u : View). Goes n.key v.tier w me.0 (less w (length me.0)) (all_stepped Arrive 1 v.tier u w me.0))
+          (sym (first_view {me = me} seated)) (arrive_goes n.key v.tier v w me.0 alike can'));
     }
 
 -- they have arrived, and others are still to arrive
-pub early_seat : {k : Key} {me me' : Seat} {v : View} {count : ℕ} {h : GroupHeld} {id : TableId} {w next : Fields} → AreSeated me v count → group_of id me v ≡ h → CanPass h.view.tier w h.view → length h.tokens < w.unarrived
-    → HaveGone k v.tier w next me me' (all_stepped Arrive 1 v.tier (sight_of me).view w me.0) → AreSeated me' (record v { arrived = 1 }) count
+pub early_seat : {k : Key} {me me' : Seat} {v : View} {count : ℕ} {h : GroupHeld} {id : TableId} {w next : Fields} → AreSeated me v count
+    → group_of id me v ≡ h → CanPass h.view.tier w h.view → length h.tokens < w.unarrived
+    → HaveGone k v.tier w next me me' (all_stepped Arrive 1 v.tier (sight_of me).view w me.0)
+    → AreSeated me' (record v { arrived = 1 }) count
 early_seat {k} {me} {me'} {v} {count} {h} {id} {w} {next} seated is can more gone =
     let can' : CanPass v.tier w v = subst (λ (z : GroupHeld). CanPass z.view.tier w z.view) (sym is) can in
     let more' : length me.0 < w.unarrived = subst (λ (z : GroupHeld). length z.tokens < w.unarrived) (sym is) more in
-    let now : me'.0 ≡ all_stepped Arrive 1 v.tier v w me.0 = gone.now ∙ ap (λ (u : View). all_stepped Arrive 1 v.tier u w me.0) (first_view {me = me} seated) in
+    let now : me'.0 ≡ all_stepped Arrive 1 v.tier v w me.0 =
+    gone.now ∙ ap (λ (u : View). all_stepped Arrive 1 v.tier u w me.0) (first_view {me = me} seated) in
     let key = stepped_key Arrive 1 v.tier v w me me' now in
     let one = seated.view.one in
     let rests = seated.view.rests in record {
       bare = gone.bare;
       long = ap length now ∙ (stepped_long Arrive 1 v.tier v w me.0 ∙ seated.long);
       some = seated.some;
-      alike = subst (λ (z : Key). AreAlike z (record v { arrived = 1 }) me'.0) (sym key) (subst (AreAlike (sight_of me).key (record v { arrived = 1 })) (sym now)
+      alike =
+          subst (λ (z : Key). AreAlike z (record v { arrived = 1 }) me'.0) (sym key)
+          (subst (AreAlike (sight_of me).key (record v { arrived = 1 })) (sym now)
           (early (sight_of me).key v.tier v w me.0 seated.alike (none_yet v.tier w v can' seated.view) rests more'));
       view = record { one = one; within = omega arith; rests = rests };
     }
 
-pub early_arrived : {id : TableId} {v : View} {count : ℕ} {h : GroupHeld} {n : Named} {w next : Fields} (me me' : Seat) → AreSeated me v count → group_of id me v ≡ h → h.tree ≡ n
-    → (one : TableId) → one ≡ id → next ≡ less w count → HaveGone n.key v.tier w next me me' (all_stepped Arrive 1 v.tier (sight_of me).view w me.0) → AllArrived w h (group_of one me' (record v { arrived = 1 }))
+pub early_arrived : {id : TableId} {v : View} {count : ℕ} {h : GroupHeld} {n : Named} {w next : Fields} (me me' : Seat)
+    → AreSeated me v count → group_of id me v ≡ h → h.tree ≡ n
+    → (one : TableId) → one ≡ id → next ≡ less w count
+    → HaveGone n.key v.tier w next me me' (all_stepped Arrive 1 v.tier (sight_of me).view w me.0)
+    → AllArrived w h (group_of one me' (record v { arrived = 1 }))
 early_arrived {id} {v} {count} {h} {n} {w} {next} me me' seated is own one same to gone =
-    let now : me'.0 ≡ all_stepped Arrive 1 v.tier v w me.0 = gone.now ∙ ap (λ (u : View). all_stepped Arrive 1 v.tier u w me.0) (first_view {me = me} seated) in
+    let now : me'.0 ≡ all_stepped Arrive 1 v.tier v w me.0 =
+    gone.now ∙ ap (λ (u : View). all_stepped Arrive 1 v.tier u w me.0) (first_view {me = me} seated) in
     let key = stepped_key Arrive 1 v.tier v w me me' now in
     let mine : n.key ≡ (sight_of me).key = sym (ap (λ (z : GroupHeld). z.tree.key) is ∙ ap (λ (z : Named). z.key) own) in
     let word : next ≡ less w (length me.0) = to ∙ ap (less w) (sym seated.long) in

@@ -18,14 +18,16 @@ glance_glance zero = refl
 glance_glance (suc t) = refl
 
 one_glance : (t : ℕ) (old new : List Kind) → new ≡ glance t ∷ old → MadeOnly is_glance old new
-one_glance t old new is = subst (MadeOnly is_glance old) (sym is) (made_more is_glance (glance t) old old (glance_glance t) (made_none is_glance old))
+one_glance t old new is =
+    subst (MadeOnly is_glance old) (sym is) (made_more is_glance (glance t) old old (glance_glance t) (made_none is_glance old))
 
 -- one try
 pub tried_force : (b : Bool) (h h' : Holding) → MatchBool b (Won Force h h') (Lost Force h h') → HasForced h.steps h'.steps
 tried_force true h h' won = (h.steps, made_none is_glance h.steps, inr won.steps)
 tried_force false h h' lost = (h'.steps, one_glance h.tier h.steps h'.steps lost.took.steps, inl refl)
 
-pub lost_force : (b : Bool) (h h' : Holding) → MatchBool b (Won Force h h') (Lost Force h h') → h'.word.ended ≡ false → MadeOnly is_glance h.steps h'.steps
+pub lost_force : (b : Bool) (h h' : Holding) → MatchBool b (Won Force h h') (Lost Force h h') → h'.word.ended ≡ false
+    → MadeOnly is_glance h.steps h'.steps
 lost_force true h h' won e = not_both h'.word.ended (ap (λ (w : Fields). w.ended) won.word) e
 lost_force false h h' lost e = one_glance h.tier h.steps h'.steps lost.took.steps
 

@@ -40,7 +40,8 @@ glance_enters (suc t) = refl
 
 pub join_enters : (tier claimed size t : ℕ) (w : Fields) → is_entering (looking (Join tier claimed size) t w) ≡ true
 join_enters tier claimed size t w =
-    by_test (λ b. is_entering (cond b (Refuse tier claimed size) (glance t)) ≡ true) (turns_away (added claimed size) w) (λ e. refl) (λ e. glance_enters t)
+    by_test (λ b. is_entering (cond b (Refuse tier claimed size) (glance t)) ≡ true) (turns_away (added claimed size) w) (λ e. refl)
+    (λ e. glance_enters t)
 
 look_enters : (p : Progress) (v : View) (t : ℕ) (w : Fields) → is_joining p ≡ true → is_entering (looking (meant p v) t w) ≡ true
 look_enters Idle v t w j = glance_enters t
@@ -53,7 +54,8 @@ look_enters (Owing own) v t w j = glance_enters t
 look_enters (Due own) v t w j = glance_enters t
 look_enters (Refreshing passed_on) v t w j = glance_enters t
 
-step_enters : (ps : List ℕ) (b : Bool) (w : Fields) (p : Progress) (v : View) → CallFits ps p v → is_going p ≡ true → is_joining p ≡ true → is_entering (turn_by ps b w p v).kind ≡ true
+step_enters : (ps : List ℕ) (b : Bool) (w : Fields) (p : Progress) (v : View) → CallFits ps p v → is_going p ≡ true → is_joining p ≡ true
+    → is_entering (turn_by ps b w p v).kind ≡ true
 step_enters ps b w Idle v fits g j = not_both false g refl
 step_enters ps b w (Begun c) v fits g j = not_both false g refl
 step_enters ps b w (ToSeek tier size) v fits g j =
@@ -61,7 +63,8 @@ step_enters ps b w (ToSeek tier size) v fits g j =
     (λ e. by_cond (λ r. is_entering r.kind ≡ true) (is_refusing (added (claimed_by v.errand) size) w) _ _ (λ f. refl)
     (λ f. by_cond (λ r. is_entering r.kind ≡ true) (is_claimable (ancestor ps tier (claimed_by v.errand)) w) _ _ (λ h. refl) (λ h. refl)))
 step_enters ps b w Settling v fits g j = subst (λ (e : Errand). is_entering (settle_turn ps v e).kind ≡ true) (sym fits.3) refl
-step_enters ps b w (ToGiveBack answer) v fits g j = subst (λ (e : Errand). is_entering (give_back_turn ps answer e).kind ≡ true) (sym fits.3) refl
+step_enters ps b w (ToGiveBack answer) v fits g j =
+    subst (λ (e : Errand). is_entering (give_back_turn ps answer e).kind ≡ true) (sym fits.3) refl
 step_enters ps b w (Passing passage) v fits g j = not_both false j refl
 step_enters ps b w (Owing own) v fits g j = not_both false j refl
 step_enters ps b w (Due own) v fits g j = not_both false j refl
@@ -70,24 +73,32 @@ step_enters ps b w (Refreshing passed_on) v fits g j = not_both false j refl
 enters_along : (k : Key) (from at : Position) → is_joining from.progress ≡ true → Goes k from at → MadeOnly is_entering from.steps at.steps
 enters_along k from at j starts = made_none is_entering from.steps
 enters_along k from at j (steps at' w b go fits g beside says found) =
-    made_more is_entering (turn_by k.shape b w at'.progress at'.view).kind from.steps at'.steps (step_enters k.shape b w at'.progress at'.view fits g (joining_stays k from at' j go))
+    made_more is_entering (turn_by k.shape b w at'.progress at'.view).kind from.steps at'.steps
+    (step_enters k.shape b w at'.progress at'.view fits g (joining_stays k from at' j go))
     (enters_along k from at' j go)
 enters_along k from at j (looks at' w go fits g beside) =
     let r : Turn = turn_by k.shape false w at'.progress at'.view in
     let t : ℕ = place k.shape at'.progress at'.view in
     let kind : Kind = looking (meant at'.progress at'.view) t w in
     let u : View = view_after (parent_of k.shape t) kind t w at'.view in
-    let m = made_more is_entering kind from.steps at'.steps (look_enters at'.progress at'.view t w (joining_stays k from at' j go)) (enters_along k from at' j go) in
-    by_test (λ c. MadeOnly is_entering from.steps (cond {A = Position} c (record { progress = r.next; view = u; answer = r.answer; steps = kind ∷ at'.steps }) (record { progress = at'.progress; view = u; answer = GoesOn; steps = kind ∷ at'.steps })).steps)
+    let m =
+    made_more is_entering kind from.steps at'.steps (look_enters at'.progress at'.view t w (joining_stays k from at' j go))
+    (enters_along k from at' j go) in
+    by_test
+    (λ c. MadeOnly is_entering from.steps
+    (cond {A = Position} c (record { progress = r.next; view = u; answer = r.answer; steps = kind ∷ at'.steps })
+    (record { progress = at'.progress; view = u; answer = GoesOn; steps = kind ∷ at'.steps })).steps)
     (is_look r.kind) (λ e. m) (λ e. m)
 
 pub looked_enters : {h h' : Holding} → Looked Look 0 h h' → MadeOnly is_entering h.steps h'.steps
-looked_enters {h} {h'} took = subst (MadeOnly is_entering h.steps) (sym took.steps) (made_more is_entering Look h.steps h.steps refl (made_none is_entering h.steps))
+looked_enters {h} {h'} took =
+    subst (MadeOnly is_entering h.steps) (sym took.steps) (made_more is_entering Look h.steps h.steps refl (made_none is_entering h.steps))
 
 pub looked_first_enters : {h h' : Holding} → Looked Look 0 h h' → HasEntered h.steps h'.steps
 looked_first_enters {h} {h'} took = subst (HasEntered h.steps) (sym took.steps) (made_none is_entering (Look ∷ h.steps))
 
-pub ran_enters : {n : Named} {tries : ℕ} {o g : Going} → is_joining o.progress ≡ true → Ran n tries o g → MadeOnly is_entering o.token.steps g.token.steps
+pub ran_enters : {n : Named} {tries : ℕ} {o g : Going} → is_joining o.progress ≡ true → Ran n tries o g
+    → MadeOnly is_entering o.token.steps g.token.steps
 ran_enters {n} {tries} {o} {g} j ran = enters_along n.key (position o) (position g) j (ran.went.goes (position o) starts)
 
 same_token : (g : Going) (r : Registered) → AnswersJoin g r → g.token ≡ token_of r
@@ -98,7 +109,8 @@ same_token g (registered.Ended door shown) s = sym s.0
 same_token g (registered.Busy door) s = sym s.0
 same_token g (registered.Owing opening) s = sym (ap (λ (z : Going). z.token) s.0)
 
-pub answer_enters : (old : List Kind) (g : Going) (r : Registered) → AnswersJoin g r → MadeOnly is_entering old g.token.steps → MadeOnly is_entering old (token_of r).steps
+pub answer_enters : (old : List Kind) (g : Going) (r : Registered) → AnswersJoin g r → MadeOnly is_entering old g.token.steps
+    → MadeOnly is_entering old (token_of r).steps
 answer_enters old g r s m = subst (λ (h : Holding). MadeOnly is_entering old h.steps) (same_token g r s) m
 
 same_opened : (a : Registered) (r : Opened) → SameAnswer a r → token_of a ≡ opened_of r
@@ -108,11 +120,13 @@ same_opened a (opened.Full door count) e = ap token_of e
 same_opened a (opened.Ended door shown) e = ap token_of e
 same_opened a (opened.Owing opening) e = ap token_of e
 
-pub opened_enters : (old : List Kind) (g : Going) (a : Registered) (r : Opened) → AnswersJoin g a → SameAnswer a r → MadeOnly is_entering old g.token.steps → MadeOnly is_entering old (opened_of r).steps
+pub opened_enters : (old : List Kind) (g : Going) (a : Registered) (r : Opened) → AnswersJoin g a → SameAnswer a r
+    → MadeOnly is_entering old g.token.steps → MadeOnly is_entering old (opened_of r).steps
 opened_enters old g a r s e m = subst (λ (h : Holding). MadeOnly is_entering old h.steps) (same_opened a r e) (answer_enters old g a s m)
 
 -- an opening is a registration
-joins_at : (ps : List ℕ) (least home tier size : ℕ) (v : View) (a : Played) (p : Progress) → JoinAt ps least home tier size v a p → is_joining p ≡ true
+joins_at : (ps : List ℕ) (least home tier size : ℕ) (v : View) (a : Played) (p : Progress) → JoinAt ps least home tier size v a p
+    → is_joining p ≡ true
 joins_at ps least home tier size v a Idle sh = refl
 joins_at ps least home tier size v a (Begun c) sh = absurd sh
 joins_at ps least home tier size v a (ToSeek tier' size') sh = refl
@@ -124,4 +138,6 @@ joins_at ps least home tier size v a (Due passage) sh = absurd sh
 joins_at ps least home tier size v a (Refreshing passed_on) sh = absurd sh
 
 pub opening_joins : (o : Going) → IsOpening o → is_joining o.progress ≡ true
-opening_joins o i = joins_at o.token.tree.key.shape 1 o.token.view.tier (asked_tier o.token.view.errand) (asked_size o.token.view.errand) o.token.view o.answer o.progress i.shown
+opening_joins o i =
+    joins_at o.token.tree.key.shape 1 o.token.view.tier (asked_tier o.token.view.errand) (asked_size o.token.view.errand) o.token.view
+    o.answer o.progress i.shown

@@ -37,23 +37,29 @@ last_all {X} P all front t is own = go front (subst (All P) is own)
     go [] own = own 0 t (omega arith)
     go (x ∷ xs) own = go xs (λ k d lt. own (suc k) d (omega arith))
 
-pub kept_front : {n : Named} (all front : List Token) (t : Token) → all ≡ front ++ t ∷ [] → All (λ (t : Token). (held t).tree ≡ n) all → All (λ (t : Token). (held t).tree ≡ n) front
+pub kept_front : {n : Named} (all front : List Token) (t : Token) → all ≡ front ++ t ∷ [] → All (λ (t : Token). (held t).tree ≡ n) all
+    → All (λ (t : Token). (held t).tree ≡ n) front
 kept_front {n} all front t is own = front_all (λ (t : Token). (held t).tree ≡ n) all front t is own
 
-pub last_tree : {n : Named} (all front : List Token) (t : Token) → all ≡ front ++ t ∷ [] → All (λ (t : Token). (held t).tree ≡ n) all → (held t).tree ≡ n
+pub last_tree : {n : Named} (all front : List Token) (t : Token) → all ≡ front ++ t ∷ [] → All (λ (t : Token). (held t).tree ≡ n) all
+    → (held t).tree ≡ n
 last_tree {n} all front t is own = last_all (λ (t : Token). (held t).tree ≡ n) all front t is own
 
-pub kept_groups : {n : Named} (all front : List GroupHeld) (g : GroupHeld) → all ≡ front ++ g ∷ [] → All (λ (g : GroupHeld). g.tree ≡ n) all → All (λ (g : GroupHeld). g.tree ≡ n) front
+pub kept_groups : {n : Named} (all front : List GroupHeld) (g : GroupHeld) → all ≡ front ++ g ∷ [] → All (λ (g : GroupHeld). g.tree ≡ n) all
+    → All (λ (g : GroupHeld). g.tree ≡ n) front
 kept_groups {n} all front g is own = front_all (λ (g : GroupHeld). g.tree ≡ n) all front g is own
 
-pub last_group : {n : Named} (all front : List GroupHeld) (g : GroupHeld) → all ≡ front ++ g ∷ [] → All (λ (g : GroupHeld). g.tree ≡ n) all → g.tree ≡ n
+pub last_group : {n : Named} (all front : List GroupHeld) (g : GroupHeld) → all ≡ front ++ g ∷ [] → All (λ (g : GroupHeld). g.tree ≡ n) all
+    → g.tree ≡ n
 last_group {n} all front g is own = last_all (λ (g : GroupHeld). g.tree ≡ n) all front g is own
 
 -- a group's seat is of its tree's table
-pub group_id : {id id' : TableId} {k : Key} {n : Named} (g : GroupHeld) → record { id = id; key = k } ≡ n → g.tree ≡ n → id' ≡ g.tree.id → id' ≡ id
+pub group_id : {id id' : TableId} {k : Key} {n : Named} (g : GroupHeld) → record { id = id; key = k } ≡ n → g.tree ≡ n → id' ≡ g.tree.id
+    → id' ≡ id
 group_id {id} {id'} {k} {n} g tree own at = at ∙ (ap (λ (z : Named). z.id) own ∙ ap (λ (z : Named). z.id) (sym tree))
 
-pub same_id : {id id' : TableId} {k : Key} {n : Named} {h h' : Holding} → record { id = id; key = k } ≡ n → h.tree ≡ n → h' ≡ h → id' ≡ h'.tree.id → id' ≡ id
+pub same_id : {id id' : TableId} {k : Key} {n : Named} {h h' : Holding} → record { id = id; key = k } ≡ n → h.tree ≡ n → h' ≡ h
+    → id' ≡ h'.tree.id → id' ≡ id
 same_id {id} {id'} {k} {n} {h} {h'} tree own same at =
     at ∙ (ap (λ (z : Holding). z.tree.id) same ∙ (ap (λ (z : Named). z.id) own ∙ ap (λ (z : Named). z.id) (sym tree)))
 
@@ -61,42 +67,61 @@ pub table_id : {id id' : TableId} {k : Key} {n : Named} → record { id = id; ke
 table_id {id} {id'} {k} {n} tree own = own ∙ ap (λ (z : Named). z.id) (sym tree)
 
 -- one more token's seat takes in what was gathered
-pub gathered : (all front : List Token) (t : Token) (me : Me Kind (List Sight)) {h : Holding} {one me' : Me Kind (List Sight)} → h ≡ held t → one ≡ (sight_held h ∷ [], []) → all ≡ front ++ t ∷ []
+pub gathered : (all front : List Token) (t : Token) (me : Me Kind (List Sight)) {h : Holding} {one me' : Me Kind (List Sight)} → h ≡ held t
+    → one ≡ (sight_held h ∷ [], []) → all ≡ front ++ t ∷ []
     → me' ≡ (one.0 ++ me.0, one.1) → sights_in front ++ me'.0 ≡ sights_in all ++ me.0
 gathered all front t me {h} {one} {me'} same seat is joined =
     let x : Sight = sight_held (held t) in
-    let a : me'.0 ≡ x ∷ me.0 = ap (λ (m : Me Kind (List Sight)). m.0) joined ∙ (ap (λ (m : Me Kind (List Sight)). m.0 ++ me.0) seat ∙ ap (λ (z : Holding). sight_held z ∷ me.0) same) in
-    let d : sights_in all ≡ sights_in front ++ x ∷ [] = ap (map (λ (t : Token). sight_held (held t))) is ∙ map-append (λ (t : Token). sight_held (held t)) front (t ∷ []) in
-    ap (λ (l : List Sight). sights_in front ++ l) a ∙ (sym (append_assoc (sights_in front) (x ∷ []) me.0) ∙ ap (λ (l : List Sight). l ++ me.0) (sym d))
+    let a : me'.0 ≡ x ∷ me.0 =
+    ap (λ (m : Me Kind (List Sight)). m.0) joined
+    ∙ (ap (λ (m : Me Kind (List Sight)). m.0 ++ me.0) seat ∙ ap (λ (z : Holding). sight_held z ∷ me.0) same) in
+    let d : sights_in all ≡ sights_in front ++ x ∷ [] =
+    ap (map (λ (t : Token). sight_held (held t))) is ∙ map-append (λ (t : Token). sight_held (held t)) front (t ∷ []) in
+    ap (λ (l : List Sight). sights_in front ++ l) a
+    ∙ (sym (append_assoc (sights_in front) (x ∷ []) me.0) ∙ ap (λ (l : List Sight). l ++ me.0) (sym d))
 
 -- all of them, the last one first
-pub gathered_all : (all front : List Token) (t : Token) (me : Me Kind (List Sight)) {h : Holding} {one : Me Kind (List Sight)} → h ≡ held t → one ≡ (sight_held h ∷ [], []) → all ≡ front ++ t ∷ []
+pub gathered_all : (all front : List Token) (t : Token) (me : Me Kind (List Sight)) {h : Holding} {one : Me Kind (List Sight)} → h ≡ held t
+    → one ≡ (sight_held h ∷ [], []) → all ≡ front ++ t ∷ []
     → me.0 ≡ sights_in front ++ one.0 → me.0 ≡ sights_in all
 gathered_all all front t me {h} {one} same seat is reported =
-    let d : sights_in all ≡ sights_in front ++ sight_held (held t) ∷ [] = ap (map (λ (t : Token). sight_held (held t))) is ∙ map-append (λ (t : Token). sight_held (held t)) front (t ∷ []) in
-    reported ∙ (ap (λ (m : Me Kind (List Sight)). sights_in front ++ m.0) seat ∙ (ap (λ (z : Holding). sights_in front ++ sight_held z ∷ []) same ∙ sym d))
+    let d : sights_in all ≡ sights_in front ++ sight_held (held t) ∷ [] =
+    ap (map (λ (t : Token). sight_held (held t))) is ∙ map-append (λ (t : Token). sight_held (held t)) front (t ∷ []) in
+    reported
+    ∙ (ap (λ (m : Me Kind (List Sight)). sights_in front ++ m.0) seat
+    ∙ (ap (λ (z : Holding). sights_in front ++ sight_held z ∷ []) same ∙ sym d))
 
 sights_apart : (front : List GroupHeld) (g : GroupHeld) → sights_together (front ++ g ∷ []) ≡ sights_together front ++ g.tokens
 sights_apart [] g = append-nil g.tokens
-sights_apart (x ∷ xs) g = ap (λ (l : List Sight). x.tokens ++ l) (sights_apart xs g) ∙ sym (append_assoc x.tokens (sights_together xs) g.tokens)
+sights_apart (x ∷ xs) g =
+    ap (λ (l : List Sight). x.tokens ++ l) (sights_apart xs g) ∙ sym (append_assoc x.tokens (sights_together xs) g.tokens)
 
 -- one more group's seat takes in what was gathered
-pub gathered_group : (all front : List GroupHeld) (g : GroupHeld) (me : Me Kind (List Sight)) {one me' : Me Kind (List Sight)} → one ≡ (g.tokens, []) → all ≡ front ++ g ∷ [] → me' ≡ (one.0 ++ me.0, one.1)
+pub gathered_group : (all front : List GroupHeld) (g : GroupHeld) (me : Me Kind (List Sight)) {one me' : Me Kind (List Sight)}
+    → one ≡ (g.tokens, []) → all ≡ front ++ g ∷ [] → me' ≡ (one.0 ++ me.0, one.1)
     → sights_together front ++ me'.0 ≡ sights_together all ++ me.0
 gathered_group all front g me {one} {me'} seat is joined =
-    let a : me'.0 ≡ g.tokens ++ me.0 = ap (λ (m : Me Kind (List Sight)). m.0) joined ∙ ap (λ (m : Me Kind (List Sight)). m.0 ++ me.0) seat in
+    let a : me'.0 ≡ g.tokens ++ me.0 =
+    ap (λ (m : Me Kind (List Sight)). m.0) joined ∙ ap (λ (m : Me Kind (List Sight)). m.0 ++ me.0) seat in
     let d : sights_together all ≡ sights_together front ++ g.tokens = ap sights_together is ∙ sights_apart front g in
-    ap (λ (l : List Sight). sights_together front ++ l) a ∙ (sym (append_assoc (sights_together front) g.tokens me.0) ∙ ap (λ (l : List Sight). l ++ me.0) (sym d))
+    ap (λ (l : List Sight). sights_together front ++ l) a
+    ∙ (sym (append_assoc (sights_together front) g.tokens me.0) ∙ ap (λ (l : List Sight). l ++ me.0) (sym d))
 
 -- all of them, the last one first, and then all tokens
-pub gathered_both : (tokens : List Token) (all front : List GroupHeld) (g : GroupHeld) (one me me' : Me Kind (List Sight)) → one ≡ (g.tokens, []) → all ≡ front ++ g ∷ [] → me.0 ≡ sights_together front ++ one.0 → me'.0 ≡ sights_in tokens ++ me.0
+pub gathered_both : (tokens : List Token) (all front : List GroupHeld) (g : GroupHeld) (one me me' : Me Kind (List Sight))
+    → one ≡ (g.tokens, []) → all ≡ front ++ g ∷ [] → me.0 ≡ sights_together front ++ one.0 → me'.0 ≡ sights_in tokens ++ me.0
     → me'.0 ≡ sights_in tokens ++ sights_together all
 gathered_both tokens all front g one me me' seat is reported both =
     let d : sights_together all ≡ sights_together front ++ g.tokens = ap sights_together is ∙ sights_apart front g in
-    both ∙ ap (λ (l : List Sight). sights_in tokens ++ l) (reported ∙ (ap (λ (m : Me Kind (List Sight)). sights_together front ++ m.0) seat ∙ sym d))
+    both
+    ∙ ap (λ (l : List Sight). sights_in tokens ++ l)
+    (reported ∙ (ap (λ (m : Me Kind (List Sight)). sights_together front ++ m.0) seat ∙ sym d))
 
-pub shut_none : {k : Key} {numbers : List ℕ} (tokens : List Token) (groups : List GroupHeld) → groups ≡ [] → IsShut k numbers (sights_in tokens) → IsShut k numbers (sights_in tokens ++ sights_together groups)
-shut_none {k} {numbers} tokens groups none shut = subst (IsShut k numbers) (sym (ap (λ (gs : List GroupHeld). sights_in tokens ++ sights_together gs) none ∙ append-nil (sights_in tokens))) shut
+pub shut_none : {k : Key} {numbers : List ℕ} (tokens : List Token) (groups : List GroupHeld) → groups ≡ []
+    → IsShut k numbers (sights_in tokens) → IsShut k numbers (sights_in tokens ++ sights_together groups)
+shut_none {k} {numbers} tokens groups none shut =
+    subst (IsShut k numbers)
+    (sym (ap (λ (gs : List GroupHeld). sights_in tokens ++ sights_together gs) none ∙ append-nil (sights_in tokens))) shut
 
 views_listed : (tokens : List Token) → those (sights_in tokens) ≡ views_in tokens
 views_listed [] = refl
@@ -110,7 +135,8 @@ pub record Among (vs : List (List Sight)) (l : List Sight) : Type 0 where
 
 among : (vs : List (List Sight)) (id : ℕ) (l : List Sight) → get_elem? vs id ≡ some l → Among vs l
 among [] id l at = absurd (some-ne-none l (sym at))
-among (m ∷ vs) zero l at = record { front = []; back = views_of vs; is = ap (λ (z : List Sight). those z ++ views_of vs) (some-injective m l at) }
+among (m ∷ vs) zero l at =
+    record { front = []; back = views_of vs; is = ap (λ (z : List Sight). those z ++ views_of vs) (some-injective m l at) }
 among (m ∷ vs) (suc id) l at = let r = among vs id l at in record {
   front = those m ++ r.front;
   back = r.back;
@@ -120,7 +146,11 @@ among (m ∷ vs) (suc id) l at = let r = among vs id l at in record {
 -- some views are given first
 moved_first : (f : View → ℕ) (a m b : List View) → sum_by f (m ++ (a ++ b)) ≡ sum_by f (a ++ (m ++ b))
 moved_first f a m b =
-    let p = sum_by-append f m (a ++ b) in let q = sum_by-append f a b in let r = sum_by-append f a (m ++ b) in let s = sum_by-append f m b in omega arith
+    let p = sum_by-append f m (a ++ b) in
+    let q = sum_by-append f a b in
+    let r = sum_by-append f a (m ++ b) in
+    let s = sum_by-append f m b in
+    omega arith
 
 all_first : (P : View → Type 0) (a m b : List View) → AllByRecursion P (a ++ (m ++ b)) → AllByRecursion P (m ++ (a ++ b))
 all_first P a m b all =
@@ -168,7 +198,8 @@ known_at [] seats id at = tt
 known_at (x ∷ xs) seats id at = (id, at)
 
 -- a table that is closed with a seat, and without one
-pub shut_with : {k : Key} {n : Named} {t : TableId} {id : ℕ} {l m : List Sight} {numbers : List ℕ} (xs : List Kind) → record { id = t; key = k } ≡ n → Final (Seen (Kept k) id l) numbers xs → l ≡ m
+pub shut_with : {k : Key} {n : Named} {t : TableId} {id : ℕ} {l m : List Sight} {numbers : List ℕ} (xs : List Kind)
+    → record { id = t; key = k } ≡ n → Final (Seen (Kept k) id l) numbers xs → l ≡ m
     → IsShut n.key numbers m
 shut_with {k} {n} {t} {id} {l} {m} {numbers} xs own final same =
     let s : State Kind (List Sight) = final.0 in
@@ -179,7 +210,8 @@ shut_with {k} {n} {t} {id} {l} {m} {numbers} xs own final same =
       left = record { seats = s.views; reached = kept.reached; known = known_at m s.views id (final.1.1 ∙ ap some same) };
     })
 
-pub shut_alone : {k : Key} {n : Named} {t : TableId} {numbers : List ℕ} (xs : List Kind) (tokens : List Token) → record { id = t; key = k } ≡ n → Final (Kept k) numbers xs → tokens ≡ []
+pub shut_alone : {k : Key} {n : Named} {t : TableId} {numbers : List ℕ} (xs : List Kind) (tokens : List Token)
+    → record { id = t; key = k } ≡ n → Final (Kept k) numbers xs → tokens ≡ []
     → IsShut n.key numbers (sights_in tokens)
 shut_alone {k} {n} {t} {numbers} xs tokens own final none =
     let s : State Kind (List Sight) = final.0 in
@@ -193,7 +225,8 @@ number_at (w ∷ ws) zero n at lt = some-injective (packed w) n at
 number_at (w ∷ ws) (suc i) n at lt = number_at ws i n at (omega arith)
 
 -- the number of a word unpacks to it
-pub word_read : {numbers : List ℕ} {i n : ℕ} {o : Option Fields} (ws : List Fields) → numbers ≡ map packed ws → ((t : ℕ) → t < length ws → IsLegal (word_at ws t)) → i < length ws
+pub word_read : {numbers : List ℕ} {i n : ℕ} {o : Option Fields} (ws : List Fields) → numbers ≡ map packed ws
+    → ((t : ℕ) → t < length ws → IsLegal (word_at ws t)) → i < length ws
     → get_elem? numbers i ≡ some n → ((w : Fields) → IsLegal w → packed w ≡ n → o ≡ Some w) → o ≡ Some (word_at ws i)
 word_read {numbers} {i} {n} {o} ws is legal lt at again =
     again (word_at ws i) (legal i lt) (number_at ws i n (ap (λ (z : List ℕ). get_elem? z i) (sym is) ∙ at) lt)
@@ -215,24 +248,34 @@ take_whole (w ∷ ws) (suc i) h = ap (λ (z : List Fields). w ∷ z) (take_whole
 -- the words at the end tally with the tokens that one seat had
 pub left_tally : {k : Key} {words : List Fields} (l : List Sight) → IsLeftBy k words l → TallyWithOthers k.shape words (those l)
 unfolding last_of
-left_tally {k} {words} l left = let z = last_of {numbers = map packed words} (record { words = words; packed_so = refl; left = left }) in (z.rest, z.tally)
+left_tally {k} {words} l left = let z = last_of {numbers = map packed words} (record { words = words; packed_so = refl; left = left }) in
+    (z.rest, z.tally)
 
-pub closed_tally : {k : Key} {words : List Fields} (tokens : List Token) → IsLeftBy k words (sights_in tokens) → TallyWithOthers k.shape words (views_in tokens)
+pub closed_tally : {k : Key} {words : List Fields} (tokens : List Token) → IsLeftBy k words (sights_in tokens)
+    → TallyWithOthers k.shape words (views_in tokens)
 closed_tally {k} {words} tokens left = subst (TallyWithOthers k.shape words) (views_listed tokens) (left_tally (sights_in tokens) left)
 
 those_append : (l m : List Sight) → those (l ++ m) ≡ those l ++ those m
 those_append [] m = refl
 those_append (x ∷ xs) m = ap (λ (vs : List View). x.view ∷ vs) (those_append xs m)
 
-pub all_tally : {k : Key} {words : List Fields} (tokens : List Token) (groups : List GroupHeld) → IsLeftBy k words (sights_in tokens ++ sights_together groups) → TallyWithOthers k.shape words (views_in tokens ++ views_together groups)
+pub all_tally : {k : Key} {words : List Fields} (tokens : List Token) (groups : List GroupHeld)
+    → IsLeftBy k words (sights_in tokens ++ sights_together groups)
+    → TallyWithOthers k.shape words (views_in tokens ++ views_together groups)
 all_tally {k} {words} tokens groups left =
-    subst (TallyWithOthers k.shape words) (those_append (sights_in tokens) (sights_together groups) ∙ ap (λ (vs : List View). vs ++ views_together groups) (views_listed tokens)) (left_tally (sights_in tokens ++ sights_together groups) left)
+    subst (TallyWithOthers k.shape words)
+    (those_append (sights_in tokens) (sights_together groups)
+    ∙ ap (λ (vs : List View). vs ++ views_together groups) (views_listed tokens))
+    (left_tally (sights_in tokens ++ sights_together groups) left)
 
-pub closed_left : {k : Key} {numbers : List ℕ} {items : List Fields} {count tier : ℕ} {l : List Sight} → (shut : IsShut k numbers l) → length k.shape ≡ count → count ≤ tier
-    → ((ws : List Fields) → numbers ≡ map packed ws → ((t : ℕ) → t < length ws → IsLegal (word_at ws t)) → length ws ≡ count → items ≡ take tier ws)
+pub closed_left : {k : Key} {numbers : List ℕ} {items : List Fields} {count tier : ℕ} {l : List Sight} → (shut : IsShut k numbers l)
+    → length k.shape ≡ count → count ≤ tier
+    → ((ws : List Fields) → numbers ≡ map packed ws → ((t : ℕ) → t < length ws → IsLegal (word_at ws t)) → length ws ≡ count
+    → items ≡ take tier ws)
     → IsLeftBy k items l
 unfolding last_of
 closed_left {k} {numbers} {items} {count} {tier} {l} shut is past reported =
     let z = last_of shut in
     let long : length shut.words ≡ count = z.long ∙ is in
-    subst (λ (ws : List Fields). IsLeftBy k ws l) (sym (reported shut.words shut.packed_so z.legal long ∙ take_whole shut.words tier (omega arith))) shut.left
+    subst (λ (ws : List Fields). IsLeftBy k ws l)
+    (sym (reported shut.words shut.packed_so z.legal long ∙ take_whole shut.words tier (omega arith))) shut.left

@@ -12,7 +12,8 @@ use Rattle.tier_calls.specs.declared.joining_all.TriedJoin.TheVariants as went
 use Rattle.tier_calls.proofs.ArrivingAll.{keeps_then, soon_then, first_look}
 
 -- the exchange was won
-pub joined_from : {old mid new : GroupHeld} {pool : TokensHeld} {n : Named} (word : Fields) (count : ℕ) → KeepsAll 0 old mid → IsEager mid.view → old.tree ≡ n → AreSat n count pool → word.parties + count ≤ 65535
+pub joined_from : {old mid new : GroupHeld} {pool : TokensHeld} {n : Named} (word : Fields) (count : ℕ) → KeepsAll 0 old mid
+    → IsEager mid.view → old.tree ≡ n → AreSat n count pool → word.parties + count ≤ 65535
     → new.tree ≡ mid.tree → new.view ≡ mid.view → new.tokens ≡ sights_joined mid pool word → HasJoined 1 count old new
 joined_from {old} {mid} {new} {pool} {n} word count kept eager own fresh capacity same view tokens = record {
   mid = mid;
@@ -46,14 +47,17 @@ joined_then {a} {b} {new} m o count few k p = record {
 }
 
 -- one more try, unless nobody has joined by it
-pub joins_then : {a b : GroupHeld} (m o count : ℕ) → m + 1 ≤ o → KeepsAll m a b → (r : TriedJoin) → ((group : GroupHeld) → r ≢ went.Yet group) → TriesToJoin 1 count b r → TriesToJoin o count a r
+pub joins_then : {a b : GroupHeld} (m o count : ℕ) → m + 1 ≤ o → KeepsAll m a b → (r : TriedJoin)
+    → ((group : GroupHeld) → r ≢ went.Yet group) → TriesToJoin 1 count b r → TriesToJoin o count a r
 joins_then {a} {b} m o count few k (went.Yet group) other q = absurd (other group refl)
 joins_then {a} {b} m o count few k (went.Joined group) other q = joined_then m o count few k q
-joins_then {a} {b} m o count few k (went.Full group parties) other q = let h = q.1 in (m + q.0, (omega arith), keeps_then m q.0 (m + q.0) refl k q.2, q.3)
+joins_then {a} {b} m o count few k (went.Full group parties) other q = let h = q.1 in
+    (m + q.0, (omega arith), keeps_then m q.0 (m + q.0) refl k q.2, q.3)
 joins_then {a} {b} m o count few k (went.Ended group word) other q = (soon_then m 1 o few k q.0, q.1, q.2)
 
 -- the tier has no room
-pub finds_full : {t parties : ℕ} {w : Fields} {old mid : GroupHeld} (n : ℕ) → AllLooked t w 0 old mid → t ≡ old.view.tier → KeepsAll 0 old mid → parties ≡ w.parties → 65535 < parties + n → FindsFull n mid parties
+pub finds_full : {t parties : ℕ} {w : Fields} {old mid : GroupHeld} (n : ℕ) → AllLooked t w 0 old mid → t ≡ old.view.tier
+    → KeepsAll 0 old mid → parties ≡ w.parties → 65535 < parties + n → FindsFull n mid parties
 finds_full {t} {parties} {w} {old} {mid} n r here k is full = record {
   before = old;
   word = w;
@@ -63,5 +67,6 @@ finds_full {t} {parties} {w} {old} {mid} n r here k is full = record {
 }
 
 -- some tries after the first look
-pub only_tried : {w : Fields} {old mid new : GroupHeld} {tries : ℕ} → AllLooked 0 w 0 old mid → mid.view.arrived ≡ 0 → KeepsAll tries mid new → OnlyTried tries old new
+pub only_tried : {w : Fields} {old mid new : GroupHeld} {tries : ℕ} → AllLooked 0 w 0 old mid → mid.view.arrived ≡ 0
+    → KeepsAll tries mid new → OnlyTried tries old new
 only_tried {w} {old} {mid} {new} {tries} r none k = record { mid = mid; first = first_look r; none = none; kept = k }

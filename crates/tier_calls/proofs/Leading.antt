@@ -45,7 +45,8 @@ use Rattle.tier_calls.proofs.Passing.{looked_unled, glance_unled, current_at, pa
 use Rattle.tier_calls.proofs.Settling.{began_at, began, first_fresh, arrives}
 
 -- only an advance leads
-leads : (above : ℕ) (kind : Kind) (t : ℕ) (w : Fields) (v : View) → v.led ≡ false → (view_after above kind t w v).led ≡ true → (ends : Bool) × (kind ≡ Advance ends)
+leads : (above : ℕ) (kind : Kind) (t : ℕ) (w : Fields) (v : View) → v.led ≡ false → (view_after above kind t w v).led ≡ true
+    → (ends : Bool) × (kind ≡ Advance ends)
 leads above Look t w v un is = not_both (looked w v).led is (looked_unled w v)
 leads above Glance t w v un is = not_both v.led is un
 leads above (Refuse tier claimed size) zero w v un is = not_both (looked w v).led is (looked_unled w v)
@@ -75,7 +76,8 @@ record LedBefore (k : Key) (v : View) (made : List Kind) : Type 0 where
   waited : (state : IsReached k 0 root before) → AllByRecursion (HasArrived v.phase) (views_of state.seats)
 
 -- in every state in which a token may take this advance all have arrived
-all_there : (k : Key) (w : Fields) (x : Sight) (ends : Bool) → CanAdvance w x.view → PlanSays k (Advance ends) w → (s : IsReached k 0 w x) → AllByRecursion (HasArrived w.phase) (views_of s.seats)
+all_there : (k : Key) (w : Fields) (x : Sight) (ends : Bool) → CanAdvance w x.view → PlanSays k (Advance ends) w → (s : IsReached k 0 w x)
+    → AllByRecursion (HasArrived w.phase) (views_of s.seats)
 all_there k w x ends can says s =
     let m : MayStep k s.words s.seats s.stands.id 0 s.stands.front x s.stands.back (Advance ends) = record {
       reached = s.reached;
@@ -87,7 +89,8 @@ all_there k w x ends can says s =
     subst (λ (z : Fields). AllByRecursion (HasArrived z.phase) (views_of s.seats)) s.word
     (advances k s.words s.seats s.stands.id 0 s.stands.front x s.stands.back ends m).all
 
-by_advance : (k : Key) (t : ℕ) (w : Fields) (v : View) (made : List Kind) (above : ℕ) (kind : Kind) (ends : Bool) → kind ≡ Advance ends → Beside k.shape t w v → Needs k.shape kind t w v → PlanSays k kind w → WasFound k t w v made
+by_advance : (k : Key) (t : ℕ) (w : Fields) (v : View) (made : List Kind) (above : ℕ) (kind : Kind) (ends : Bool) → kind ≡ Advance ends
+    → Beside k.shape t w v → Needs k.shape kind t w v → PlanSays k kind w → WasFound k t w v made
     → LedBefore k (view_after above kind t w v) (kind ∷ made)
 by_advance k t w v made above kind ends is b needs says found =
     let need : (t ≡ 0) × CanAdvance w v = subst (λ (z : Kind). Needs k.shape z t w v) is needs in
@@ -105,11 +108,13 @@ by_advance k t w v made above kind ends is b needs says found =
       going = need.1.going;
       now = sym here;
       found = subst (λ (n : ℕ). IsReached k n w found.sight) need.0 found.reached;
-      waited = λ s. subst (λ (p : ℕ). AllByRecursion (HasArrived p) (views_of s.seats)) (sym here) (all_there k w found.sight ends can plan s);
+      waited =
+          λ s. subst (λ (p : ℕ). AllByRecursion (HasArrived p) (views_of s.seats)) (sym here) (all_there k w found.sight ends can plan s);
     })
 
 -- along a call
-module _ (k : Key) (own : Passage) (P C : View → Type 0) (from : Position) (shown : (at : Position) → Goes k from at → PassAt own P C at.view at.answer at.progress) where
+module _ (k : Key) (own : Passage) (P C : View → Type 0) (from : Position)
+    (shown : (at : Position) → Goes k from at → PassAt own P C at.view at.answer at.progress) where
   -- until it is over it has taken no advance, and it looks for no step of its own
   unled_at : (u : View) (a : Played) (p : Progress) → PassAt own P C u a p → is_going p ≡ true → (u.led ≡ false) × (meant p u ≡ Look)
   unled_at u a Idle s g = not_both false g refl
@@ -128,7 +133,8 @@ module _ (k : Key) (own : Passage) (P C : View → Type 0) (from : Position) (sh
       let r : Turn = turn_by k.shape b w at'.progress at'.view in
       let t : ℕ = place k.shape at'.progress at'.view in
       let l = leads (parent_of k.shape t) r.kind t w at'.view (unled_at at'.view at'.answer at'.progress (shown at' go) g).0 is in
-      let n = next_by k.shape beside.words beside.front beside.back at'.progress at'.view w b beside.shape beside.tally fits g beside.word in
+      let n =
+      next_by k.shape beside.words beside.front beside.back at'.progress at'.view w b beside.shape beside.tally fits g beside.word in
       by_advance k t w at'.view at'.steps (parent_of k.shape t) r.kind l.0 l.1 beside n.needs says found
   led_along at un (looks at' w go fits g beside) is =
       let r : Turn = turn_by k.shape false w at'.progress at'.view in
@@ -136,9 +142,15 @@ module _ (k : Key) (own : Passage) (P C : View → Type 0) (from : Position) (sh
       let kind : Kind = looking (meant at'.progress at'.view) t w in
       let u : View = view_after (parent_of k.shape t) kind t w at'.view in
       let q = unled_at at'.view at'.answer at'.progress (shown at' go) g in
-      let dark : u.led ≡ false = subst (λ (z : Kind). (view_after (parent_of k.shape t) (looking z t w) t w at'.view).led ≡ false) (sym q.1) (glance_unled (parent_of k.shape t) t w at'.view q.0) in
+      let dark : u.led ≡ false =
+      subst (λ (z : Kind). (view_after (parent_of k.shape t) (looking z t w) t w at'.view).led ≡ false) (sym q.1)
+      (glance_unled (parent_of k.shape t) t w at'.view q.0) in
       not_both (after_look k.shape w at').view.led is
-      (by_test (λ c. (cond {A = Position} c (record { progress = r.next; view = u; answer = r.answer; steps = kind ∷ at'.steps }) (record { progress = at'.progress; view = u; answer = GoesOn; steps = kind ∷ at'.steps })).view.led ≡ false)
+      (by_test
+      (λ c.
+      (cond {A = Position} c (record { progress = r.next; view = u; answer = r.answer; steps = kind ∷ at'.steps })
+      (record { progress = at'.progress; view = u; answer = GoesOn; steps = kind ∷ at'.steps })).view.led
+      ≡ false)
       (is_look r.kind) (λ e. dark) (λ e. dark))
 
 led_token : {k : Key} (h : Holding) (phase : ℕ) → h.tree.key ≡ k → phase ≡ h.view.phase → LedBefore k h.view h.steps → LedAfterAll h phase
@@ -156,23 +168,30 @@ led_token {k} h phase key same l = record {
       (λ s. subst (λ (p : ℕ). AllByRecursion (HasArrived p) (views_of s.seats)) (sym same) (l.waited s));
 }
 
-module _ (n : Named) (own : Passage) (tries : ℕ) (h h' : Holding) (g : Going) (is : h.tree ≡ n) (crew : IsCrew h) (took : Looked Look 0 h h') (going : h'.word.ended ≡ false) (some : h'.view.arrived ≢ h'.view.size)
+module _ (n : Named) (own : Passage) (tries : ℕ) (h h' : Holding) (g : Going) (is : h.tree ≡ n) (crew : IsCrew h)
+    (took : Looked Look 0 h h') (going : h'.word.ended ≡ false) (some : h'.view.arrived ≢ h'.view.size)
     (ran : Ran n tries (began_at own h') g) where
-  goes_shown : (at : Position) → Goes n.key (position (began_at own h')) at → PassAt own (IsSame h'.view) (HasCounted own h'.view) at.view at.answer at.progress
-  goes_shown at go = passes_count_once n.key own h'.view (position (began_at own h')) at refl refl (began {n = n} {h = h} {h' = h'} {own = own} is crew took some).fits.1 (first_fresh took going) go
+  goes_shown : (at : Position) → Goes n.key (position (began_at own h')) at
+      → PassAt own (IsSame h'.view) (HasCounted own h'.view) at.view at.answer at.progress
+  goes_shown at go =
+      passes_count_once n.key own h'.view (position (began_at own h')) at refl refl
+      (began {n = n} {h = h} {h' = h'} {own = own} is crew took some).fits.1 (first_fresh took going) go
 
   led_now : (phase : ℕ) → phase ≡ g.token.view.phase → g.token.view.led ≡ true → LedAfterAll g.token phase
   led_now phase same led =
       led_token g.token phase (ap (λ (z : Named). z.key) ran.went.at.own) same
-      (led_along n.key own (IsSame h'.view) (HasCounted own h'.view) (position (began_at own h')) goes_shown (position g) (first_fresh took going).unled (ran.went.goes (position (began_at own h')) starts) led)
+      (led_along n.key own (IsSame h'.view) (HasCounted own h'.view) (position (began_at own h')) goes_shown (position g)
+      (first_fresh took going).unled (ran.went.goes (position (began_at own h')) starts) led)
 
   pub led_waited : (r : Arrived) → Settles g r → LedWaited r
   led_waited (arrived.Done token phase led) s =
       let a = arrives n own tries h h' g is crew took going some ran (arrived.Done token phase led) s in
-      λ e. subst (λ (z : Holding). LedAfterAll z phase) (sym s.0) (led_now phase (a.3 ∙ ap (λ (z : Holding). z.view.phase) s.0) (sym s.3 ∙ e))
+      λ e. subst (λ (z : Holding). LedAfterAll z phase) (sym s.0)
+      (led_now phase (a.3 ∙ ap (λ (z : Holding). z.view.phase) s.0) (sym s.3 ∙ e))
   led_waited (arrived.Left token phase led) s =
       let a = arrives n own tries h h' g is crew took going some ran (arrived.Left token phase led) s in
-      λ e. subst (λ (z : Holding). LedAfterAll z phase) (sym s.0) (led_now phase (a.4 ∙ ap (λ (z : Holding). z.view.phase) s.0) (sym s.3 ∙ e))
+      λ e. subst (λ (z : Holding). LedAfterAll z phase) (sym s.0)
+      (led_now phase (a.4 ∙ ap (λ (z : Holding). z.view.phase) s.0) (sym s.3 ∙ e))
   led_waited (arrived.AlreadyArrived token phase) s = tt
   led_waited (arrived.Ended token shown_as) s = tt
   led_waited (arrived.Busy token) s = tt
@@ -196,12 +215,14 @@ module _ (n : Named) (own : Passage) (tries : ℕ) (e g : Going) (is : e.token.t
   led_on_waited (resumed.Owing going) s = tt
 
 -- an arrival in place
-module _ (n : Named) (h h' : Holding) (g : Going) (is : h.tree ≡ n) (crew : IsCrew h) (took : Looked Look 0 h h') (going : h'.word.ended ≡ false) (some : h'.view.arrived ≢ h'.view.size)
+module _ (n : Named) (h h' : Holding) (g : Going) (is : h.tree ≡ n) (crew : IsCrew h) (took : Looked Look 0 h h')
+    (going : h'.word.ended ≡ false) (some : h'.view.arrived ≢ h'.view.size)
     (ran : RanOver n (began_at Arrival h') g) where
   whole : Ran n ran.used (began_at Arrival h') g
   whole = record { used = ran.used; went = ran.went; few = omega arith; all = λ e. not_both (is_going g.progress) e ran.over }
 
   pub led_in_place : (r : ArrivedInPlace) → Comes g r → LedInPlaceWaited g.token r
-  led_in_place (came.Done phase led) s = led_waited n Arrival ran.used h h' g is crew took going some whole (arrived.Done g.token phase led) (refl, s.0, s.1, s.2)
+  led_in_place (came.Done phase led) s =
+      led_waited n Arrival ran.used h h' g is crew took going some whole (arrived.Done g.token phase led) (refl, s.0, s.1, s.2)
   led_in_place (came.AlreadyArrived phase) s = tt
   led_in_place (came.Ended shown_as) s = tt

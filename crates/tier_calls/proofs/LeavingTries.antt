@@ -26,7 +26,8 @@ looks_leaves : (a b c : List Kind) → Looks a b → LeavesOnce b c → LooksAnd
 looks_leaves a b c p q = (q.0, subst (λ (k : List Kind). MadeOnly is_quiet k q.0) p q.1, q.2)
 
 -- the same before some steps by which the tokens stay where they are
-left_since : {a b : GroupHeld} {first : Holding} {w : Fields} (P Q R : List Kind → List Kind → Type 0) (m n o : ℕ) → ((x y z : List Kind) → P x y → Q y z → R x z) → m + n ≤ o → Each (Did P m) a.tokens b.tokens
+left_since : {a b : GroupHeld} {first : Holding} {w : Fields} (P Q R : List Kind → List Kind → Type 0) (m n o : ℕ)
+    → ((x y z : List Kind) → P x y → Q y z → R x z) → m + n ≤ o → Each (Did P m) a.tokens b.tokens
     → b.tree ≡ a.tree → b.view.tier ≡ a.view.tier → length b.tokens ≡ length a.tokens → HaveLeft Q n w b first → HaveLeft R o w a first
 left_since {a} {b} {first} {w} P Q R m n o both few each tree tier long h = record {
   tree = h.tree ∙ tree;
@@ -49,14 +50,16 @@ counted_since a b c s q = record {
   departure = λ e. let d = q.departure e in (d.0 ∙ s.size, d.1 ∙ s.arrived);
 }
 
-module _ {a b : GroupHeld} {first : Holding} (m n o : ℕ) (few : m + n ≤ o) (k : KeepsAll m a b) (q : HasCounted Departure b.view first.view) (w : Fields) (h : HaveLeft LeavesOnce n w b first) where
+module _ {a b : GroupHeld} {first : Holding} (m n o : ℕ) (few : m + n ≤ o) (k : KeepsAll m a b) (q : HasCounted Departure b.view first.view)
+    (w : Fields) (h : HaveLeft LeavesOnce n w b first) where
   since : HaveLeft LeavesOnce o w a first
   since = left_since OnlyLooks LeavesOnce LeavesOnce m n o waits_leaves few k.tokens k.tree k.view.same.tier (kept_many k) h
 
   pub left_after : length b.tokens < w.unarrived → HasCounted Departure a.view first.view × LeftEarly LeavesOnce o a first
   left_after more = (counted_since a.view b.view first.view k.view.same q, (w, since, (let e = kept_many k in omega arith)))
 
-  pub left_last_after : length b.tokens ≡ w.unarrived → first.view.errand ≡ owed_by_last (parent_of (shape_of first) b.view.tier) b.view.tier (w.parties == length b.tokens)
+  pub left_last_after : length b.tokens ≡ w.unarrived
+      → first.view.errand ≡ owed_by_last (parent_of (shape_of first) b.view.tier) b.view.tier (w.parties == length b.tokens)
       → HasCounted Departure a.view first.view × LeftLast LeavesOnce o a first
   left_last_after all owes = (
     counted_since a.view b.view first.view k.view.same q,
@@ -68,37 +71,46 @@ module _ {a b : GroupHeld} {first : Holding} (m n o : ℕ) (few : m + n ≤ o) (
     ),
   )
 
-pub left_first : {a b : GroupHeld} {first : Holding} → KeepsAll 0 a b → HasCounted Departure b.view first.view → (w : Fields) → HaveLeft LeavesOnce 1 w b first → length b.tokens < w.unarrived
+pub left_first : {a b : GroupHeld} {first : Holding} → KeepsAll 0 a b → HasCounted Departure b.view first.view → (w : Fields)
+    → HaveLeft LeavesOnce 1 w b first → length b.tokens < w.unarrived
     → HasCounted Departure a.view first.view × LeftEarly LeavesOnce 1 a first
 left_first {a} {b} {first} k q w h more = left_after 0 1 1 (omega arith) k q w h more
 
-pub left_last : {a b : GroupHeld} {first : Holding} → KeepsAll 0 a b → HasCounted Departure b.view first.view → (w : Fields) → HaveLeft LeavesOnce 1 w b first → length b.tokens ≡ w.unarrived
-    → first.view.errand ≡ owed_by_last (parent_of (shape_of first) b.view.tier) b.view.tier (w.parties == length b.tokens) → HasCounted Departure a.view first.view × LeftLast LeavesOnce 1 a first
+pub left_last : {a b : GroupHeld} {first : Holding} → KeepsAll 0 a b → HasCounted Departure b.view first.view → (w : Fields)
+    → HaveLeft LeavesOnce 1 w b first → length b.tokens ≡ w.unarrived
+    → first.view.errand ≡ owed_by_last (parent_of (shape_of first) b.view.tier) b.view.tier (w.parties == length b.tokens)
+    → HasCounted Departure a.view first.view × LeftLast LeavesOnce 1 a first
 left_last {a} {b} {first} k q w h all owes = left_last_after 0 1 1 (omega arith) k q w h all owes
 
 -- one more try, unless none of the members has left by it
-pub leaves_then : {a b : GroupHeld} (m o : ℕ) → m + 1 ≤ o → KeepsAll m a b → (r : TriedLeaving) → ((group : GroupHeld) → r ≢ tried.Yet group) → TriesLeaving 1 b r → TriesLeaving o a r
+pub leaves_then : {a b : GroupHeld} (m o : ℕ) → m + 1 ≤ o → KeepsAll m a b → (r : TriedLeaving)
+    → ((group : GroupHeld) → r ≢ tried.Yet group) → TriesLeaving 1 b r → TriesLeaving o a r
 leaves_then {a} {b} m o few k (tried.Yet group) other q = absurd (other group refl)
 leaves_then {a} {b} m o few k (tried.Left door) other q = left_after m 1 o few k q.0 q.1.0 q.1.1 q.1.2
 leaves_then {a} {b} m o few k (tried.Owing errand) other q = left_last_after m 1 o few k q.0 q.1.0 q.1.1 q.1.2 q.1.3
 leaves_then {a} {b} m o few k (tried.Ended group word) other q = (soon_then m 1 o few k q.0, q.1, q.2)
 
 -- a call whose members have left, from its first look on
-passed_since : {old mid : GroupHeld} (first : Holding) → FirstLook old mid → HasCounted Departure mid.view first.view → HasPassed Departure old.view first.view
+passed_since : {old mid : GroupHeld} (first : Holding) → FirstLook old mid → HasCounted Departure mid.view first.view
+    → HasPassed Departure old.view first.view
 passed_since {old} {mid} first f q = record { from = mid.view; looked = f.looked; unled = f.unled; counted = q }
 
 looked_many : {old mid : GroupHeld} → FirstLook old mid → length mid.tokens ≡ length old.tokens
 looked_many {old} {mid} f = each_many (Did Looks 0) old.tokens mid.tokens f.tokens
 
-looked_since : {old mid : GroupHeld} {first : Holding} {w : Fields} (tries : ℕ) → FirstLook old mid → HaveLeft LeavesOnce tries w mid first → HaveLeft LooksAndLeaves tries w old first
-looked_since {old} {mid} {first} {w} tries f h = left_since Looks LeavesOnce LooksAndLeaves 0 tries tries looks_leaves (omega arith) f.tokens f.tree f.looked.tier (looked_many f) h
+looked_since : {old mid : GroupHeld} {first : Holding} {w : Fields} (tries : ℕ) → FirstLook old mid → HaveLeft LeavesOnce tries w mid first
+    → HaveLeft LooksAndLeaves tries w old first
+looked_since {old} {mid} {first} {w} tries f h =
+    left_since Looks LeavesOnce LooksAndLeaves 0 tries tries looks_leaves (omega arith) f.tokens f.tree f.looked.tier (looked_many f) h
 
-pub left_all : {old mid : GroupHeld} {first : Holding} {phase : ℕ} (tries : ℕ) → FirstLook old mid → HasCounted Departure mid.view first.view × LeftEarly LeavesOnce tries mid first → phase ≡ first.view.phase
+pub left_all : {old mid : GroupHeld} {first : Holding} {phase : ℕ} (tries : ℕ) → FirstLook old mid
+    → HasCounted Departure mid.view first.view × LeftEarly LeavesOnce tries mid first → phase ≡ first.view.phase
     → HasPassed Departure old.view first.view × (phase ≡ first.view.phase) × LeftEarly LooksAndLeaves tries old first
 left_all {old} {mid} {first} {phase} tries f q is =
     (passed_since first f q.0, is, (q.1.0, looked_since tries f q.1.1, (let e = looked_many f in let more = q.1.2 in omega arith)))
 
-pub left_owing : {old mid : GroupHeld} {first : Holding} (tries : ℕ) → FirstLook old mid → HasCounted Departure mid.view first.view × LeftLast LeavesOnce tries mid first
+pub left_owing : {old mid : GroupHeld} {first : Holding} (tries : ℕ) → FirstLook old mid
+    → HasCounted Departure mid.view first.view × LeftLast LeavesOnce tries mid first
     → HasPassed Departure old.view first.view × LeftLast LooksAndLeaves tries old first
 left_owing {old} {mid} {first} tries f q = (
   passed_since first f q.0,

@@ -34,7 +34,8 @@ made_more is k old new such m = (k ∷ m.0, ap (λ (ks : List Kind). k ∷ ks) m
 pub made_none : (is : Kind → Bool) (old : List Kind) → MadeOnly is old old
 made_none is old = ([], refl, tt)
 
-all_more : (is : Kind → Bool) (xs ys : List Kind) → AllByRecursion (λ k. is k ≡ true) xs → AllByRecursion (λ k. is k ≡ true) ys → AllByRecursion (λ k. is k ≡ true) (xs ++ ys)
+all_more : (is : Kind → Bool) (xs ys : List Kind) → AllByRecursion (λ k. is k ≡ true) xs → AllByRecursion (λ k. is k ≡ true) ys
+    → AllByRecursion (λ k. is k ≡ true) (xs ++ ys)
 all_more is [] ys a b = b
 all_more is (x ∷ xs) ys a b = (a.0, all_more is xs ys a.1 b)
 
@@ -44,11 +45,13 @@ made_then is {a} {b} {c} x y =
     (y.0 ++ x.0, y.1 ∙ (ap (λ (ks : List Kind). y.0 ++ ks) x.1 ∙ sym (append_assoc y.0 x.0 a)), all_more is y.0 x.0 y.2 x.2)
 
 -- kinds of steps that are among others
-all_wider : (is wide : Kind → Bool) → ((k : Kind) → is k ≡ true → wide k ≡ true) → (xs : List Kind) → AllByRecursion (λ k. is k ≡ true) xs → AllByRecursion (λ k. wide k ≡ true) xs
+all_wider : (is wide : Kind → Bool) → ((k : Kind) → is k ≡ true → wide k ≡ true) → (xs : List Kind) → AllByRecursion (λ k. is k ≡ true) xs
+    → AllByRecursion (λ k. wide k ≡ true) xs
 all_wider is wide more [] a = a
 all_wider is wide more (x ∷ xs) a = (more x a.0, all_wider is wide more xs a.1)
 
-pub made_wider : (is wide : Kind → Bool) → ((k : Kind) → is k ≡ true → wide k ≡ true) → {a b : List Kind} → MadeOnly is a b → MadeOnly wide a b
+pub made_wider : (is wide : Kind → Bool) → ((k : Kind) → is k ≡ true → wide k ≡ true) → {a b : List Kind} → MadeOnly is a b
+    → MadeOnly wide a b
 made_wider is wide more m = (m.0, m.1, all_wider is wide more m.0 m.2)
 
 pub glance_quiet : (t : ℕ) → is_quiet (glance t) ≡ true
@@ -62,18 +65,22 @@ quiet_upward Refresh e = refl
 quiet_upward (Climb passage) e = refl
 quiet_upward _ e = absurd (cc)
 
-module _ (ps : List ℕ) (own : Passage) (P C : View → Type 0) (Q R : List Kind → Type 0) (waits : (k : Kind) (ks : List Kind) → is_quiet k ≡ true → Q ks → Q (k ∷ ks))
-    (climbs : (k : Kind) (ks : List Kind) → is_upward k ≡ true → R ks → R (k ∷ ks)) (counts : (ks : List Kind) → Q ks → R (own_kind own ∷ ks)) where
+module _ (ps : List ℕ) (own : Passage) (P C : View → Type 0) (Q R : List Kind → Type 0)
+    (waits : (k : Kind) (ks : List Kind) → is_quiet k ≡ true → Q ks → Q (k ∷ ks))
+    (climbs : (k : Kind) (ks : List Kind) → is_upward k ≡ true → R ks → R (k ∷ ks))
+    (counts : (ks : List Kind) → Q ks → R (own_kind own ∷ ks)) where
   unled : (b : Bool) (ks : List Kind) → b ≡ false → R ks → LedBy R b ks
   unled b ks is r = subst (λ (c : Bool). LedBy R c ks) (sym is) r
 
   -- how the call goes on from what is owed
   made_as_owed : (phase n above t : ℕ) (w : Fields) (passage passage' : Passage) (b : Bool) (ks : List Kind) → b ≡ false → R ks
       → MadeAt Q R b (reported phase n (owed above t passage w)) (goes_on passage' (owed above t passage w)) ks
-  made_as_owed phase n above t w passage passage' b ks is r = owed_cases (λ e. MadeAt Q R b (reported phase n e) (goes_on passage' e) ks) above t passage w (unled b ks is r) r (λ to up. r)
+  made_as_owed phase n above t w passage passage' b ks is r =
+      owed_cases (λ e. MadeAt Q R b (reported phase n e) (goes_on passage' e) ks) above t passage w (unled b ks is r) r (λ to up. r)
 
   climb_made : (passage' : Passage) (above t : ℕ) (passage : Passage) (w : Fields) (u : View) (ks : List Kind) → u.led ≡ false → R ks
-      → let r = pass_turn ps passage' t passage (Climb passage) (Owing passage') (Done u.phase) w u in MadeAt Q R (view_after above r.kind t w u).led r.answer r.next (r.kind ∷ ks)
+      → let r = pass_turn ps passage' t passage (Climb passage) (Owing passage') (Done u.phase) w u in
+      MadeAt Q R (view_after above r.kind t w u).led r.answer r.next (r.kind ∷ ks)
   climb_made passage' above t passage w u ks l made =
       by_cond (λ r. MadeAt Q R (view_after above r.kind t w u).led r.answer r.next (r.kind ∷ ks)) w.ended _ _
       (λ e. unled (looked w u).led (Look ∷ ks) (looked_unled w u) (climbs Look ks refl made))
@@ -81,26 +88,35 @@ module _ (ps : List ℕ) (own : Passage) (P C : View → Type 0) (Q R : List Kin
       (λ f. made_as_owed u.phase (passed t passage w).parties (parent_of ps t) t w passage passage' u.led (Climb passage ∷ ks) l (climbs (Climb passage) ks refl made)))
 
   own_made : (t : ℕ) (w : Fields) (u : View) (ks : List Kind) → u.led ≡ false → Q ks
-      → let r = pass_turn ps own t own (own_kind own) (Passing own) (end_shown w) w u in MadeAt Q R (view_after (parent_of ps t) r.kind t w u).led r.answer r.next (r.kind ∷ ks)
+      → let r = pass_turn ps own t own (own_kind own) (Passing own) (end_shown w) w u in
+      MadeAt Q R (view_after (parent_of ps t) r.kind t w u).led r.answer r.next (r.kind ∷ ks)
   own_made t w u ks l made =
-      by_cond (λ r. MadeAt Q R (view_after (parent_of ps t) r.kind t w u).led r.answer r.next (r.kind ∷ ks)) w.ended _ _ (λ e. waits Look ks refl made)
+      by_cond (λ r. MadeAt Q R (view_after (parent_of ps t) r.kind t w u).led r.answer r.next (r.kind ∷ ks)) w.ended _ _
+      (λ e. waits Look ks refl made)
       (λ e. by_cond (λ r. MadeAt Q R (view_after (parent_of ps t) r.kind t w u).led r.answer r.next (r.kind ∷ ks)) (lags w u) _ _ (λ f. waits Refresh ks refl made)
       (λ f. made_as_owed u.phase (passed t own w).parties (parent_of ps t) t w own own (view_after (parent_of ps t) (own_kind own) t w u).led (own_kind own ∷ ks)
       (own_led own (parent_of ps t) t w u l) (counts ks made)))
 
   -- after a step of the call
-  step_made : (p : Progress) (u : View) (a : Played) (b : Bool) (w : Fields) (ks : List Kind) → PassAt own P C u a p → CallFits ps p u → is_going p ≡ true → MadeAt Q R u.led a p ks
-      → let r = turn_by ps b w p u in MadeAt Q R (view_after (parent_of ps (place ps p u)) r.kind (place ps p u) w u).led r.answer r.next (r.kind ∷ ks)
+  step_made : (p : Progress) (u : View) (a : Played) (b : Bool) (w : Fields) (ks : List Kind) → PassAt own P C u a p → CallFits ps p u
+      → is_going p ≡ true → MadeAt Q R u.led a p ks
+      → let r = turn_by ps b w p u in
+      MadeAt Q R (view_after (parent_of ps (place ps p u)) r.kind (place ps p u) w u).led r.answer r.next (r.kind ∷ ks)
   step_made Idle u a b w ks sh fits g made = absurd (cc)
   step_made (Begun c) u a b w ks sh fits g made = absurd sh
   step_made (ToSeek tier size) u a b w ks sh fits g made = absurd sh
   step_made Settling u a b w ks sh fits g made = absurd sh
   step_made (ToGiveBack answer) u a b w ks sh fits g made = absurd sh
   step_made (Passing passage) u a b w ks sh fits g made =
-      subst (λ (z : Passage). let r = pass_turn ps z u.tier z (own_kind z) (Passing z) (end_shown w) w u in MadeAt Q R (view_after (parent_of ps u.tier) r.kind u.tier w u).led r.answer r.next (r.kind ∷ ks))
+      subst
+      (λ (z : Passage). let r = pass_turn ps z u.tier z (own_kind z) (Passing z) (end_shown w) w u in
+      MadeAt Q R (view_after (parent_of ps u.tier) r.kind u.tier w u).led r.answer r.next (r.kind ∷ ks))
       (sym sh.0) (own_made u.tier w u ks sh.2.unled made)
   step_made (Owing own') u a b w ks sh fits g made =
-      subst (λ (e : Errand). let r = climb_turn ps own' w u e in MadeAt Q R (view_after (parent_of ps (errand_place ps e)) r.kind (errand_place ps e) w u).led r.answer r.next (r.kind ∷ ks)) (sym fits.2)
+      subst
+      (λ (e : Errand). let r = climb_turn ps own' w u e in
+      MadeAt Q R (view_after (parent_of ps (errand_place ps e)) r.kind (errand_place ps e) w u).led r.answer r.next (r.kind ∷ ks))
+      (sym fits.2)
       (climb_made own' (parent_of ps fits.0) fits.0 fits.1 w u ks sh.1 made)
   step_made (Due own') u a b w ks sh fits g made =
       by_test (λ c. LedBy R (view_after (parent_of ps 0) (cond c Look (Advance b)) 0 w u).led (cond c Look (Advance b) ∷ ks)) w.ended
@@ -109,7 +125,8 @@ module _ (ps : List ℕ) (own : Passage) (P C : View → Type 0) (Q R : List Kin
   step_made (Refreshing passed_on) u a b w ks sh fits g made = absurd sh
 
   -- after a look that is none
-  stay_made : (p : Progress) (u : View) (a : Played) (w : Fields) (ks : List Kind) (l : Bool) → PassAt own P C u a p → is_going p ≡ true → MadeAt Q R u.led a p ks
+  stay_made : (p : Progress) (u : View) (a : Played) (w : Fields) (ks : List Kind) (l : Bool) → PassAt own P C u a p → is_going p ≡ true
+      → MadeAt Q R u.led a p ks
       → MadeAt Q R l GoesOn p (looking (meant p u) (place ps p u) w ∷ ks)
   stay_made Idle u a w ks l sh g made = absurd (cc)
   stay_made (Begun c) u a w ks l sh g made = absurd sh
@@ -122,7 +139,8 @@ module _ (ps : List ℕ) (own : Passage) (P C : View → Type 0) (Q R : List Kin
   stay_made (Due own') u a w ks l sh g made = climbs Look ks refl made
   stay_made (Refreshing passed_on) u a w ks l sh g made = absurd sh
 
-  look_made : (at : Position) (w : Fields) → PassAt own P C at.view at.answer at.progress → CallFits ps at.progress at.view → is_going at.progress ≡ true
+  look_made : (at : Position) (w : Fields) → PassAt own P C at.view at.answer at.progress → CallFits ps at.progress at.view
+      → is_going at.progress ≡ true
       → Beside ps (place ps at.progress at.view) w at.view → MadeAt Q R at.view.led at.answer at.progress at.steps
       → MadeAt Q R (after_look ps w at).view.led (after_look ps w at).answer (after_look ps w at).progress (after_look ps w at).steps
   look_made at w sh fits g beside made =
@@ -130,7 +148,10 @@ module _ (ps : List ℕ) (own : Passage) (P C : View → Type 0) (Q R : List Kin
       let t : ℕ = place ps at.progress at.view in
       let kind : Kind = looking (meant at.progress at.view) t w in
       let u : View = view_after (parent_of ps t) kind t w at.view in
-      let X : Bool → Type 0 = λ c. let x : Position = cond c (record { progress = r.next; view = u; answer = r.answer; steps = kind ∷ at.steps }) (record { progress = at.progress; view = u; answer = GoesOn; steps = kind ∷ at.steps }) in
+      let X : Bool → Type 0 =
+      λ c. let x : Position =
+      cond c (record { progress = r.next; view = u; answer = r.answer; steps = kind ∷ at.steps })
+      (record { progress = at.progress; view = u; answer = GoesOn; steps = kind ∷ at.steps }) in
       MadeAt Q R x.view.led x.answer x.progress x.steps in
       let l = look_is ps w at.view (parent_of ps t) at.progress fits g (root_of ps t w at.view beside) in
       by_test X (is_look r.kind)
@@ -139,18 +160,23 @@ module _ (ps : List ℕ) (own : Passage) (P C : View → Type 0) (Q R : List Kin
       (λ e. stay_made at.progress at.view at.answer w at.steps u.led sh g made)
 
 -- along a call
-module _ (k : Key) (own : Passage) (P C : View → Type 0) (Q R : List Kind → Type 0) (waits : (x : Kind) (ks : List Kind) → is_quiet x ≡ true → Q ks → Q (x ∷ ks))
-    (climbs : (x : Kind) (ks : List Kind) → is_upward x ≡ true → R ks → R (x ∷ ks)) (counts : (ks : List Kind) → Q ks → R (own_kind own ∷ ks))
+module _ (k : Key) (own : Passage) (P C : View → Type 0) (Q R : List Kind → Type 0)
+    (waits : (x : Kind) (ks : List Kind) → is_quiet x ≡ true → Q ks → Q (x ∷ ks))
+    (climbs : (x : Kind) (ks : List Kind) → is_upward x ≡ true → R ks → R (x ∷ ks))
+    (counts : (ks : List Kind) → Q ks → R (own_kind own ∷ ks))
     (from : Position) (shown : (at : Position) → Goes k from at → PassAt own P C at.view at.answer at.progress) where
-  pub made_along : (at : Position) → MadeAt Q R from.view.led from.answer from.progress from.steps → Goes k from at → MadeAt Q R at.view.led at.answer at.progress at.steps
+  pub made_along : (at : Position) → MadeAt Q R from.view.led from.answer from.progress from.steps → Goes k from at
+      → MadeAt Q R at.view.led at.answer at.progress at.steps
   made_along at m starts = m
   made_along at m (steps at' w b go fits g beside says found) =
-      step_made k.shape own P C Q R waits climbs counts at'.progress at'.view at'.answer b w at'.steps (shown at' go) fits g (made_along at' m go)
+      step_made k.shape own P C Q R waits climbs counts at'.progress at'.view at'.answer b w at'.steps (shown at' go) fits g
+      (made_along at' m go)
   made_along at m (looks at' w go fits g beside) =
       look_made k.shape own P C Q R waits climbs counts at' w (shown at' go) fits g beside (made_along at' m go)
 
 -- what is made on the way to the step at the token's tier, and after it
-pub stepped_more : (own : Passage) (old : List Kind) (k : Kind) (ks : List Kind) → is_upward k ≡ true → HasStepped own old ks → HasStepped own old (k ∷ ks)
+pub stepped_more : (own : Passage) (old : List Kind) (k : Kind) (ks : List Kind) → is_upward k ≡ true → HasStepped own old ks
+    → HasStepped own old (k ∷ ks)
 stepped_more own old k ks such m = (m.0, m.1, made_more is_upward k (own_kind own ∷ m.0) ks such m.2)
 
 pub steps_own : (own : Passage) (old ks : List Kind) → HasLooked old ks → HasStepped own old (own_kind own ∷ ks)

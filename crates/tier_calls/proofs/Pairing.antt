@@ -20,7 +20,8 @@ abbrev Seat : Type 0
 Seat = Me Kind (List Sight)
 
 -- the seat of a token, by what it knows
-pub held_seated : (mo : Seat) (h : Holding) → mo ≡ (sight_held h ∷ [], []) → Beside h.tree.key.shape h.tier h.word h.view → IsSeated mo h.view h.tier h.word
+pub held_seated : (mo : Seat) (h : Holding) → mo ≡ (sight_held h ∷ [], []) → Beside h.tree.key.shape h.tier h.word h.view
+    → IsSeated mo h.view h.tier h.word
 held_seated mo h is beside = record {
   one = is ∙ ap (λ (z : Sight). let r : Seat = (z ∷ [], []) in r) (sym (ap sight_of is));
   view = ap (λ (m : Seat). (sight_of m).view) is;
@@ -30,13 +31,16 @@ held_seated mo h is beside = record {
 }
 
 -- what a joined seat knows
-pub joined_is : {x y : Sight} {me mo joined : Seat} → me ≡ (x ∷ [], []) → mo ≡ (y ∷ [], []) → joined ≡ (me.0 ++ mo.0, me.1) → joined ≡ (x ∷ y ∷ [], [])
+pub joined_is : {x y : Sight} {me mo joined : Seat} → me ≡ (x ∷ [], []) → mo ≡ (y ∷ [], []) → joined ≡ (me.0 ++ mo.0, me.1)
+    → joined ≡ (x ∷ y ∷ [], [])
 joined_is {x} {y} {me} {mo} {joined} a b is = is ∙ (λ i. let r : Seat = ((a i).0 ++ (b i).0, (a i).1) in r)
 
-pub both_look : {k : Key} {x y : Sight} {joined : Seat} (slots seat : ℕ) → joined ≡ (x ∷ y ∷ [], []) → x.key ≡ k → y.key ≡ k → 0 < length k.shape
+pub both_look : {k : Key} {x y : Sight} {joined : Seat} (slots seat : ℕ) → joined ≡ (x ∷ y ∷ [], []) → x.key ≡ k → y.key ≡ k
+    → 0 < length k.shape
     → Allows (Kept k) slots seat joined 0 (λ n. n) (SawBoth (step slots 0 0 0 none) joined)
 both_look {k} {x} {y} {joined} slots seat is own own' some =
-    subst (λ (m : Seat). Allows (Kept k) slots seat m 0 (λ n. n) (SawBoth (step slots 0 0 0 none) m)) (sym is) (both_allow k slots seat x y own own' some)
+    subst (λ (m : Seat). Allows (Kept k) slots seat m 0 (λ n. n) (SawBoth (step slots 0 0 0 none) m)) (sym is)
+    (both_allow k slots seat x y own own' some)
 
 -- what both learn
 pub record Pair (n : ℕ) (me mo me' mo' : Seat) (v u : View) (o : Option Fields) : Type 0 where
@@ -47,23 +51,29 @@ pub record Pair (n : ℕ) (me mo me' mo' : Seat) (v u : View) (o : Option Fields
   pub one : first.word ≡ word
   pub other : second.word ≡ word
 
-looked_is : {me mo joined : Seat} {v u : View} {t t' : ℕ} {w w' : Fields} → IsSeated me v t w → IsSeated mo u t' w' → joined ≡ (me.0 ++ mo.0, me.1) → joined ≡ (sight_of me ∷ sight_of mo ∷ [], [])
+looked_is : {me mo joined : Seat} {v u : View} {t t' : ℕ} {w w' : Fields} → IsSeated me v t w → IsSeated mo u t' w'
+    → joined ≡ (me.0 ++ mo.0, me.1) → joined ≡ (sight_of me ∷ sight_of mo ∷ [], [])
 looked_is {me} {mo} {joined} {v} {u} {t} {t'} {w} {w'} seat seat' is = joined_is seat.one seat'.one is
 
-pub parts_ok : {k : Key} {n : ℕ} {me mo joined looked' : Seat} {v u : View} {t t' : ℕ} {w w' : Fields} (s : Step Kind) (id : ℕ) → IsSeated me v t w → IsSeated mo u t' w' → joined ≡ (me.0 ++ mo.0, me.1)
+pub parts_ok : {k : Key} {n : ℕ} {me mo joined looked' : Seat} {v u : View} {t t' : ℕ} {w w' : Fields} (s : Step Kind) (id : ℕ)
+    → IsSeated me v t w → IsSeated mo u t' w' → joined ≡ (me.0 ++ mo.0, me.1)
     → SawBoth s joined n looked' → Splits (Kept k) id looked'.0 (front_of looked'.0) (rest_of looked'.0)
 parts_ok {k} {n} {me} {mo} {joined} {looked'} {v} {u} {t} {t'} {w} {w'} s id seat seat' is reported =
     let r = reported (sight_of me) (sight_of mo) (looked_is {me = me} {mo = mo} {joined = joined} seat seat' is) in
     subst (λ (m : Seat). Splits (Kept k) id m.0 (front_of m.0) (rest_of m.0)) (sym r.2) (parts_allow k id r.0 r.1)
 
 -- they found the number of some word
-pub pair_number : {n : ℕ} {me mo joined looked' : Seat} {v u : View} {t t' : ℕ} {w w' : Fields} (s : Step Kind) → IsSeated me v t w → IsSeated mo u t' w' → joined ≡ (me.0 ++ mo.0, me.1)
+pub pair_number : {n : ℕ} {me mo joined looked' : Seat} {v u : View} {t t' : ℕ} {w w' : Fields} (s : Step Kind) → IsSeated me v t w
+    → IsSeated mo u t' w' → joined ≡ (me.0 ++ mo.0, me.1)
     → SawBoth s joined n looked' → (z : Fields) × IsLegal z × (packed z ≡ n)
 pair_number {n} {me} {mo} {joined} {looked'} {v} {u} {t} {t'} {w} {w'} s seat seat' is reported =
     let r = reported (sight_of me) (sight_of mo) (looked_is {me = me} {mo = mo} {joined = joined} seat seat' is) in (r.3, r.4, sym r.5)
 
-pub paired : {n : ℕ} {me mo joined looked' : Seat} {v u : View} {t t' : ℕ} {w w' : Fields} (s : Step Kind) {me' mo' : Seat} {o : Option Fields} → IsSeated me v t w → IsSeated mo u t' w' → joined ≡ (me.0 ++ mo.0, me.1)
-    → SawBoth s joined n looked' → me' ≡ (front_of looked'.0, looked'.1) → mo' ≡ (rest_of looked'.0, []) → ((z : Fields) → IsLegal z → packed z ≡ n → o ≡ Some z)
+pub paired : {n : ℕ} {me mo joined looked' : Seat} {v u : View} {t t' : ℕ} {w w' : Fields}
+    (s : Step Kind) {me' mo' : Seat} {o : Option Fields}
+    → IsSeated me v t w → IsSeated mo u t' w' → joined ≡ (me.0 ++ mo.0, me.1)
+    → SawBoth s joined n looked' → me' ≡ (front_of looked'.0, looked'.1) → mo' ≡ (rest_of looked'.0, [])
+    → ((z : Fields) → IsLegal z → packed z ≡ n → o ≡ Some z)
     → Pair n me mo me' mo' v u o
 paired {n} {me} {mo} {joined} {looked'} {v} {u} {t} {t'} {w} {w'} s {me'} {mo'} {o} seat seat' is reported mine others again =
     let r = reported (sight_of me) (sight_of mo) (looked_is {me = me} {mo = mo} {joined = joined} seat seat' is) in
@@ -79,7 +89,8 @@ paired {n} {me} {mo} {joined} {looked'} {v} {u} {t} {t'} {w} {w'} s {me'} {mo'} 
     }
 
 -- a token is what its seat knows
-pub held_whole : {id : TableId} (mo : Seat) (h : Holding) → id ≡ h.tree.id → mo ≡ (sight_held h ∷ [], []) → holding id mo h.view h.tier h.word ≡ h
+pub held_whole : {id : TableId} (mo : Seat) (h : Holding) → id ≡ h.tree.id → mo ≡ (sight_held h ∷ [], [])
+    → holding id mo h.view h.tier h.word ≡ h
 held_whole {id} mo h same is = λ i. record {
   tree = record { id = same i; key = (ap (λ (m : Seat). (sight_of m).key) is) i };
   view = h.view;

@@ -26,7 +26,8 @@ map_replicate : (n : ℕ) (w : Fields) → map packed (replicate n w) ≡ replic
 map_replicate zero w = refl
 map_replicate (suc n) w = ap (λ (ns : List ℕ). packed w ∷ ns) (map_replicate n w)
 
-pub opens : (k : Key) (n : ℕ) (numbers : List ℕ) → IsTiers k.shape → k.phase ≤ 2147483647 → n ≡ length k.shape → numbers ≡ replicate n (packed (empty_word k.phase))
+pub opens : (k : Key) (n : ℕ) (numbers : List ℕ) → IsTiers k.shape → k.phase ≤ 2147483647 → n ≡ length k.shape
+    → numbers ≡ replicate n (packed (empty_word k.phase))
     → Kept k (opening numbers [] (first_sights k))
 opens k n numbers shape small long is =
     subst (λ (ns : List ℕ). Kept k (opening ns [] (first_sights k)))
@@ -42,24 +43,27 @@ length_same zero w = refl
 length_same (suc n) w = ap suc (length_same n w)
 
 -- the first seat of a tree
-pub first_seat : (k : Key) (me : Me Kind (List Sight)) → IsTiers k.shape → k.phase ≤ 2147483647 → me ≡ (first_sights k, []) → IsSeated me (new_view k.phase) 0 (empty_word k.phase)
-first_seat k me shape small at = subst (λ (m : Me Kind (List Sight)). IsSeated m (new_view k.phase) 0 (empty_word k.phase)) (sym at) (record {
-  one = refl;
-  view = refl;
-  tier = refl;
-  word = refl;
-  beside = record {
-    words = empty_words k.shape k.phase;
-    front = [];
-    back = [];
-    shape = shape;
-    within = (let a = shape.shape.some in let b = length_same (length k.shape) (empty_word k.phase) in omega arith);
-    word = word_first (length k.shape) (empty_word k.phase) shape.shape.some;
-    tally = (start_tallies k.shape k.phase shape.shape small).0;
-  };
-})
+pub first_seat : (k : Key) (me : Me Kind (List Sight)) → IsTiers k.shape → k.phase ≤ 2147483647 → me ≡ (first_sights k, [])
+    → IsSeated me (new_view k.phase) 0 (empty_word k.phase)
+first_seat k me shape small at =
+    subst (λ (m : Me Kind (List Sight)). IsSeated m (new_view k.phase) 0 (empty_word k.phase)) (sym at) (record {
+      one = refl;
+      view = refl;
+      tier = refl;
+      word = refl;
+      beside = record {
+        words = empty_words k.shape k.phase;
+        front = [];
+        back = [];
+        shape = shape;
+        within = (let a = shape.shape.some in let b = length_same (length k.shape) (empty_word k.phase) in omega arith);
+        word = word_first (length k.shape) (empty_word k.phase) shape.shape.some;
+        tally = (start_tallies k.shape k.phase shape.shape small).0;
+      };
+    })
 
-pub first_seated : (k : Key) (me : Me Kind (List Sight)) (v : View) → IsTiers k.shape → k.phase ≤ 2147483647 → me ≡ (first_sights k, []) → v ≡ new_view k.phase
+pub first_seated : (k : Key) (me : Me Kind (List Sight)) (v : View) → IsTiers k.shape → k.phase ≤ 2147483647 → me ≡ (first_sights k, [])
+    → v ≡ new_view k.phase
     → IsSeated me v 0 (empty_word k.phase)
 first_seated k me v shape small at is = subst (λ (u : View). IsSeated me u 0 (empty_word k.phase)) (sym is) (first_seat k me shape small at)
 
@@ -77,14 +81,18 @@ sits {k} {n} {blank} {me} {o} empty reported again =
       word = r.0;
       some = again r.0 r.1 (sym r.2);
       at = r.3;
-      seat = subst (λ (m : Me Kind (List Sight)). IsSeated m (new_view r.0.phase) 0 r.0) (sym r.3) (record { one = refl; view = refl; tier = refl; word = refl; beside = r.4 });
+      seat =
+          subst (λ (m : Me Kind (List Sight)). IsSeated m (new_view r.0.phase) 0 r.0) (sym r.3)
+          (record { one = refl; view = refl; tier = refl; word = refl; beside = r.4 });
     }
 
-pub sit_seated : {k : Key} {n : ℕ} {me : Me Kind (List Sight)} {o : Option Fields} (v : View) (w : Fields) → (s : Seats k n me o) → w ≡ s.word → v ≡ new_view w.phase → IsSeated me v 0 w
+pub sit_seated : {k : Key} {n : ℕ} {me : Me Kind (List Sight)} {o : Option Fields} (v : View) (w : Fields) → (s : Seats k n me o)
+    → w ≡ s.word → v ≡ new_view w.phase → IsSeated me v 0 w
 sit_seated {k} {n} {me} {o} v w s here is =
     subst (λ (u : View). IsSeated me u 0 w) (sym is) (subst (λ (z : Fields). IsSeated me (new_view z.phase) 0 z) (sym here) s.seat)
 
-pub sit_allow : {k j : Key} {n : Named} {id : TableId} {me : Me Kind (List Sight)} (slots seat : ℕ) → me ≡ ([], []) → j ≡ n.key → record { id = id; key = k } ≡ n → 0 < length k.shape
+pub sit_allow : {k j : Key} {n : Named} {id : TableId} {me : Me Kind (List Sight)} (slots seat : ℕ) → me ≡ ([], []) → j ≡ n.key
+    → record { id = id; key = k } ≡ n → 0 < length k.shape
     → Allows (Kept k) slots seat me 0 (λ n. n) (Sat j (step slots 0 0 0 none) me)
 sit_allow {k} {j} {n} {id} {me} slots seat blank key is some =
     let own : j ≡ k = key ∙ sym (ap (λ (z : Named). z.key) is) in
@@ -92,10 +100,13 @@ sit_allow {k} {j} {n} {id} {me} slots seat blank key is some =
     (subst (λ (m : Me Kind (List Sight)). Allows (Kept k) slots seat m 0 (λ n. n) (Sat k (step slots 0 0 0 none) m)) (sym blank) (sits_allow k slots seat some))
 
 -- a seat off which another is cut
-cut_me : {me me' : Me Kind (List Sight)} {v : View} {t : ℕ} {w : Fields} → IsSeated me v t w → me' ≡ (cut_off me.0, me.1) → me' ≡ (cut_once (sight_of me) ∷ [], [])
-cut_me {me} {me'} {v} {t} {w} seat is = is ∙ ap (λ (m : Me Kind (List Sight)). let r : Me Kind (List Sight) = (cut_off m.0, m.1) in r) seat.one
+cut_me : {me me' : Me Kind (List Sight)} {v : View} {t : ℕ} {w : Fields} → IsSeated me v t w → me' ≡ (cut_off me.0, me.1)
+    → me' ≡ (cut_once (sight_of me) ∷ [], [])
+cut_me {me} {me'} {v} {t} {w} seat is =
+    is ∙ ap (λ (m : Me Kind (List Sight)). let r : Me Kind (List Sight) = (cut_off m.0, m.1) in r) seat.one
 
-pub split_seated : {me me' : Me Kind (List Sight)} {v : View} {t : ℕ} {w : Fields} → IsSeated me v t w → me' ≡ (cut_off me.0, me.1) → IsSeated me' v t w
+pub split_seated : {me me' : Me Kind (List Sight)} {v : View} {t : ℕ} {w : Fields} → IsSeated me v t w → me' ≡ (cut_off me.0, me.1)
+    → IsSeated me' v t w
 split_seated {me} {me'} {v} {t} {w} seat is =
     let e = cut_me {me = me} {me' = me'} seat is in record {
       one = e ∙ ap (λ (z : Sight). let r : Me Kind (List Sight) = (z ∷ [], []) in r) (sym (ap sight_of e));
@@ -105,7 +116,8 @@ split_seated {me} {me'} {v} {t} {w} seat is =
       beside = subst (λ (z : Key). Beside z.shape t w v) (sym (ap (λ (m : Me Kind (List Sight)). (sight_of m).key) e)) seat.beside;
     }
 
-pub split_held : {me me' : Me Kind (List Sight)} {v : View} {t : ℕ} {w : Fields} {id id' : TableId} {h : Holding} → holding id me v t w ≡ h → IsSeated me v t w → id' ≡ id → me' ≡ (cut_off me.0, me.1)
+pub split_held : {me me' : Me Kind (List Sight)} {v : View} {t : ℕ} {w : Fields} {id id' : TableId} {h : Holding} → holding id me v t w ≡ h
+    → IsSeated me v t w → id' ≡ id → me' ≡ (cut_off me.0, me.1)
     → holding id' me' v t w ≡ split_once h
 split_held {me} {me'} {v} {t} {w} {id} {id'} {h} held seat same is =
     let e = cut_me {me = me} {me' = me'} seat is in
@@ -119,12 +131,14 @@ split_held {me} {me'} {v} {t} {w} {id} {id'} {h} held seat same is =
       opened = (ap (λ (m : Me Kind (List Sight)). (sight_of m).opened) e) i;
     }) ∙ ap split_once held
 
-pub split_allow : {k : Key} {me : Me Kind (List Sight)} {v : View} {t : ℕ} {w : Fields} (seat : ℕ) → IsSeated me v t w → Splits (Kept k) seat me.0 (cut_off me.0) []
+pub split_allow : {k : Key} {me : Me Kind (List Sight)} {v : View} {t : ℕ} {w : Fields} (seat : ℕ) → IsSeated me v t w
+    → Splits (Kept k) seat me.0 (cut_off me.0) []
 split_allow {k} {me} {v} {t} {w} seat is =
     subst (λ (m : Me Kind (List Sight)). Splits (Kept k) seat m.0 (cut_off m.0) []) (sym is.one) (cuts_allow k seat (sight_of me))
 
 -- the seat of a token knows what the token says
-pub held_seat : {id : TableId} {me : Me Kind (List Sight)} {v : View} {t : ℕ} {w : Fields} {h : Holding} → holding id me v t w ≡ h → IsSeated me v t w → me ≡ (sight_held h ∷ [], [])
+pub held_seat : {id : TableId} {me : Me Kind (List Sight)} {v : View} {t : ℕ} {w : Fields} {h : Holding} → holding id me v t w ≡ h
+    → IsSeated me v t w → me ≡ (sight_held h ∷ [], [])
 held_seat {id} {me} {v} {t} {w} {h} held seat =
     seat.one
     ∙ ((λ i. let r : Me Kind (List Sight) = (

@@ -54,13 +54,19 @@ size_at v u a (Owing passage) s e = (s.0.arrival refl).0
 size_at v u a (Due passage) s e = (s.0.arrival refl).0
 size_at v u a (Refreshing moved_on) s e = absurd s
 
-pub first_stays : {h h' : Holding} {phase : ℕ} → IsCrew h → Looked Look 0 h h' → h'.word.ended ≡ false → h'.view.arrived ≡ h'.view.size → phase ≡ h'.view.phase → ArrivesInPlace h h' (came.AlreadyArrived phase)
-first_stays {h} {h'} {phase} crew took going all is = let a = first_arrived {h = h} {h' = h'} {phase = phase} Arrival 0 crew took going all is in (a.0.tree, a.0.opened, a.1, a.2, a.3, a.4, a.5)
+pub first_stays : {h h' : Holding} {phase : ℕ} → IsCrew h → Looked Look 0 h h' → h'.word.ended ≡ false → h'.view.arrived ≡ h'.view.size
+    → phase ≡ h'.view.phase → ArrivesInPlace h h' (came.AlreadyArrived phase)
+first_stays {h} {h'} {phase} crew took going all is =
+    let a = first_arrived {h = h} {h' = h'} {phase = phase} Arrival 0 crew took going all is in
+    (a.0.tree, a.0.opened, a.1, a.2, a.3, a.4, a.5)
 
-pub first_is_over : {h h' : Holding} {shown : ℤ} → IsCrew h → Looked Look 0 h h' → h'.word.ended ≡ true → shown ≡ shown_of h'.word.phase h'.word.ended → ArrivesInPlace h h' (came.Ended shown)
-first_is_over {h} {h'} {shown} crew took e is = let a = first_ended {h = h} {h' = h'} {shown = shown} Arrival 0 crew took e is in (a.0.tree, a.0.opened, a.1, a.2, a.3)
+pub first_is_over : {h h' : Holding} {shown : ℤ} → IsCrew h → Looked Look 0 h h' → h'.word.ended ≡ true
+    → shown ≡ shown_of h'.word.phase h'.word.ended → ArrivesInPlace h h' (came.Ended shown)
+first_is_over {h} {h'} {shown} crew took e is = let a = first_ended {h = h} {h' = h'} {shown = shown} Arrival 0 crew took e is in
+    (a.0.tree, a.0.opened, a.1, a.2, a.3)
 
-module _ (n : Named) (h h' : Holding) (g : Going) (is : h.tree ≡ n) (crew : IsCrew h) (took : Looked Look 0 h h') (going : h'.word.ended ≡ false) (some : h'.view.arrived ≢ h'.view.size)
+module _ (n : Named) (h h' : Holding) (g : Going) (is : h.tree ≡ n) (crew : IsCrew h) (took : Looked Look 0 h h')
+    (going : h'.word.ended ≡ false) (some : h'.view.arrived ≢ h'.view.size)
     (ran : RanOver n (began_at Arrival h') g) where
   whole : Ran n ran.used (began_at Arrival h') g
   whole = record { used = ran.used; went = ran.went; few = omega arith; all = λ e. not_both (is_going g.progress) e ran.over }
@@ -69,14 +75,18 @@ module _ (n : Named) (h h' : Holding) (g : Going) (is : h.tree ≡ n) (crew : Is
   may_come = record { may = may_settle n Arrival ran.used h h' g is crew took going some whole; over = ran.over }
 
   idle : g.progress ≡ Idle
-  idle = over_idle (IsSame h'.view) (HasCounted Arrival h'.view) g.token.view g.answer g.progress (shown n Arrival ran.used h h' g is crew took going some whole) ran.over
+  idle =
+      over_idle (IsSame h'.view) (HasCounted Arrival h'.view) g.token.view g.answer g.progress
+      (shown n Arrival ran.used h h' g is crew took going some whole) ran.over
 
   pub still_crew : IsCrew g.token
   still_crew =
       let size = size_at h'.view g.token.view g.answer g.progress (shown n Arrival ran.used h h' g is crew took going some whole) idle in
       let looked = (first h h' crew took).looked.size in
       let before = crew.some in
-      crew_by g.token (subst (λ (z : Named). Beside z.key.shape g.token.tier g.token.word g.token.view) (sym ran.went.at.own) ran.went.at.known) (omega arith)
+      crew_by g.token
+      (subst (λ (z : Named). Beside z.key.shape g.token.tier g.token.word g.token.view) (sym ran.went.at.own) ran.went.at.known)
+      (omega arith)
       (subst (λ (p : Progress). CallFits n.key.shape p g.token.view) idle ran.went.at.fits)
 
   pub stays : (r : ArrivedInPlace) → Comes g r → ArrivesInPlace h g.token r

@@ -29,14 +29,18 @@ glance_rests above (suc t) w v e = e
 one_quiet : (k : Kind) (old new : List Kind) → is_quiet k ≡ true → new ≡ k ∷ old → MadeOnly is_quiet old new
 one_quiet k old new such is = subst (MadeOnly is_quiet old) (sym is) (made_more is_quiet k old old such (made_none is_quiet old))
 
-crew_kept : (h h' : Holding) (t tries above : ℕ) (w : Fields) → IsCrew h → h.view.arrived < h.view.size → h'.tree ≡ h.tree → h'.tier ≡ t → t ≡ h.view.tier → h'.tried ≡ h.tried + tries
-    → h'.opened ≡ h.opened → h'.view ≡ view_after above (glance t) t w h.view → Beside h.tree.key.shape h'.tier h'.word h'.view → h'.steps ≡ glance t ∷ h.steps → KeepsCrew tries h h'
+crew_kept : (h h' : Holding) (t tries above : ℕ) (w : Fields) → IsCrew h → h.view.arrived < h.view.size → h'.tree ≡ h.tree → h'.tier ≡ t
+    → t ≡ h.view.tier → h'.tried ≡ h.tried + tries
+    → h'.opened ≡ h.opened → h'.view ≡ view_after above (glance t) t w h.view → Beside h.tree.key.shape h'.tier h'.word h'.view
+    → h'.steps ≡ glance t ∷ h.steps → KeepsCrew tries h h'
 crew_kept h h' t tries above w crew some tree at is tried opened view beside made =
     let s : IsSame h.view h'.view = subst (IsSame h.view) (sym view) (still_glance above t w h.view (λ z. inr some)) in
     record {
       tree = tree;
       crew = s;
-      rests = crew_by h' (subst (λ (z : Named). Beside z.key.shape h'.tier h'.word h'.view) (sym tree) beside) (let a = s.size in let b = crew.some in omega arith)
+      rests =
+          crew_by h' (subst (λ (z : Named). Beside z.key.shape h'.tier h'.word h'.view) (sym tree) beside)
+          (let a = s.size in let b = crew.some in omega arith)
           (ap (λ (v : View). v.errand) view ∙ glance_rests above t w h.view crew.rests);
       tier = at ∙ is;
       tried = tried;
@@ -44,11 +48,15 @@ crew_kept h h' t tries above w crew some tree at is tried opened view beside mad
       made = one_quiet (glance t) h.steps h'.steps (glance_quiet t) made;
     }
 
-pub crew_looked : {h h' : Holding} {t : ℕ} → IsCrew h → h.view.arrived < h.view.size → t ≡ h.view.tier → Looked Look t h h' → KeepsCrew 0 h h'
-crew_looked {h} {h'} {t} crew some is took = crew_kept h h' t 0 (parent_of h.tree.key.shape t) h'.word crew some took.tree took.tier is took.tried took.opened took.view took.after took.steps
+pub crew_looked : {h h' : Holding} {t : ℕ} → IsCrew h → h.view.arrived < h.view.size → t ≡ h.view.tier → Looked Look t h h'
+    → KeepsCrew 0 h h'
+crew_looked {h} {h'} {t} crew some is took =
+    crew_kept h h' t 0 (parent_of h.tree.key.shape t) h'.word crew some took.tree took.tier is took.tried took.opened took.view took.after
+    took.steps
 
 -- a try of a crew at its tier
-pub refresh_needs : (ps : List ℕ) {h : Holding} → IsCrew h → h.view.arrived < h.view.size → h.tier ≡ h.view.tier → lags h.word h.view ≡ true → Needs ps Refresh h.tier h.word h.view
+pub refresh_needs : (ps : List ℕ) {h : Holding} → IsCrew h → h.view.arrived < h.view.size → h.tier ≡ h.view.tier → lags h.word h.view ≡ true
+    → Needs ps Refresh h.tier h.word h.view
 refresh_needs ps {h} crew some is lagging =
     let w : Fields = h.word in
     let a = both (nat_lt 0 w.parties) (eqb w.unarrived 0 && not (eqb w.phase h.view.phase)) lagging in
@@ -82,14 +90,17 @@ look_again (suc t) t' w = refl
 
 -- a try of a crew that changes no view
 tried_on : (b : Bool) (kind : Kind) (h h' : Holding) → is_quiet kind ≡ true → IsCrew h → h.view.arrived < h.view.size → h.tier ≡ h.view.tier
-    → IsSame h.view (view_after (parent_of h.tree.key.shape h.tier) kind h.tier h.word h.view) × ((view_after (parent_of h.tree.key.shape h.tier) kind h.tier h.word h.view).errand ≡ Rest)
+    → IsSame h.view (view_after (parent_of h.tree.key.shape h.tier) kind h.tier h.word h.view)
+    × ((view_after (parent_of h.tree.key.shape h.tier) kind h.tier h.word h.view).errand ≡ Rest)
     → ((t : ℕ) (w : Fields) → looking kind t w ≡ glance t) → MatchBool b (Won kind h h') (Lost kind h h') → KeepsCrew 1 h h'
 tried_on true kind h h' such crew some is still look won =
     let same : IsSame h.view h'.view = subst (IsSame h.view) (sym won.view) still.0 in
     record {
       tree = won.tree;
       crew = same;
-      rests = crew_by h' (subst (λ (z : Named). Beside z.key.shape h'.tier h'.word h'.view) (sym won.tree) won.after) (let a = same.size in let b = crew.some in omega arith)
+      rests =
+          crew_by h' (subst (λ (z : Named). Beside z.key.shape h'.tier h'.word h'.view) (sym won.tree) won.after)
+          (let a = same.size in let b = crew.some in omega arith)
           (ap (λ (v : View). v.errand) won.view ∙ still.1);
       tier = won.tier ∙ is;
       tried = won.tried;
@@ -102,13 +113,21 @@ tried_on false kind h h' such crew some is still look lost =
     (t.view ∙ ap (λ (k : Kind). view_after (parent_of h.tree.key.shape h.tier) k h.tier h'.word h.view) (look h.tier h'.word)) t.after
     (t.steps ∙ ap (λ (k : Kind). k ∷ h.steps) (look h.tier h'.word))
 
-pub refresh_kept : (b : Bool) {h h' : Holding} → IsCrew h → h.view.arrived < h.view.size → h.tier ≡ h.view.tier → MatchBool b (Won Refresh h h') (Lost Refresh h h') → KeepsCrew 1 h h'
+pub refresh_kept : (b : Bool) {h h' : Holding} → IsCrew h → h.view.arrived < h.view.size → h.tier ≡ h.view.tier
+    → MatchBool b (Won Refresh h h') (Lost Refresh h h') → KeepsCrew 1 h h'
 refresh_kept b {h} {h'} crew some is m =
-    tried_on b Refresh h h' refl crew some is (record { tier = refl; size = refl; phase = refl; arrived = refl }, crew.rests) (λ t w. refl) m
+    tried_on b Refresh h h' refl crew some is (record { tier = refl; size = refl; phase = refl; arrived = refl }, crew.rests) (λ t w. refl)
+    m
 
-pub stay_kept : (b : Bool) (kind : Kind) {h h' : Holding} → kind ≡ glance h.tier → IsCrew h → h.view.arrived < h.view.size → h.tier ≡ h.view.tier → MatchBool b (Won kind h h') (Lost kind h h') → KeepsCrew 1 h h'
+pub stay_kept : (b : Bool) (kind : Kind) {h h' : Holding} → kind ≡ glance h.tier → IsCrew h → h.view.arrived < h.view.size
+    → h.tier ≡ h.view.tier → MatchBool b (Won kind h h') (Lost kind h h') → KeepsCrew 1 h h'
 stay_kept b kind {h} {h'} is crew some here m =
     tried_on b kind h h' (ap is_quiet is ∙ glance_quiet h.tier) crew some here
-    (subst (λ (k : Kind). IsSame h.view (view_after (parent_of h.tree.key.shape h.tier) k h.tier h.word h.view) × ((view_after (parent_of h.tree.key.shape h.tier) k h.tier h.word h.view).errand ≡ Rest)) (sym is)
-    (still_glance (parent_of h.tree.key.shape h.tier) h.tier h.word h.view (λ z. inr some), glance_rests (parent_of h.tree.key.shape h.tier) h.tier h.word h.view crew.rests))
+    (subst
+    (λ (k : Kind). IsSame h.view (view_after (parent_of h.tree.key.shape h.tier) k h.tier h.word h.view)
+    × ((view_after (parent_of h.tree.key.shape h.tier) k h.tier h.word h.view).errand ≡ Rest))
+    (sym is) (
+      still_glance (parent_of h.tree.key.shape h.tier) h.tier h.word h.view (λ z. inr some),
+      glance_rests (parent_of h.tree.key.shape h.tier) h.tier h.word h.view crew.rests,
+    ))
     (λ t w. subst (λ (k : Kind). looking k t w ≡ glance t) (sym is) (look_again h.tier t w)) m

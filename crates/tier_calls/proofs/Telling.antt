@@ -11,12 +11,14 @@ few w legal = let p = legal.parties in let u : w.unarrived ≤ most_unarrived w.
 ends : Bool → ℕ
 ends b = if b then 2 ^ 63 else 0
 
-phase_of_number : (p q u : ℕ) (e : Bool) → p ≤ 2147483647 → q ≤ 65535 → u ≤ 65535 → (u + 2 ^ 16 * q + 2 ^ 32 * p + ends e) / 4294967296 % 2147483648 ≡ p
+phase_of_number : (p q u : ℕ) (e : Bool) → p ≤ 2147483647 → q ≤ 65535 → u ≤ 65535
+    → (u + 2 ^ 16 * q + 2 ^ 32 * p + ends e) / 4294967296 % 2147483648 ≡ p
 unfolding ends
 phase_of_number p q u true a b c = omega (arith, a, b, c)
 phase_of_number p q u false a b c = omega (arith, a, b, c)
 
-parties_of_number : (p q u : ℕ) (e : Bool) → p ≤ 2147483647 → q ≤ 65535 → u ≤ 65535 → (u + 2 ^ 16 * q + 2 ^ 32 * p + ends e) / 65536 % 65536 ≡ q
+parties_of_number : (p q u : ℕ) (e : Bool) → p ≤ 2147483647 → q ≤ 65535 → u ≤ 65535
+    → (u + 2 ^ 16 * q + 2 ^ 32 * p + ends e) / 65536 % 65536 ≡ q
 unfolding ends
 parties_of_number p q u true a b c = omega (arith, a, b, c)
 parties_of_number p q u false a b c = omega (arith, a, b, c)
@@ -26,7 +28,8 @@ unfolding ends
 unarrived_of_number p q u true a b c = omega (arith, a, b, c)
 unarrived_of_number p q u false a b c = omega (arith, a, b, c)
 
-end_of_number : (p q u : ℕ) (e : Bool) → p ≤ 2147483647 → q ≤ 65535 → u ≤ 65535 → not (nat_eq ((u + 2 ^ 16 * q + 2 ^ 32 * p + ends e) / 9223372036854775808) 0) ≡ e
+end_of_number : (p q u : ℕ) (e : Bool) → p ≤ 2147483647 → q ≤ 65535 → u ≤ 65535
+    → not (nat_eq ((u + 2 ^ 16 * q + 2 ^ 32 * p + ends e) / 9223372036854775808) 0) ≡ e
 unfolding ends
 end_of_number p q u true a b c = grind (arith, common_steps)
 end_of_number p q u false a b c = grind (arith, common_steps)

@@ -45,7 +45,8 @@ module _ (p : Progress) (w : Fields) (v : View) (p' : Progress) (a : Played) (ov
     x.1 ∙ sym (ap (λ (b : Bool). cond b r.answer GoesOn) quiet),
   )
 
-  missed_pass : (ps : List ℕ) (own : Passage) (t : ℕ) (passage : Passage) (kind : Kind) (here : Progress) → is_look kind ≡ false → Is (pass_turn ps own t passage kind here over w v)
+  missed_pass : (ps : List ℕ) (own : Passage) (t : ℕ) (passage : Passage) (kind : Kind) (here : Progress) → is_look kind ≡ false
+      → Is (pass_turn ps own t passage kind here over w v)
   missed_pass ps own t passage kind here quiet =
       by_cond Is w.ended _ _ (λ e. ended_is e)
       (λ e. by_cond Is (lags w v) _ _
@@ -57,7 +58,8 @@ module _ (p : Progress) (w : Fields) (v : View) (p' : Progress) (a : Played) (ov
         answer = reported v.phase (passed t passage w).parties (owed (parent_of ps t) t passage w);
       }) quiet e))
 
-  missed_due : (own : Passage) (b : Bool) → over ≡ Done v.phase → Is (record { kind = cond w.ended Look (Advance b); tier = 0; next = Idle; answer = Done v.phase })
+  missed_due : (own : Passage) (b : Bool) → over ≡ Done v.phase
+      → Is (record { kind = cond w.ended Look (Advance b); tier = 0; next = Idle; answer = Done v.phase })
   missed_due own b o =
       by_test (λ c. (w.ended ≡ c) → Is (record { kind = cond c Look (Advance b); tier = 0; next = Idle; answer = Done v.phase })) w.ended
       (λ e f. let x = ended_is f in (x.0, x.1 ∙ o))
@@ -72,13 +74,19 @@ missed_after ps (ToSeek tier size) v phase g q fits h is says = not_both false q
 missed_after ps Settling v phase g q fits h is says = not_both false q refl
 missed_after ps (ToGiveBack answer) v phase g q fits h is says = not_both false q refl
 missed_after ps (Passing passage) v phase g q fits h is says =
-    missed_pass (Passing passage) g.token.word v g.progress g.answer (end_shown g.token.word) is says ps passage v.tier passage (own_kind passage) (Passing passage) (quiet_own passage)
+    missed_pass (Passing passage) g.token.word v g.progress g.answer (end_shown g.token.word) is says ps passage v.tier passage
+    (own_kind passage) (Passing passage) (quiet_own passage)
 missed_after ps (Owing own) v phase g q fits h is says =
-    let says' : g.answer ≡ cond g.token.word.ended (Done v.phase) GoesOn = says ∙ ap (λ (n : ℕ). cond g.token.word.ended (Done n) GoesOn) (sym h) in
-    subst (λ (e : Errand). let r : Turn = climb_turn ps own g.token.word v e in (g.progress ≡ cond (is_look r.kind) r.next (Owing own)) × (g.answer ≡ cond (is_look r.kind) r.answer GoesOn)) (sym fits.2)
+    let says' : g.answer ≡ cond g.token.word.ended (Done v.phase) GoesOn =
+    says ∙ ap (λ (n : ℕ). cond g.token.word.ended (Done n) GoesOn) (sym h) in
+    subst
+    (λ (e : Errand). let r : Turn = climb_turn ps own g.token.word v e in
+    (g.progress ≡ cond (is_look r.kind) r.next (Owing own)) × (g.answer ≡ cond (is_look r.kind) r.answer GoesOn))
+    (sym fits.2)
     (missed_pass (Owing own) g.token.word v g.progress g.answer (Done v.phase) is says' ps own fits.0 fits.1 (Climb fits.1) (Owing own) refl)
 missed_after ps (Due own) v phase g q fits h is says =
-    let says' : g.answer ≡ cond g.token.word.ended (Done v.phase) GoesOn = says ∙ ap (λ (n : ℕ). cond g.token.word.ended (Done n) GoesOn) (sym h) in
+    let says' : g.answer ≡ cond g.token.word.ended (Done v.phase) GoesOn =
+    says ∙ ap (λ (n : ℕ). cond g.token.word.ended (Done n) GoesOn) (sym h) in
     missed_due (Due own) g.token.word v g.progress g.answer (Done v.phase) is says' own false refl
 missed_after ps (Refreshing passed_on) v phase g q fits h is says = not_both false q refl
 
@@ -98,14 +106,16 @@ passing_stands k g q fits here e = record { going = going g.progress q; tier = h
     going (Due own) q = refl
     going (Refreshing passed_on) q = refl
 
-    tries : (p : Progress) → is_passing p ≡ true → CallFits k.shape p g.token.view → is_look (turn_by k.shape false g.token.word p g.token.view).kind ≡ false
+    tries : (p : Progress) → is_passing p ≡ true → CallFits k.shape p g.token.view
+        → is_look (turn_by k.shape false g.token.word p g.token.view).kind ≡ false
     tries Idle q fits = not_both false q refl
     tries (Begun c) q fits = not_both false q refl
     tries (ToSeek tier size) q fits = not_both false q refl
     tries Settling q fits = not_both false q refl
     tries (ToGiveBack answer) q fits = not_both false q refl
     tries (Passing passage) q fits =
-        pass_tries k.shape passage g.token.view.tier passage (own_kind passage) (Passing passage) (end_shown g.token.word) g.token.word g.token.view (quiet_own passage) e
+        pass_tries k.shape passage g.token.view.tier passage (own_kind passage) (Passing passage) (end_shown g.token.word) g.token.word
+        g.token.view (quiet_own passage) e
     tries (Owing own) q fits =
         subst (λ (z : Errand). is_look (climb_turn k.shape own g.token.word g.token.view z).kind ≡ false) (sym fits.2)
         (pass_tries k.shape own fits.0 fits.1 (Climb fits.1) (Owing own) (Done g.token.view.phase) g.token.word g.token.view refl e)
@@ -121,7 +131,8 @@ own_turn k g own p st =
     ap (λ (z : Progress). turn_by k.shape false g.token.word z g.token.view) p
     ∙ (λ i. pass_turn k.shape own (here i) own (own_kind own) (sym p i) (end_shown g.token.word) g.token.word g.token.view)
 
-pub climb_by : (k : Key) (g : Going) (own : Passage) (t : ℕ) (passage : Passage) → g.progress ≡ Owing own → g.token.view.errand ≡ Climbing t passage → Stands k g
+pub climb_by : (k : Key) (g : Going) (own : Passage) (t : ℕ) (passage : Passage) → g.progress ≡ Owing own
+    → g.token.view.errand ≡ Climbing t passage → Stands k g
     → turn_by k.shape false g.token.word g.progress g.token.view
     ≡ pass_turn k.shape own g.token.tier passage (Climb passage) g.progress (Done g.token.view.phase) g.token.word g.token.view
 climb_by k g own t passage p is st =
@@ -131,7 +142,8 @@ climb_by k g own t passage p is st =
     ∙ (λ i. pass_turn k.shape own (here i) passage (Climb passage) (sym p i) (Done g.token.view.phase) g.token.word g.token.view))
 
 pub due_turn : (k : Key) (g : Going) (own : Passage) (ends : Bool) → g.progress ≡ Due own → g.token.word.ended ≡ false
-    → turn_by k.shape ends g.token.word g.progress g.token.view ≡ record { kind = Advance ends; tier = 0; next = Idle; answer = Done g.token.view.phase }
+    → turn_by k.shape ends g.token.word g.progress g.token.view
+    ≡ record { kind = Advance ends; tier = 0; next = Idle; answer = Done g.token.view.phase }
 due_turn k g own ends p e =
     ap (λ (z : Progress). turn_by k.shape ends g.token.word z g.token.view) p
     ∙ ap (λ (b : Bool). record { kind = cond b Look (Advance ends); tier = 0; next = Idle; answer = Done g.token.view.phase }) e
@@ -160,8 +172,10 @@ no_way_on p p' true q e = ap is_back e
 no_way_on p p' false q e = ap is_back e ∙ no_way_back p q
 
 -- what such a look or a lost try leaves, by the word that was found
-module _ (n : Named) (g g' : Going) (h : Holding) (phase : ℕ) (at : IsAt n g) (passing : is_passing g.progress ≡ true) (was : g.token.view.phase ≡ phase)
-    (is : g'.token ≡ h) (next : g'.progress ≡ cond h.word.ended Idle g.progress) (says : g'.answer ≡ cond h.word.ended (over_at g.progress phase h.word) GoesOn) where
+module _ (n : Named) (g g' : Going) (h : Holding) (phase : ℕ) (at : IsAt n g) (passing : is_passing g.progress ≡ true)
+    (was : g.token.view.phase ≡ phase)
+    (is : g'.token ≡ h) (next : g'.progress ≡ cond h.word.ended Idle g.progress)
+    (says : g'.answer ≡ cond h.word.ended (over_at g.progress phase h.word) GoesOn) where
   after : After n.key.shape g.progress g.token.view g'
   after =
       let same : h.word ≡ g'.token.word = ap (λ (z : Holding). z.word) (sym is) in
@@ -179,16 +193,19 @@ module _ (n : Named) (g g' : Going) (h : Holding) (phase : ℕ) (at : IsAt n g) 
         next = ⊎_elim
             (λ (z : g'.progress ≡ Idle). inl (ap is_going z))
             (λ z. ⊎_elim (λ (s : Stands n.key g'). inr s)
-            (λ (b : is_back g'.progress ≡ true). not_both (is_back g'.progress) b (no_way_on g.progress g'.progress h.word.ended passing next)) z)
+            (λ (b : is_back g'.progress ≡ true). not_both (is_back g'.progress) b (no_way_on g.progress g'.progress h.word.ended passing next))
+            z)
             l.next;
       }
 
-  pub lost_to : (b : Bool) → Stands n.key g → EndsAsPlanned n.key b g → Lost (turn_by n.key.shape b g.token.word g.progress g.token.view).kind g.token h → WentOn n 1 g g'
+  pub lost_to : (b : Bool) → Stands n.key g → EndsAsPlanned n.key b g
+      → Lost (turn_by n.key.shape b g.token.word g.progress g.token.view).kind g.token h → WentOn n 1 g g'
   lost_to b st says' l = lost_on n b g at st says' g' h l is after
 
 -- one try at most
 pub stands_by : {n : Named} {g g' : Going} → Stood n g g' → is_going g'.progress ≡ true → Stands n.key g'
-stands_by {n} {g} {g'} s e = ⊎_elim (λ (z : is_going g'.progress ≡ false). not_both (is_going g'.progress) e z) (λ (z : Stands n.key g'). z) s.next
+stands_by {n} {g} {g'} s e =
+    ⊎_elim (λ (z : is_going g'.progress ≡ false). not_both (is_going g'.progress) e z) (λ (z : Stands n.key g'). z) s.next
 
 pub ran_once : {n : Named} {g g' g'' : Going} → WentOn n 0 g g' → WentOn n 1 g' g'' → Ran n 1 g g''
 ran_once {n} {g} {g'} {g''} a b = record { used = 1; went = went_then n 0 1 g g' g'' a b; few = omega arith; all = λ e. refl }
@@ -197,20 +214,23 @@ ran_once {n} {g} {g'} {g''} a b = record { used = 1; went = went_then n 0 1 g g'
 abbrev Only : (Progress → Bool) → Progress → Type 0
 Only kept p = is_going p ≡ true → kept p ≡ true
 
-owed_kept : (kept : Progress → Bool) (own : Passage) → kept (Owing own) ≡ true → kept (Due own) ≡ true → (e : Errand) → Only kept (goes_on own e)
+owed_kept : (kept : Progress → Bool) (own : Passage) → kept (Owing own) ≡ true → kept (Due own) ≡ true → (e : Errand)
+    → Only kept (goes_on own e)
 owed_kept kept own owing due Rest g = not_both false g refl
 owed_kept kept own owing due Advancing g = due
 owed_kept kept own owing due (Climbing t passage) g = owing
 owed_kept kept own owing due (Opening tier claimed stage size) g = not_both false g refl
 
 -- so it is after a step that passes a tier
-pass_kept : (kept : Progress → Bool) (ps : List ℕ) (own : Passage) (t : ℕ) (passage : Passage) (kind : Kind) (here : Progress) (over : Played) (w : Fields) (v : View)
+pass_kept : (kept : Progress → Bool) (ps : List ℕ) (own : Passage) (t : ℕ) (passage : Passage) (kind : Kind) (here : Progress)
+    (over : Played) (w : Fields) (v : View)
     → kept (Owing own) ≡ true → kept (Due own) ≡ true → Only kept here → Only kept (pass_turn ps own t passage kind here over w v).next
 pass_kept kept ps own t passage kind here over w v owing due h =
     by_cond (λ (r : Turn). Only kept r.next) w.ended _ _ (λ e g. not_both false g refl)
     (λ e. by_cond (λ (r : Turn). Only kept r.next) (lags w v) _ _ (λ f. h) (λ f. owed_kept kept own owing due (owed (parent_of ps t) t passage w)))
 
-climb_kept : (kept : Progress → Bool) (ps : List ℕ) (own : Passage) (w : Fields) (v : View) → CallFits ps (Owing own) v → kept (Owing own) ≡ true → kept (Due own) ≡ true
+climb_kept : (kept : Progress → Bool) (ps : List ℕ) (own : Passage) (w : Fields) (v : View) → CallFits ps (Owing own) v
+    → kept (Owing own) ≡ true → kept (Due own) ≡ true
     → Only kept (climb_turn ps own w v v.errand).next
 climb_kept kept ps own w v fits owing due =
     subst (λ (e : Errand). Only kept (climb_turn ps own w v e).next) (sym fits.2)
@@ -218,39 +238,50 @@ climb_kept kept ps own w v fits owing due =
 
 -- What each next step keeps, the whole call keeps.
 call_kept : (kept : Progress → Bool)
-    → ((ps : List ℕ) (b : Bool) (w : Fields) (p : Progress) (v : View) → CallFits ps p v → kept p ≡ true → Only kept (turn_by ps b w p v).next)
+    → ((ps : List ℕ) (b : Bool) (w : Fields) (p : Progress) (v : View) → CallFits ps p v → kept p ≡ true
+    → Only kept (turn_by ps b w p v).next)
     → (k : Key) (from at : Position) → kept from.progress ≡ true → Goes k from at → Only kept at.progress
 call_kept kept next k from at q starts = λ g. q
-call_kept kept next k from at q (steps at' w b go fits g beside says found) = next k.shape b w at'.progress at'.view fits (call_kept kept next k from at' q go g)
+call_kept kept next k from at q (steps at' w b go fits g beside says found) =
+    next k.shape b w at'.progress at'.view fits (call_kept kept next k from at' q go g)
 call_kept kept next k from at q (looks at' w go fits g beside) =
     let r : Turn = turn_by k.shape false w at'.progress at'.view in
     let t : ℕ = place k.shape at'.progress at'.view in
     let kind : Kind = looking (meant at'.progress at'.view) t w in
     let u : View = view_after (parent_of k.shape t) kind t w at'.view in
-    by_test (λ c. Only kept (cond {A = Position} c (record { progress = r.next; view = u; answer = r.answer; steps = kind ∷ at'.steps }) (record { progress = at'.progress; view = u; answer = GoesOn; steps = kind ∷ at'.steps })).progress)
+    by_test
+    (λ c. Only kept
+    (cond {A = Position} c (record { progress = r.next; view = u; answer = r.answer; steps = kind ∷ at'.steps })
+    (record { progress = at'.progress; view = u; answer = GoesOn; steps = kind ∷ at'.steps })).progress)
     (is_look r.kind)
     (λ e. next k.shape false w at'.progress at'.view fits (call_kept kept next k from at' q go g))
     (λ e. call_kept kept next k from at' q go)
 
 -- an arrival or a departure stays one until it is over
-next_passes : (ps : List ℕ) (b : Bool) (w : Fields) (p : Progress) (v : View) → CallFits ps p v → is_passing p ≡ true → Only is_passing (turn_by ps b w p v).next
+next_passes : (ps : List ℕ) (b : Bool) (w : Fields) (p : Progress) (v : View) → CallFits ps p v → is_passing p ≡ true
+    → Only is_passing (turn_by ps b w p v).next
 next_passes ps b w (Passing passage) v fits q =
     pass_kept is_passing ps passage v.tier passage (own_kind passage) (Passing passage) (end_shown w) w v refl refl (λ g. refl)
 next_passes ps b w (Owing own) v fits q = climb_kept is_passing ps own w v fits refl refl
 next_passes ps b w (Due own) v fits q = λ g. not_both false g refl
 next_passes ps b w _ v fits q = not_both false q refl
 
-pub passing_on : {n : Named} {used : ℕ} {from at : Going} → WentOn n used from at → is_passing from.progress ≡ true → is_going at.progress ≡ true → is_passing at.progress ≡ true
-passing_on {n} {used} {from} {at} went q g = call_kept is_passing next_passes n.key (position from) (position at) q (went.goes (position from) starts) g
+pub passing_on : {n : Named} {used : ℕ} {from at : Going} → WentOn n used from at → is_passing from.progress ≡ true
+    → is_going at.progress ≡ true → is_passing at.progress ≡ true
+passing_on {n} {used} {from} {at} went q g =
+    call_kept is_passing next_passes n.key (position from) (position at) q (went.goes (position from) starts) g
 
 -- after it has passed its token's tier, a call never comes back to it
-next_owes : (ps : List ℕ) (b : Bool) (w : Fields) (p : Progress) (v : View) → CallFits ps p v → is_owing p ≡ true → Only is_owing (turn_by ps b w p v).next
+next_owes : (ps : List ℕ) (b : Bool) (w : Fields) (p : Progress) (v : View) → CallFits ps p v → is_owing p ≡ true
+    → Only is_owing (turn_by ps b w p v).next
 next_owes ps b w (Owing own) v fits q = climb_kept is_owing ps own w v fits refl refl
 next_owes ps b w (Due own) v fits q = λ g. not_both false g refl
 next_owes ps b w _ v fits q = not_both false q refl
 
-pub owing_on : {n : Named} {used : ℕ} {from at : Going} → WentOn n used from at → is_owing from.progress ≡ true → is_going at.progress ≡ true → is_owing at.progress ≡ true
-owing_on {n} {used} {from} {at} went q g = call_kept is_owing next_owes n.key (position from) (position at) q (went.goes (position from) starts) g
+pub owing_on : {n : Named} {used : ℕ} {from at : Going} → WentOn n used from at → is_owing from.progress ≡ true
+    → is_going at.progress ≡ true → is_owing at.progress ≡ true
+owing_on {n} {used} {from} {at} went q g =
+    call_kept is_owing next_owes n.key (position from) (position at) q (went.goes (position from) starts) g
 
 -- some tries more
 pub ran_more : {n : Named} {a b : ℕ} {g g' g'' : Going} → Ran n a g g' → is_going g'.progress ≡ true → Ran n b g' g'' → Ran n (a + b) g g''

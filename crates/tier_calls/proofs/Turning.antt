@@ -51,9 +51,12 @@ by_cond P false x y f g = g refl
 -- what a join's next step is, by what it finds
 pub data SeekIs (tier claimed size t : ℕ) (w : Fields) (r : Turn) : Type 0 where
   ends : w.ended ≡ true → r.kind ≡ Look → r.tier ≡ 0 → SeekIs tier claimed size t w r
-  refused : w.ended ≡ false → is_refusing (added claimed size) w ≡ true → r.kind ≡ Refuse tier claimed size → r.tier ≡ t → SeekIs tier claimed size t w r
-  claims : w.ended ≡ false → is_refusing (added claimed size) w ≡ false → r.kind ≡ Claim tier claimed size → r.tier ≡ t → SeekIs tier claimed size t w r
-  joins : w.ended ≡ false → is_refusing (added claimed size) w ≡ false → r.kind ≡ Join tier claimed size → r.tier ≡ t → SeekIs tier claimed size t w r
+  refused : w.ended ≡ false → is_refusing (added claimed size) w ≡ true → r.kind ≡ Refuse tier claimed size → r.tier ≡ t
+      → SeekIs tier claimed size t w r
+  claims : w.ended ≡ false → is_refusing (added claimed size) w ≡ false → r.kind ≡ Claim tier claimed size → r.tier ≡ t
+      → SeekIs tier claimed size t w r
+  joins : w.ended ≡ false → is_refusing (added claimed size) w ≡ false → r.kind ≡ Join tier claimed size → r.tier ≡ t
+      → SeekIs tier claimed size t w r
 
 pub seek_is : (tier claimed size t : ℕ) (w : Fields) (v : View) → SeekIs tier claimed size t w (seek_turn tier claimed size t w v)
 seek_is tier claimed size t w v =
@@ -67,7 +70,8 @@ pub data PassIs (t : ℕ) (kind : Kind) (w : Fields) (r : Turn) : Type 0 where
   behind : w.ended ≡ false → r.kind ≡ Refresh → r.tier ≡ t → PassIs t kind w r
   passes : w.ended ≡ false → r.kind ≡ kind → r.tier ≡ t → PassIs t kind w r
 
-pub pass_is : (ps : List ℕ) (own : Passage) (t : ℕ) (passage : Passage) (kind : Kind) (here : Progress) (answer : Played) (w : Fields) (v : View)
+pub pass_is : (ps : List ℕ) (own : Passage) (t : ℕ) (passage : Passage) (kind : Kind) (here : Progress) (answer : Played) (w : Fields)
+    (v : View)
     → PassIs t kind w (pass_turn ps own t passage kind here answer w v)
 pass_is ps own t passage kind here answer w v =
     by_cond (PassIs t kind w) w.ended _ _ (λ e. over e refl refl)
@@ -79,14 +83,19 @@ pub record NextBy (ps : List ℕ) (ws : List Fields) (p : Progress) (v : View) (
   pub needs : Needs ps r.kind (place ps p v) w v
   pub keeps : CallFits ps r.next (view_after (parent_of ps (place ps p v)) r.kind (place ps p v) w v)
 
-pub next_by : (ps : List ℕ) (ws : List Fields) (front back : List View) (p : Progress) (v : View) (w : Fields) (b : Bool) → IsTiers ps → Tallies ps ws (front ++ v ∷ back)
+pub next_by : (ps : List ℕ) (ws : List Fields) (front back : List View) (p : Progress) (v : View) (w : Fields) (b : Bool) → IsTiers ps
+    → Tallies ps ws (front ++ v ∷ back)
     → CallFits ps p v → is_going p ≡ true → word_at ws (place ps p v) ≡ w → NextBy ps ws p v w (turn_by ps b w p v)
 next_by ps ws front back p v w b shape tally fits going here =
-    let n : IsNextBy ps ws v (place ps p v) (turn_by ps b (word_at ws (place ps p v)) p v) = one_word_is_enough ps ws front v back p b shape.shape tally going fits in
+    let n : IsNextBy ps ws v (place ps p v) (turn_by ps b (word_at ws (place ps p v)) p v) =
+    one_word_is_enough ps ws front v back p b shape.shape tally going fits in
     record {
       within = n.next.within;
       needs = subst (λ (z : Fields). Needs ps (turn_by ps b z p v).kind (place ps p v) z v) here n.next.needs;
-      keeps = subst (λ (z : Fields). CallFits ps (turn_by ps b z p v).next (view_after (parent_of ps (place ps p v)) (turn_by ps b z p v).kind (place ps p v) z v)) here n.next.keeps;
+      keeps =
+          subst
+          (λ (z : Fields). CallFits ps (turn_by ps b z p v).next (view_after (parent_of ps (place ps p v)) (turn_by ps b z p v).kind (place ps p v) z v))
+          here n.next.keeps;
     }
 
 -- what a look that refuses nothing leaves of a view
@@ -101,15 +110,18 @@ pub record Glanced (w : Fields) (v u : View) : Type 0 where
 root_glanced : (w : Fields) (v : View) → Glanced w v (looked w v)
 root_glanced w v =
     let u : View = record v { led = false; note = cond (is_going_back v.errand) v.note None } in
-    by_test (λ b. (w.ended ≡ b) → Glanced w v (cond b (record u { end_seen = Some w.phase; errand = dropped v.errand }) (moved w u))) w.ended
+    by_test (λ b. (w.ended ≡ b) → Glanced w v (cond b (record u { end_seen = Some w.phase; errand = dropped v.errand }) (moved w u)))
+    w.ended
     (λ e f. record { size = refl; tier = refl; open_errand = λ g. not_both w.ended f g; kept_errand = λ d. d; arrived = λ g l. refl; phase = λ g l. refl })
     (λ e f. move_keeps (Glanced w v) w u
     (record { size = refl; tier = refl; open_errand = λ g. refl; kept_errand = λ d. refl; arrived = λ g l. refl; phase = λ g l. refl })
-    (λ a b. record { size = refl; tier = refl; open_errand = λ g. refl; kept_errand = λ d. refl; arrived = λ g l. absurd (omega arith); phase = λ g l. absurd (omega arith) })) refl
+    (λ a b. record { size = refl; tier = refl; open_errand = λ g. refl; kept_errand = λ d. refl; arrived = λ g l. absurd (omega arith); phase = λ g l. absurd (omega arith) }))
+    refl
 
 pub glanced : (above t : ℕ) (w : Fields) (v : View) → Glanced w v (view_after above (glance t) t w v)
 glanced above zero w v = root_glanced w v
-glanced above (suc t) w v = record { size = refl; tier = refl; open_errand = λ g. refl; kept_errand = λ d. refl; arrived = λ g l. refl; phase = λ g l. refl }
+glanced above (suc t) w v =
+    record { size = refl; tier = refl; open_errand = λ g. refl; kept_errand = λ d. refl; arrived = λ g l. refl; phase = λ g l. refl }
 
 -- What a look in place of the next step is: that step itself if it is a look, and else one that changes nothing of the
 -- call.
@@ -122,12 +134,14 @@ pub record LookIs (ps : List ℕ) (w : Fields) (p : Progress) (v u : View) (k : 
 no_look : {A : Type 0} (k k' : Kind) → is_look k ≡ true → k ≡ k' → is_look k' ≡ false → A
 no_look k k' a e b = not_both (is_look k') (subst (λ (z : Kind). is_look z ≡ true) e a) b
 
-pub refuse_at : (t tier claimed size : ℕ) (w : Fields) → w.ended ≡ false → is_refusing (added claimed size) w ≡ true → refusing t tier claimed size w ≡ Refuse tier claimed size
+pub refuse_at : (t tier claimed size : ℕ) (w : Fields) → w.ended ≡ false → is_refusing (added claimed size) w ≡ true
+    → refusing t tier claimed size w ≡ Refuse tier claimed size
 refuse_at t tier claimed size w going e =
     ap (λ (b : Bool). cond (not b && is_refusing (added claimed size) w) (Refuse tier claimed size) (glance t)) going
     ∙ ap (λ (b : Bool). cond b (Refuse tier claimed size) (glance t)) e
 
-pub admit_at : (t tier claimed size : ℕ) (w : Fields) → is_refusing (added claimed size) w ≡ false → refusing t tier claimed size w ≡ glance t
+pub admit_at : (t tier claimed size : ℕ) (w : Fields) → is_refusing (added claimed size) w ≡ false
+    → refusing t tier claimed size w ≡ glance t
 admit_at t tier claimed size w e = go (not w.ended) (is_refusing (added claimed size) w) e
   where
     go : (a b : Bool) → b ≡ false → cond (a && b) (Refuse tier claimed size) (glance t) ≡ glance t
@@ -141,11 +155,13 @@ ended_at t tier claimed size w e z =
     ap (λ (b : Bool). cond (not b && is_refusing (added claimed size) w) (Refuse tier claimed size) (glance t)) e ∙ ap glance z
 
 -- a look that is none of the call's steps, if the turn of its view is no look
-plain : (ps : List ℕ) (w : Fields) (p : Progress) (v u : View) (k : Kind) (r : Turn) → (is_look r.kind ≡ true → k ≡ r.kind) → CallFits ps p u → place ps p u ≡ place ps p v
+plain : (ps : List ℕ) (w : Fields) (p : Progress) (v u : View) (k : Kind) (r : Turn) → (is_look r.kind ≡ true → k ≡ r.kind)
+    → CallFits ps p u → place ps p u ≡ place ps p v
     → is_look (turn_by ps false w p u).kind ≡ false → LookIs ps w p v u k r
 plain ps w p v u k r a b c d = record { turn = a; fits = λ e. b; there = λ e. c; tries = λ e. d }
 
-seek_tries : (tier claimed size t : ℕ) (w : Fields) (v : View) → w.ended ≡ false → is_refusing (added claimed size) w ≡ false → is_look (seek_turn tier claimed size t w v).kind ≡ false
+seek_tries : (tier claimed size t : ℕ) (w : Fields) (v : View) → w.ended ≡ false → is_refusing (added claimed size) w ≡ false
+    → is_look (seek_turn tier claimed size t w v).kind ≡ false
 seek_tries tier claimed size t w v going admits = go (seek_is tier claimed size t w v)
   where
     go : SeekIs tier claimed size t w (seek_turn tier claimed size t w v) → is_look (seek_turn tier claimed size t w v).kind ≡ false
@@ -154,17 +170,21 @@ seek_tries tier claimed size t w v going admits = go (seek_is tier claimed size 
     go (claims e f k at) = ap is_look k
     go (joins e f k at) = ap is_look k
 
-pub pass_tries : (ps : List ℕ) (own : Passage) (t : ℕ) (passage : Passage) (kind : Kind) (here : Progress) (answer : Played) (w : Fields) (v : View) → is_look kind ≡ false → w.ended ≡ false
+pub pass_tries : (ps : List ℕ) (own : Passage) (t : ℕ) (passage : Passage) (kind : Kind) (here : Progress) (answer : Played) (w : Fields)
+    (v : View)
+    → is_look kind ≡ false → w.ended ≡ false
     → is_look (pass_turn ps own t passage kind here answer w v).kind ≡ false
 pass_tries ps own t passage kind here answer w v quiet going = go (pass_is ps own t passage kind here answer w v)
   where
-    go : PassIs t kind w (pass_turn ps own t passage kind here answer w v) → is_look (pass_turn ps own t passage kind here answer w v).kind ≡ false
+    go : PassIs t kind w (pass_turn ps own t passage kind here answer w v)
+        → is_look (pass_turn ps own t passage kind here answer w v).kind ≡ false
     go (over e k at) = not_both w.ended e going
     go (behind e k at) = ap is_look k
     go (passes e k at) = ap is_look k ∙ quiet
 
 module _ (ps : List ℕ) (w : Fields) (v : View) (above : ℕ) where
-  seek_plain : (tier size : ℕ) → CallFits ps (ToSeek tier size) v → w.ended ≡ false → is_refusing (added (claimed_by v.errand) size) w ≡ false
+  seek_plain : (tier size : ℕ) → CallFits ps (ToSeek tier size) v → w.ended ≡ false
+      → is_refusing (added (claimed_by v.errand) size) w ≡ false
       → is_look (turn_by ps false w (ToSeek tier size) v).kind ≡ false
       → let k = looking (meant (ToSeek tier size) v) (place ps (ToSeek tier size) v) w in
       LookIs ps w (ToSeek tier size) v (view_after above k (place ps (ToSeek tier size) v) w v) k (turn_by ps false w (ToSeek tier size) v)
@@ -177,8 +197,10 @@ module _ (ps : List ℕ) (w : Fields) (v : View) (above : ℕ) where
       let errand : u.errand ≡ v.errand = g.open_errand e in
       let n = fits.1 in
       plain ps w (ToSeek tier size) v u (looking (meant (ToSeek tier size) v) t w) (turn_by ps false w (ToSeek tier size) v)
-      (λ l. not_both (is_look (turn_by ps false w (ToSeek tier size) v).kind) l quiet)
-      (subst (λ (z : Errand). z ≡ opening tier (claimed_by z) Seeking size) (sym errand) fits.0, record { place = n.place; some = n.some; few = n.few; none = g.size ∙ n.none })
+      (λ l. not_both (is_look (turn_by ps false w (ToSeek tier size) v).kind) l quiet) (
+        subst (λ (z : Errand). z ≡ opening tier (claimed_by z) Seeking size) (sym errand) fits.0,
+        record { place = n.place; some = n.some; few = n.few; none = g.size ∙ n.none },
+      )
       (ap (λ (z : Errand). ancestor ps tier (claimed_by z)) errand)
       (seek_tries tier (claimed_by u.errand) size (ancestor ps tier (claimed_by u.errand)) w u e (subst (λ (z : Errand). is_refusing (added (claimed_by z) size) w ≡ false) (sym errand) f))
 
@@ -188,21 +210,39 @@ module _ (ps : List ℕ) (w : Fields) (v : View) (above : ℕ) where
       LookIs ps w (ToSeek tier size) v (view_after above k (place ps (ToSeek tier size) v) w v) k (turn_by ps false w (ToSeek tier size) v)
   seek_look tier size fits root (ends e k at) =
       let is = ended_at (place ps (ToSeek tier size) v) tier (claimed_by v.errand) size w e (root e) in
-      record { turn = λ l. is ∙ sym k; fits = λ l. no_look Look _ refl (sym k) l; there = λ l. no_look Look _ refl (sym k) l; tries = λ l. no_look Look _ refl (sym k) l }
+      record {
+        turn = λ l. is ∙ sym k;
+        fits = λ l. no_look Look _ refl (sym k) l;
+        there = λ l. no_look Look _ refl (sym k) l;
+        tries = λ l. no_look Look _ refl (sym k) l;
+      }
   seek_look tier size fits root (refused e f k at) =
       let is = refuse_at (place ps (ToSeek tier size) v) tier (claimed_by v.errand) size w e f in
       let r : Kind = Refuse tier (claimed_by v.errand) size in
-      record { turn = λ l. is ∙ sym k; fits = λ l. no_look r _ refl (sym k) l; there = λ l. no_look r _ refl (sym k) l; tries = λ l. no_look r _ refl (sym k) l }
+      record {
+        turn = λ l. is ∙ sym k;
+        fits = λ l. no_look r _ refl (sym k) l;
+        there = λ l. no_look r _ refl (sym k) l;
+        tries = λ l. no_look r _ refl (sym k) l;
+      }
   seek_look tier size fits root (claims e f k at) = seek_plain tier size fits e f (ap is_look k)
   seek_look tier size fits root (joins e f k at) = seek_plain tier size fits e f (ap is_look k)
 
   -- looks of calls that refuse nothing
-  pass_plain : (p : Progress) (own : Passage) (t : ℕ) (passage : Passage) (kind : Kind) (here : Progress) (answer : Played) → is_look kind ≡ false
-      → (w.ended ≡ true → t ≡ 0) → (w.ended ≡ false → (u : View) → Glanced w v u → CallFits ps p u × (place ps p u ≡ place ps p v) × (is_look (turn_by ps false w p u).kind ≡ false))
+  pass_plain : (p : Progress) (own : Passage) (t : ℕ) (passage : Passage) (kind : Kind) (here : Progress) (answer : Played)
+      → is_look kind ≡ false
+      → (w.ended ≡ true → t ≡ 0)
+      → (w.ended ≡ false → (u : View) → Glanced w v u
+      → CallFits ps p u × (place ps p u ≡ place ps p v) × (is_look (turn_by ps false w p u).kind ≡ false))
       → PassIs t kind w (pass_turn ps own t passage kind here answer w v)
       → LookIs ps w p v (view_after above (glance t) t w v) (glance t) (pass_turn ps own t passage kind here answer w v)
   pass_plain p own t passage kind here answer quiet root keeps (over e k at) =
-      record { turn = λ l. ap glance (root e) ∙ sym k; fits = λ l. no_look Look _ refl (sym k) l; there = λ l. no_look Look _ refl (sym k) l; tries = λ l. no_look Look _ refl (sym k) l }
+      record {
+        turn = λ l. ap glance (root e) ∙ sym k;
+        fits = λ l. no_look Look _ refl (sym k) l;
+        there = λ l. no_look Look _ refl (sym k) l;
+        tries = λ l. no_look Look _ refl (sym k) l;
+      }
   pass_plain p own t passage kind here answer quiet root keeps (behind e k at) =
       let r = keeps e (view_after above (glance t) t w v) (glanced above t w v) in
       record { turn = λ l. not_both (is_look _) l (ap is_look k); fits = λ l. r.0; there = λ l. r.1; tries = λ l. r.2 }
@@ -218,10 +258,12 @@ module _ (ps : List ℕ) (w : Fields) (v : View) (above : ℕ) where
   glance_below zero h = absurd (omega arith)
   glance_below (suc t) h = refl
 
-  settle_tries : (e : Errand) (tier claimed size : ℕ) (u : View) → e ≡ Opening tier (suc claimed) Joined size → is_look (settle_turn ps u e).kind ≡ false
+  settle_tries : (e : Errand) (tier claimed size : ℕ) (u : View) → e ≡ Opening tier (suc claimed) Joined size
+      → is_look (settle_turn ps u e).kind ≡ false
   settle_tries e tier claimed size u is = subst (λ (z : Errand). is_look (settle_turn ps u z).kind ≡ false) (sym is) refl
 
-  back_tries : (e : Errand) (tier claimed size : ℕ) (answer : Played) → e ≡ Opening tier (suc claimed) GoingBack size → is_look (give_back_turn ps answer e).kind ≡ false
+  back_tries : (e : Errand) (tier claimed size : ℕ) (answer : Played) → e ≡ Opening tier (suc claimed) GoingBack size
+      → is_look (give_back_turn ps answer e).kind ≡ false
   back_tries e tier claimed size answer is = subst (λ (z : Errand). is_look (give_back_turn ps answer z).kind ≡ false) (sym is) refl
 
   pub look_is : (p : Progress) → CallFits ps p v → is_going p ≡ true → (w.ended ≡ true → place ps p v ≡ 0)
@@ -256,22 +298,32 @@ module _ (ps : List ℕ) (w : Fields) (v : View) (above : ℕ) where
       let t : ℕ = fits.0 in
       let passage : Passage = fits.1 in
       let is : v.errand ≡ Climbing t passage = fits.2 in
-      subst (λ (z : Errand). LookIs ps w (Owing own) v (view_after above (glance (errand_place ps z)) (errand_place ps z) w v) (glance (errand_place ps z)) (climb_turn ps own w v z)) (sym is)
+      subst
+      (λ (z : Errand). LookIs ps w (Owing own) v (view_after above (glance (errand_place ps z)) (errand_place ps z) w v) (glance (errand_place ps z)) (climb_turn ps own w v z))
+      (sym is)
       (pass_plain (Owing own) own t passage (Climb passage) (Owing own) (Done v.phase) refl (λ e. sym (ap (errand_place ps) is) ∙ root e)
       (λ e u d. (
         (t, passage, d.open_errand e ∙ is),
         ap (errand_place ps) (d.open_errand e),
-        subst (λ (z : Errand). is_look (climb_turn ps own w u z).kind ≡ false) (sym (d.open_errand e ∙ is)) (pass_tries ps own t passage (Climb passage) (Owing own) (Done u.phase) w u refl e),
+        subst (λ (z : Errand). is_look (climb_turn ps own w u z).kind ≡ false) (sym (d.open_errand e ∙ is))
+            (pass_tries ps own t passage (Climb passage) (Owing own) (Done u.phase) w u refl e),
       ))
       (pass_is ps own t passage (Climb passage) (Owing own) (Done v.phase) w v))
   look_is (Due own) fits g root =
-      by_test (λ c. (w.ended ≡ c) → LookIs ps w (Due own) v (looked w v) Look (record { kind = cond c Look (Advance false); tier = 0; next = Idle; answer = Done v.phase })) w.ended
+      by_test
+      (λ c. (w.ended ≡ c)
+      → LookIs ps w (Due own) v (looked w v) Look
+      (record { kind = cond c Look (Advance false); tier = 0; next = Idle; answer = Done v.phase }))
+      w.ended
       (λ e f. record { turn = λ l. refl; fits = λ l. not_both true refl l; there = λ l. refl; tries = λ l. not_both true refl l })
-      (λ e f. plain ps w (Due own) v (looked w v) Look (record { kind = Advance false; tier = 0; next = Idle; answer = Done v.phase }) (λ l. not_both (is_look (Advance false)) l refl) ((root_glanced w v).open_errand f ∙ fits) refl
+      (λ e f. plain ps w (Due own) v (looked w v) Look (record { kind = Advance false; tier = 0; next = Idle; answer = Done v.phase })
+      (λ l. not_both (is_look (Advance false)) l refl) ((root_glanced w v).open_errand f ∙ fits) refl
       (ap (λ (c : Bool). is_look (cond c Look (Advance false))) f)) refl
   look_is (Refreshing passed_on) fits g root =
       let is : glance v.tier ≡ Glance = glance_below v.tier fits.2 in
-      subst (λ (k : Kind). LookIs ps w (Refreshing passed_on) v (view_after above k v.tier w v) k (turn_by ps false w (Refreshing passed_on) v)) (sym is)
+      subst
+      (λ (k : Kind). LookIs ps w (Refreshing passed_on) v (view_after above k v.tier w v) k (turn_by ps false w (Refreshing passed_on) v))
+      (sym is)
       (by_test (λ b. LookIs ps w (Refreshing passed_on) v v Glance (record { kind = cond b Refresh Glance; tier = v.tier; next = Idle; answer = polled passed_on v.phase })) (lags w v)
       (λ e. record { turn = λ l. not_both (is_look Refresh) l refl; fits = λ l. fits; there = λ l. refl; tries = λ l. ap (λ (b : Bool). is_look (cond b Refresh Glance)) e })
       (λ e. record { turn = λ l. refl; fits = λ l. fits; there = λ l. refl; tries = λ l. not_both (is_look Glance) refl l }))

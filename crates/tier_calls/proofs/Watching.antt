@@ -51,7 +51,8 @@ glance_looks (suc t) = refl
 
 pub join_looks : (tier claimed size t : ℕ) (w : Fields) → is_look (looking (Join tier claimed size) t w) ≡ true
 join_looks tier claimed size t w =
-    by_test (λ b. is_look (cond b (Refuse tier claimed size) (glance t)) ≡ true) (turns_away (added claimed size) w) (λ e. refl) (λ e. glance_looks t)
+    by_test (λ b. is_look (cond b (Refuse tier claimed size) (glance t)) ≡ true) (turns_away (added claimed size) w) (λ e. refl)
+    (λ e. glance_looks t)
 
 look_looks : (p : Progress) (v : View) (t : ℕ) (w : Fields) → is_look (looking (meant p v) t w) ≡ true
 look_looks (ToSeek tier size) v t w = join_looks tier (claimed_by v.errand) size t w
@@ -73,7 +74,8 @@ settling_seeks_not zero = refl
 settling_seeks_not (suc claimed) = refl
 
 -- no step of a call leads to the state in which it seeks its tier and has claimed nothing
-seeks_no_more : (ps : List ℕ) (b : Bool) (w : Fields) (p : Progress) (v : View) → CallFits ps p v → is_joining p ≡ true → is_seeking (turn_by ps b w p v).next ≡ true
+seeks_no_more : (ps : List ℕ) (b : Bool) (w : Fields) (p : Progress) (v : View) → CallFits ps p v → is_joining p ≡ true
+    → is_seeking (turn_by ps b w p v).next ≡ true
     → claimed_by (view_after (parent_of ps (place ps p v)) (turn_by ps b w p v).kind (place ps p v) w v).errand ≡ 0 → ⊥
 seeks_no_more ps b w Idle v fits j s none = not_both false s refl
 seeks_no_more ps b w (Begun c) v fits j s none = not_both false s refl
@@ -82,11 +84,14 @@ seeks_no_more ps b w (ToSeek tier size) v fits j s none =
     let P : Turn → Type 0 = λ r. is_seeking r.next ≡ true → claimed_by (view_after (parent_of ps t) r.kind t w v).errand ≡ 0 → ⊥ in
     by_cond P w.ended _ _ (λ e s' z. not_both _ s' (back_seeks_not (claimed_by v.errand) _))
     (λ e. by_cond P (is_refusing (added (claimed_by v.errand) size) w) _ _ (λ f s' z. not_both _ s' (back_seeks_not (claimed_by v.errand) _))
-    (λ f. by_cond P (is_claimable t w) _ _ (λ h s' z. absurd (omega arith)) (λ h s' z. not_both _ s' (settling_seeks_not (claimed_by v.errand))))) s none
+    (λ f. by_cond P (is_claimable t w) _ _ (λ h s' z. absurd (omega arith)) (λ h s' z. not_both _ s' (settling_seeks_not (claimed_by v.errand)))))
+    s none
 seeks_no_more ps b w Settling v fits j s none =
-    not_both (is_seeking (turn_by ps b w Settling v).next) s (subst (λ (e : Errand). is_seeking (settle_turn ps v e).next ≡ false) (sym fits.3) (settling_seeks_not fits.1))
+    not_both (is_seeking (turn_by ps b w Settling v).next) s
+    (subst (λ (e : Errand). is_seeking (settle_turn ps v e).next ≡ false) (sym fits.3) (settling_seeks_not fits.1))
 seeks_no_more ps b w (ToGiveBack answer) v fits j s none =
-    not_both (is_seeking (turn_by ps b w (ToGiveBack answer) v).next) s (subst (λ (e : Errand). is_seeking (give_back_turn ps answer e).next ≡ false) (sym fits.3) (back_seeks_not fits.1 answer))
+    not_both (is_seeking (turn_by ps b w (ToGiveBack answer) v).next) s
+    (subst (λ (e : Errand). is_seeking (give_back_turn ps answer e).next ≡ false) (sym fits.3) (back_seeks_not fits.1 answer))
 seeks_no_more ps b w (Passing passage) v fits j s none = not_both false j refl
 seeks_no_more ps b w (Owing own) v fits j s none = not_both false j refl
 seeks_no_more ps b w (Due own) v fits j s none = not_both false j refl
@@ -102,7 +107,9 @@ stays_claimed ps w (ToSeek tier size) v s quiet = go (seek_is tier (claimed_by v
 
     admits : w.ended ≡ false → is_refusing (added (claimed_by v.errand) size) w ≡ false
         → (view_after (parent_of ps t) (looking (Join tier (claimed_by v.errand) size) t w) t w v).errand ≡ v.errand
-    admits e f = subst (λ (k : Kind). (view_after (parent_of ps t) k t w v).errand ≡ v.errand) (sym (admit_at t tier (claimed_by v.errand) size w f)) ((glanced (parent_of ps t) t w v).open_errand e)
+    admits e f =
+        subst (λ (k : Kind). (view_after (parent_of ps t) k t w v).errand ≡ v.errand) (sym (admit_at t tier (claimed_by v.errand) size w f))
+        ((glanced (parent_of ps t) t w v).open_errand e)
 
     go : SeekIs tier (claimed_by v.errand) size t w (seek_turn tier (claimed_by v.errand) size t w v)
         → (view_after (parent_of ps t) (looking (Join tier (claimed_by v.errand) size) t w) t w v).errand ≡ v.errand
@@ -119,10 +126,12 @@ stays_claimed ps w (Owing own) v s quiet = not_both false s refl
 stays_claimed ps w (Due own) v s quiet = not_both false s refl
 stays_claimed ps w (Refreshing moved) v s quiet = not_both false s refl
 
-pub watches_along : (k : Key) (from at : Position) → is_joining from.progress ≡ true → Goes k from at → is_seeking at.progress ≡ true → claimed_by at.view.errand ≡ 0
+pub watches_along : (k : Key) (from at : Position) → is_joining from.progress ≡ true → Goes k from at → is_seeking at.progress ≡ true
+    → claimed_by at.view.errand ≡ 0
     → MadeOnly is_look from.steps at.steps
 watches_along k from at j starts s none = made_none is_look from.steps
-watches_along k from at j (steps at' w b go fits g beside says found) s none = absurd (seeks_no_more k.shape b w at'.progress at'.view fits (joining_stays k from at' j go) s none)
+watches_along k from at j (steps at' w b go fits g beside says found) s none =
+    absurd (seeks_no_more k.shape b w at'.progress at'.view fits (joining_stays k from at' j go) s none)
 watches_along k from at j (looks at' w go fits g beside) s none =
     let r : Turn = turn_by k.shape false w at'.progress at'.view in
     let t : ℕ = place k.shape at'.progress at'.view in
@@ -130,16 +139,20 @@ watches_along k from at j (looks at' w go fits g beside) s none =
     let u : View = view_after (parent_of k.shape t) kind t w at'.view in
     let l = look_is k.shape w at'.view (parent_of k.shape t) at'.progress fits g (root_of k.shape t w at'.view beside) in
     let M : Bool → Type 0 = λ c.
-    let x : Position = cond {A = Position} c (record { progress = r.next; view = u; answer = r.answer; steps = kind ∷ at'.steps }) (record { progress = at'.progress; view = u; answer = GoesOn; steps = kind ∷ at'.steps }) in
+    let x : Position =
+    cond {A = Position} c (record { progress = r.next; view = u; answer = r.answer; steps = kind ∷ at'.steps })
+    (record { progress = at'.progress; view = u; answer = GoesOn; steps = kind ∷ at'.steps }) in
     is_seeking x.progress ≡ true → claimed_by x.view.errand ≡ 0 → MadeOnly is_look from.steps x.steps in
     by_test M (is_look r.kind)
     (λ e s' z. absurd (seeks_no_more k.shape false w at'.progress at'.view fits (joining_stays k from at' j go) s'
     (subst (λ (x : Kind). claimed_by (view_after (parent_of k.shape t) x t w at'.view).errand ≡ 0) (l.turn e) z)))
     (λ e s' z. made_more is_look kind from.steps at'.steps (look_looks at'.progress at'.view t w)
-    (watches_along k from at' j go s' (subst (λ (x : Errand). claimed_by x ≡ 0) (stays_claimed k.shape w at'.progress at'.view s' e) z))) s none
+    (watches_along k from at' j go s' (subst (λ (x : Errand). claimed_by x ≡ 0) (stays_claimed k.shape w at'.progress at'.view s' e) z))) s
+    none
 
 -- a call of a join that is not over and has claimed nothing still seeks its tier
-pub seeks_still : (ps : List ℕ) (least home tier size : ℕ) (v : View) (a : Played) (p : Progress) → JoinAt ps least home tier size v a p → p ≢ Idle → claimed_by v.errand ≡ 0 → is_seeking p ≡ true
+pub seeks_still : (ps : List ℕ) (least home tier size : ℕ) (v : View) (a : Played) (p : Progress) → JoinAt ps least home tier size v a p
+    → p ≢ Idle → claimed_by v.errand ≡ 0 → is_seeking p ≡ true
 seeks_still ps least home tier size v a Idle sh more none = absurd (more refl)
 seeks_still ps least home tier size v a (Begun c) sh more none = absurd sh
 seeks_still ps least home tier size v a (ToSeek tier' size') sh more none = refl

@@ -37,7 +37,8 @@ pub record Did (P : List Kind → List Kind → Type 0) (tries : ℕ) (x y : Sig
   pub steps : P x.steps y.steps
   pub opened : y.opened ≡ x.opened
 
--- The first token of some made exactly so many tries. Each try of a call is one exchange of a word by all its tokens, or by the first one for all of them.
+-- The first token of some made exactly so many tries. Each try of a call is one exchange of a word by all its tokens, or by the first one
+-- for all of them.
 abbrev pub HasSpent : ℕ → List Sight → List Sight → Type 0
 HasSpent tries old new = (first_of no_sight new).tried ≡ (first_of no_sight old).tried + tries
 
@@ -84,7 +85,8 @@ pub record CountsAll (P : List Kind → List Kind → Type 0) (tries : ℕ) (old
   pub tokens : Each (Did P tries) old.tokens new.tokens
 
 -- every token's member has arrived, once; the first token owes what follows from that
-pub record CountsLast (P : List Kind → List Kind → Type 0) (tries : ℕ) (old : GroupHeld) (first : Holding) (rest : Option GroupHeld) : Type 0 where
+pub record CountsLast (P : List Kind → List Kind → Type 0) (tries : ℕ) (old : GroupHeld) (first : Holding)
+    (rest : Option GroupHeld) : Type 0 where
   pub tree : first.tree ≡ old.tree
   pub view : AllHere old.view first.view
   pub tokens : Each (Did P tries) old.tokens (sight_held first ∷ tokens_in rest)
@@ -108,15 +110,24 @@ pub record HavePassed (old new : View) : Type 0 where
   pub here : AllHere from new
   pub unled : new.led ≡ false
 
--- What each answer says. After Done nobody owes anything. After Owing the errand's token owes a climb or the advance. After the other answers nothing was counted. AlreadyArrived follows the
--- look that begins the call, alone, and before Busy all tries were made.
+-- What each answer says. After Done nobody owes anything. After Owing the errand's token owes a climb or the advance. After the other
+-- answers nothing was counted. AlreadyArrived follows the look that begins the call, alone, and before Busy all tries were made.
 abbrev pub ArrivesAll : GroupHeld → ℕ → ArrivedAll → Type 0
-ArrivesAll old tries (answer.Done group phase) = (group.tree ≡ old.tree) × HavePassed old.view group.view × (phase ≡ group.view.phase) × Each (Did (HasStepped Arrival) tries) old.tokens group.tokens
-ArrivesAll old tries (answer.Owing errand rest) = (errand.token.tree ≡ old.tree) × HavePassed old.view errand.token.view × ((c : GroupHeld) → rest ≡ Some c → (c.tree ≡ old.tree) × HavePassed old.view c.view × AreTogether errand.token.view c.view)
+ArrivesAll old tries (answer.Done group phase) =
+    (group.tree ≡ old.tree) × HavePassed old.view group.view × (phase ≡ group.view.phase)
+    × Each (Did (HasStepped Arrival) tries) old.tokens group.tokens
+ArrivesAll old tries (answer.Owing errand rest) =
+    (errand.token.tree ≡ old.tree) × HavePassed old.view errand.token.view
+    × ((c : GroupHeld) → rest ≡ Some c → (c.tree ≡ old.tree) × HavePassed old.view c.view × AreTogether errand.token.view c.view)
     × Each (Did (HasStepped Arrival) tries) old.tokens (sight_held errand.token ∷ tokens_in rest)
-ArrivesAll old tries (answer.AlreadyArrived group phase) = (group.tree ≡ old.tree) × IsLooked old.view group.view × IsFresh group.view × (group.view.arrived ≡ 1) × (phase ≡ group.view.phase) × Each (Did Looks 0) old.tokens group.tokens
-ArrivesAll old tries (answer.Ended group shown) = (group.tree ≡ old.tree) × IsLooked old.view group.view × EndSeen group.view shown × Each (Did HasLooked tries) old.tokens group.tokens
-ArrivesAll old tries (answer.Busy group) = (group.tree ≡ old.tree) × IsLooked old.view group.view × (group.view.arrived ≡ 0) × Each (Did HasLooked tries) old.tokens group.tokens × HasSpent tries old.tokens group.tokens
+ArrivesAll old tries (answer.AlreadyArrived group phase) =
+    (group.tree ≡ old.tree) × IsLooked old.view group.view × IsFresh group.view × (group.view.arrived ≡ 1) × (phase ≡ group.view.phase)
+    × Each (Did Looks 0) old.tokens group.tokens
+ArrivesAll old tries (answer.Ended group shown) =
+    (group.tree ≡ old.tree) × IsLooked old.view group.view × EndSeen group.view shown × Each (Did HasLooked tries) old.tokens group.tokens
+ArrivesAll old tries (answer.Busy group) =
+    (group.tree ≡ old.tree) × IsLooked old.view group.view × (group.view.arrived ≡ 0) × Each (Did HasLooked tries) old.tokens group.tokens
+    × HasSpent tries old.tokens group.tokens
 
 -- the answer says that the tree has ended
 abbrev pub HasEnded : ArrivedAll → Type 0
@@ -131,18 +142,27 @@ pub record AllPassedOn (old new : View) : Type 0 where
 
 -- What a poll by all tokens answers. Here says that no phase has passed since the look before.
 abbrev pub PollsAll : GroupHeld → GroupHeld → Polled → Type 0
-PollsAll old new (Passed phase) = (new.tree ≡ old.tree) × IsLooked old.view new.view × IsFresh new.view × AllPassedOn old.view new.view × (phase ≡ new.view.phase) × Each (Did HasLooked 1) old.tokens new.tokens
-PollsAll old new Waiting = (new.tree ≡ old.tree) × IsLooked old.view new.view × IsFresh new.view × (new.view.arrived ≡ 1) × Each (Did HasLooked 1) old.tokens new.tokens
-PollsAll old new (Here phase) = (new.tree ≡ old.tree) × IsLooked old.view new.view × IsFresh new.view × (new.view.arrived ≡ 0) × (phase ≡ new.view.phase) × Each (Did HasLooked 1) old.tokens new.tokens
+PollsAll old new (Passed phase) =
+    (new.tree ≡ old.tree) × IsLooked old.view new.view × IsFresh new.view × AllPassedOn old.view new.view × (phase ≡ new.view.phase)
+    × Each (Did HasLooked 1) old.tokens new.tokens
+PollsAll old new Waiting =
+    (new.tree ≡ old.tree) × IsLooked old.view new.view × IsFresh new.view × (new.view.arrived ≡ 1)
+    × Each (Did HasLooked 1) old.tokens new.tokens
+PollsAll old new (Here phase) =
+    (new.tree ≡ old.tree) × IsLooked old.view new.view × IsFresh new.view × (new.view.arrived ≡ 0) × (phase ≡ new.view.phase)
+    × Each (Did HasLooked 1) old.tokens new.tokens
     × (new.view.phase ≡ old.view.phase)
-PollsAll old new (Ended shown) = (new.tree ≡ old.tree) × IsLooked old.view new.view × EndSeen new.view shown × Each (Did HasLooked 1) old.tokens new.tokens
+PollsAll old new (Ended shown) =
+    (new.tree ≡ old.tree) × IsLooked old.view new.view × EndSeen new.view shown × Each (Did HasLooked 1) old.tokens new.tokens
 
--- The first token's last step was at the tokens' tier, which is now in their phase. Or that step was a try to bring the tier into it, and the try was lost.
+-- The first token's last step was at the tokens' tier, which is now in their phase. Or that step was a try to bring the tier into it, and
+-- the try was lost.
 abbrev pub HaveCaughtUp : GroupHeld → Type 0
 HaveCaughtUp new =
     ((first_of no_sight new.tokens).tier ≡ new.view.tier)
     × (((first_of no_sight new.tokens).word.phase ≡ new.view.phase)
-    ⊎ ((before : GroupHeld) × (from : Fields) × (other : Fields) × CanRefresh before.view.tier from before.view × AllLost from other before new))
+    ⊎ ((before : GroupHeld) × (from : Fields) × (other : Fields) × CanRefresh before.view.tier from before.view
+    × AllLost from other before new))
 
 -- if the members are to arrive, their tier was brought into their phase
 abbrev pub AllCaughtUpBy : Polled → GroupHeld → Type 0

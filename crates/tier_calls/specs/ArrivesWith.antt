@@ -16,7 +16,8 @@ use Rattle.tier_calls.specs.declared.arriving_with.TriedWith.TheVariants as went
 use Rattle.tier_calls.specs.declared.arriving_with.ArrivedWith.{ArrivedWith}
 use Rattle.tier_calls.specs.declared.arriving_with.ArrivedWith.TheVariants as answer
 
--- Some looks, and then one exchange, by which `leaving` of the old tokens left, `joining` new ones joined, and all but those that left arrived.
+-- Some looks, and then one exchange, by which `leaving` of the old tokens left, `joining` new ones joined, and all but those that left
+-- arrived.
 pub record HasExchanged (tries joining leaving : ℕ) (old : GroupHeld) (tree : Named) (view : View) (tokens : List Sight) : Type 0 where
   pub mid : GroupHeld
   pub word : Fields
@@ -43,10 +44,13 @@ pub record FindsFull (n : ℕ) (group : GroupHeld) (count : ℕ) : Type 0 where
 abbrev pub TriesWith : ℕ → ℕ → ℕ → GroupHeld → TriedWith → Type 0
 TriesWith tries joining leaving old (went.Yet group) = KeepsAll tries old group
 TriesWith tries joining leaving old (went.Done group) = HasExchanged tries joining leaving old group.tree group.view group.tokens
-TriesWith tries joining leaving old (went.Owing errand rest) = HasExchanged tries joining leaving old errand.token.tree errand.token.view (sight_held errand.token ∷ tokens_in rest)
+TriesWith tries joining leaving old (went.Owing errand rest) =
+    HasExchanged tries joining leaving old errand.token.tree errand.token.view (sight_held errand.token ∷ tokens_in rest)
     × ((c : GroupHeld) → rest ≡ Some c → (c.tree ≡ old.tree) × AllHere old.view c.view)
-TriesWith tries joining leaving old (went.Full group count) = (used : ℕ) × (used < tries) × KeepsAll used old group × FindsFull joining group count
-TriesWith tries joining leaving old (went.Ended group word) = KeepsSoon tries old group × (word.ended ≡ true) × (group.view.end_seen ≡ Some word.phase)
+TriesWith tries joining leaving old (went.Full group count) =
+    (used : ℕ) × (used < tries) × KeepsAll used old group × FindsFull joining group count
+TriesWith tries joining leaving old (went.Ended group word) =
+    KeepsSoon tries old group × (word.ended ≡ true) × (group.view.end_seen ≡ Some word.phase)
 
 -- the first look of a call
 pub record FirstLook (old mid : GroupHeld) : Type 0 where
@@ -66,12 +70,19 @@ pub record OnlyTried (tries : ℕ) (old new : GroupHeld) : Type 0 where
 
 -- What each answer says, after one look at the root. Before Busy all tries were made.
 abbrev pub ArrivesWith : ℕ → ℕ → ℕ → GroupHeld → ArrivedWith → Type 0
-ArrivesWith tries joining leaving old (answer.Done group phase) = (mid : GroupHeld) × FirstLook old mid × HasExchanged tries joining leaving mid group.tree group.view group.tokens × (phase ≡ group.view.phase)
-ArrivesWith tries joining leaving old (answer.Owing errand rest) = (mid : GroupHeld) × FirstLook old mid × HasExchanged tries joining leaving mid errand.token.tree errand.token.view (sight_held errand.token ∷ tokens_in rest)
+ArrivesWith tries joining leaving old (answer.Done group phase) =
+    (mid : GroupHeld) × FirstLook old mid × HasExchanged tries joining leaving mid group.tree group.view group.tokens
+    × (phase ≡ group.view.phase)
+ArrivesWith tries joining leaving old (answer.Owing errand rest) =
+    (mid : GroupHeld) × FirstLook old mid
+    × HasExchanged tries joining leaving mid errand.token.tree errand.token.view (sight_held errand.token ∷ tokens_in rest)
     × ((c : GroupHeld) → rest ≡ Some c → (c.tree ≡ mid.tree) × AllHere mid.view c.view)
-ArrivesWith tries joining leaving old (answer.Full group count) = (used : ℕ) × (used < tries) × OnlyTried used old group × FindsFull joining group count
-ArrivesWith tries joining leaving old (answer.AlreadyArrived group phase) = FirstLook old group × IsFresh group.view × (group.view.arrived ≡ 1) × (phase ≡ group.view.phase)
-ArrivesWith tries joining leaving old (answer.Ended group shown) = (mid : GroupHeld) × FirstLook old mid × KeepsSoon tries mid group × EndSeen group.view shown
+ArrivesWith tries joining leaving old (answer.Full group count) =
+    (used : ℕ) × (used < tries) × OnlyTried used old group × FindsFull joining group count
+ArrivesWith tries joining leaving old (answer.AlreadyArrived group phase) =
+    FirstLook old group × IsFresh group.view × (group.view.arrived ≡ 1) × (phase ≡ group.view.phase)
+ArrivesWith tries joining leaving old (answer.Ended group shown) =
+    (mid : GroupHeld) × FirstLook old mid × KeepsSoon tries mid group × EndSeen group.view shown
 ArrivesWith tries joining leaving old (answer.Busy group) = OnlyTried tries old group
 
 -- the answer says that the tree has ended

@@ -40,7 +40,13 @@ views_together groups = those (sights_together groups)
 
 -- the members of a group as plain numbers
 abbrev pub plain_group : GroupHeld → ClosedToken
-plain_group g = record { tier = g.view.tier; size = length g.tokens; unarrived = (if g.view.arrived == 0 then length g.tokens else 0); phase = g.view.phase }
+plain_group g =
+    record {
+      tier = g.view.tier;
+      size = length g.tokens;
+      unarrived = (if g.view.arrived == 0 then length g.tokens else 0);
+      phase = g.view.phase;
+    }
 
 abbrev pub plain_groups : List GroupHeld → List ClosedToken
 plain_groups groups = map plain_group groups

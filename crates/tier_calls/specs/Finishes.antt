@@ -19,7 +19,9 @@ abbrev pub IsWhole : Holding → Option GroupHeld → GroupHeld → Type 0
 IsWhole h None whole = whole ≡ alone h
 IsWhole h (Some others) whole = Together (alone h) others whole
 
--- What each answer says. No further member is counted. The call advanced the tree only if all members of all tokens had arrived. If the tries ran out, the others are as before.
+-- What each answer says. No further member is counted. The call advanced the tree only if all members of all tokens had arrived. If the
+-- tries ran out, the others are as before.
 abbrev pub Finishes : Going → Option GroupHeld → ℕ → Finished → Type 0
-Finishes g others tries (Done group phase led) = (crew : Holding) × Resumes g tries (resumed.Done crew phase led) × IsWhole crew others group × (led ≡ true → LedAfterAll crew phase)
+Finishes g others tries (Done group phase led) =
+    (crew : Holding) × Resumes g tries (resumed.Done crew phase led) × IsWhole crew others group × (led ≡ true → LedAfterAll crew phase)
 Finishes g others tries (Owing errand rest) = Resumes g tries (resumed.Owing errand) × (rest ≡ others)

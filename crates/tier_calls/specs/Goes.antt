@@ -1,4 +1,5 @@
--- How a call goes on at the table of words: by looks and steps of its token, each determined by the word that it found (not part of Java's API).
+-- How a call goes on at the table of words: by looks and steps of its token, each determined by the word that it found (not part of Java's
+-- API).
 use Rattle.std.specs.Prelude.{◌≡◌, ℕ, ◌+◌, ◌≤◌, ◌⊎◌, ◌==◌, Bool, true, false, if◌then◌else◌, List, ◌∷◌}
 use Rattle.phaser_word.specs.Fields.{Fields}
 use Rattle.tier_shape.specs.Parents.{parent_of}
@@ -48,9 +49,11 @@ after_look parents w at =
     let t : ℕ = place parents at.progress at.view in
     let kind : Kind = looking (meant at.progress at.view) t w in
     let v : View = view_after (parent_of parents t) kind t w at.view in
-    if is_look r.kind then record { progress = r.next; view = v; answer = r.answer; steps = kind ∷ at.steps } else record { progress = at.progress; view = v; answer = GoesOn; steps = kind ∷ at.steps }
+    if is_look r.kind then record { progress = r.next; view = v; answer = r.answer; steps = kind ∷ at.steps }
+    else record { progress = at.progress; view = v; answer = GoesOn; steps = kind ∷ at.steps }
 
--- Some run of steps leads to a state in which the tier t has this word, and some seat a token of this tree with this view that has taken these steps.
+-- Some run of steps leads to a state in which the tier t has this word, and some seat a token of this tree with this view that has taken
+-- these steps.
 pub record WasFound (k : Key) (t : ℕ) (w : Fields) (v : View) (made : List Kind) : Type 0 where
   pub sight : Sight
   pub reached : IsReached k t w sight

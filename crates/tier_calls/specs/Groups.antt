@@ -36,8 +36,8 @@ joined_more w n = record w { parties = w.parties + n; unarrived = w.unarrived + 
 abbrev pub left_less : Fields → ℕ → Fields
 left_less w n = record w { parties = w.parties - n; unarrived = w.unarrived - n }
 
--- What the tokens know after the members of new tokens joined the tier t, old ones left it, and all others arrived there, by one exchange from the word w: first
--- those that came, then those that left.
+-- What the tokens know after the members of new tokens joined the tier t, old ones left it, and all others arrived there, by one exchange
+-- from the word w: first those that came, then those that left.
 abbrev pub exchanged_all : ℕ → View → View → Fields → List Sight → List Sight → List Sight → List Sight
 exchanged_all t u v w news stay gone =
     all_stepped Arrive 1 t v (left_less (joined_more w (length news)) (length gone)) (all_stepped (Join t 0 1) 0 t u w news ++ stay)

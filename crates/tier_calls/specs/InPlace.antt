@@ -17,11 +17,16 @@ use Rattle.tier_calls.specs.declared.in_place.ArrivedInPlace.TheVariants.{Done, 
 
 -- what each answer says, as for an arrival that takes its crew
 abbrev pub ArrivesInPlace : Holding → Holding → ArrivedInPlace → Type 0
-ArrivesInPlace old new (Done phase led) = (new.tree ≡ old.tree) × (new.opened ≡ old.opened) × HasPassed Arrival old.view new.view × (new.view.errand ≡ Rest) × (phase ≡ new.view.phase) × (led ≡ new.view.led)
+ArrivesInPlace old new (Done phase led) =
+    (new.tree ≡ old.tree) × (new.opened ≡ old.opened) × HasPassed Arrival old.view new.view × (new.view.errand ≡ Rest)
+    × (phase ≡ new.view.phase) × (led ≡ new.view.led)
     × LedBy (HasStepped Arrival old.steps) led new.steps
-ArrivesInPlace old new (AlreadyArrived phase) = (new.tree ≡ old.tree) × (new.opened ≡ old.opened) × IsLooked old.view new.view × IsFresh new.view × (new.view.arrived ≡ new.view.size) × (phase ≡ new.view.phase)
+ArrivesInPlace old new (AlreadyArrived phase) =
+    (new.tree ≡ old.tree) × (new.opened ≡ old.opened) × IsLooked old.view new.view × IsFresh new.view × (new.view.arrived ≡ new.view.size)
+    × (phase ≡ new.view.phase)
     × HasLooked old.steps new.steps
-ArrivesInPlace old new (Ended shown) = (new.tree ≡ old.tree) × (new.opened ≡ old.opened) × IsLooked old.view new.view × EndSeen new.view shown × HasLooked old.steps new.steps
+ArrivesInPlace old new (Ended shown) =
+    (new.tree ≡ old.tree) × (new.opened ≡ old.opened) × IsLooked old.view new.view × EndSeen new.view shown × HasLooked old.steps new.steps
 
 -- AlreadyArrived follows the look that begins the call, alone.
 abbrev pub FindsArrived : Holding → Holding → ArrivedInPlace → Type 0

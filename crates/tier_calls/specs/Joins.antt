@@ -22,8 +22,8 @@ pub record IsJoined (tier size : ℕ) (v : View) : Type 0 where
   pub none_arrived : v.arrived ≡ 0
   pub unled : v.led ≡ false
 
--- The token noted a word on the path of its join, above its claimed tiers, that refuses what the join would add there, and it has not seen the end. A join
--- at the root claims nothing.
+-- The token noted a word on the path of its join, above its claimed tiers, that refuses what the join would add there, and it has not seen
+-- the end. A join at the root claims nothing.
 pub record IsNoted (parents : List ℕ) (tier size : ℕ) (v : View) (R : ℕ → ℕ → Fields → Type 0) : Type 0 where
   pub claimed : ℕ
   pub alone : tier ≡ 0 → claimed ≡ 0
@@ -35,7 +35,8 @@ pub record IsNoted (parents : List ℕ) (tier size : ℕ) (v : View) (R : ℕ �
 
 -- why a join was refused: by the noted word, or by the end
 abbrev pub Refusal : List ℕ → ℕ → ℕ → View → Played → Type 0
-Refusal parents tier size v (Held phase cause) = (phase ≡ v.phase) × IsNoted parents tier size v (λ t more w. (has_no_room more w ≡ false) × (cause ≡ cause_of t v.phase w))
+Refusal parents tier size v (Held phase cause) =
+    (phase ≡ v.phase) × IsNoted parents tier size v (λ t more w. (has_no_room more w ≡ false) × (cause ≡ cause_of t v.phase w))
 Refusal parents tier size v (Full count) = IsNoted parents tier size v (λ t more w. (has_no_room more w ≡ true) × (count ≡ w.parties))
 Refusal parents tier size v (Ended shown) = EndSeen v shown
 Refusal parents tier size v _ = ⊥
@@ -77,7 +78,8 @@ JoinAt parents least home tier size v answer Settling = SettlesFor tier size v
 JoinAt parents least home tier size v answer (ToGiveBack refusal) = GivesBackFor parents tier size v refusal
 JoinAt parents least home tier size v answer _ = ⊥
 
--- By any steps and looks, a join places the members that were asked for at the tier that was asked for, or is refused as its token has noted.
+-- By any steps and looks, a join places the members that were asked for at the tier that was asked for, or is refused as its token has
+-- noted.
 abbrev pub JoinsDoAsAsked : Type 0
 JoinsDoAsAsked =
     (k : Key) (least home tier size : ℕ) (from at : Position) → JoinAt k.shape least home tier size from.view from.answer from.progress

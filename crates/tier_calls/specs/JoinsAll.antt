@@ -30,15 +30,17 @@ pub record MayJoin (n : Named) (w : Fields) (c : GroupHeld) (p : TokensHeld) : T
   pub enough : length c.tokens ≤ w.unarrived
   pub capacity : w.parties + length p.tokens ≤ 65535
 
--- What the tokens know after one member of each new token has joined at the group's tier, by one exchange from the word w: first the new ones, then the old ones,
--- which know what they knew.
+-- What the tokens know after one member of each new token has joined at the group's tier, by one exchange from the word w: first the new
+-- ones, then the old ones, which know what they knew.
 abbrev pub sights_joined : GroupHeld → TokensHeld → Fields → List Sight
 sights_joined c p w = all_stepped (Join c.view.tier 0 1) 1 c.view.tier (new_view 0) w p.tokens ++ c.tokens
 
--- One exchange: all new members have joined, and the group has their tokens too. Or it was lost to another word, and all old tokens have looked.
+-- One exchange: all new members have joined, and the group has their tokens too. Or it was lost to another word, and all old tokens have
+-- looked.
 abbrev pub TriesJoining : GroupHeld → TokensHeld → Fields → JoinTry → Type 0
 TriesJoining c p w (tried.Joined group) = (group.tree ≡ c.tree) × (group.view ≡ c.view) × (group.tokens ≡ sights_joined c p w)
-TriesJoining c p w (tried.Lost group z) = (z ≢ w) × (group.tree ≡ c.tree) × (group.view ≡ glanced c.view.tier z c.view) × (group.tokens ≡ looked_all c.view.tier z 1 c.tokens)
+TriesJoining c p w (tried.Lost group z) =
+    (z ≢ w) × (group.tree ≡ c.tree) × (group.view ≡ glanced c.view.tier z c.view) × (group.tokens ≡ looked_all c.view.tier z 1 c.tokens)
 
 -- Some looks, and then one exchange, by which `n` new tokens joined at the tier of the old ones.
 pub record HasJoined (tries n : ℕ) (old new : GroupHeld) : Type 0 where
@@ -66,10 +68,13 @@ TriesToJoin tries n old (went.Ended group word) = KeepsSoon tries old group × (
 
 -- What each answer says, after one look at the root. Before Busy all tries were made.
 abbrev pub JoinsAll : ℕ → ℕ → GroupHeld → JoinedAll → Type 0
-JoinsAll tries n old (answer.Joined group phase) = (mid : GroupHeld) × FirstLook old mid × HasJoined tries n mid group × (phase ≡ group.view.phase)
+JoinsAll tries n old (answer.Joined group phase) =
+    (mid : GroupHeld) × FirstLook old mid × HasJoined tries n mid group × (phase ≡ group.view.phase)
 JoinsAll tries n old (answer.Full group count) = (used : ℕ) × (used < tries) × OnlyTried used old group × FindsFull n group count
-JoinsAll tries n old (answer.AlreadyArrived group phase) = FirstLook old group × IsFresh group.view × (group.view.arrived ≡ 1) × (phase ≡ group.view.phase)
-JoinsAll tries n old (answer.Ended group shown) = (mid : GroupHeld) × FirstLook old mid × KeepsSoon tries mid group × EndSeen group.view shown
+JoinsAll tries n old (answer.AlreadyArrived group phase) =
+    FirstLook old group × IsFresh group.view × (group.view.arrived ≡ 1) × (phase ≡ group.view.phase)
+JoinsAll tries n old (answer.Ended group shown) =
+    (mid : GroupHeld) × FirstLook old mid × KeepsSoon tries mid group × EndSeen group.view shown
 JoinsAll tries n old (answer.Busy group) = OnlyTried tries old group
 
 -- the answer says that the tree has ended

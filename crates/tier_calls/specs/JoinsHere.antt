@@ -47,18 +47,25 @@ pub record IsFullHere (parents : List ℕ) (tier size : ℕ) (v : View) (count :
 
 -- It is never held off, and opens no path: the crew has an unarrived member there.
 abbrev pub JoinsHere : Holding → Holding → Holding → ℕ → ℕ → Registered → Type 0
-JoinsHere old new door size tries (Joined crew phase) = AreSoon tries old new door crew × IsJoined old.view.tier size crew.view × (crew.view.errand ≡ Rest) × (phase ≡ crew.view.phase)
-JoinsHere old new door size tries (Full after count) = AreSoon tries old new door after × IsFullHere (shape_of door) old.view.tier size after.view count
-JoinsHere old new door size tries (Ended after shown) = AreSoon tries old new door after × Refusal (shape_of door) old.view.tier size after.view (played.Ended shown)
-JoinsHere old new door size tries (Busy after) = AreSpent tries old new door after × IsLookedAround door.view after.view × IsFresh after.view
+JoinsHere old new door size tries (Joined crew phase) =
+    AreSoon tries old new door crew × IsJoined old.view.tier size crew.view × (crew.view.errand ≡ Rest) × (phase ≡ crew.view.phase)
+JoinsHere old new door size tries (Full after count) =
+    AreSoon tries old new door after × IsFullHere (shape_of door) old.view.tier size after.view count
+JoinsHere old new door size tries (Ended after shown) =
+    AreSoon tries old new door after × Refusal (shape_of door) old.view.tier size after.view (played.Ended shown)
+JoinsHere old new door size tries (Busy after) =
+    AreSpent tries old new door after × IsLookedAround door.view after.view × IsFresh after.view
 JoinsHere old new door size tries (Held after phase cause) = ⊥
 JoinsHere old new door size tries (Owing opening) = ⊥
 
 -- one try of it, and the end wasn't seen
 abbrev pub JoinsOnce : Holding → Holding → Holding → ℕ → Registered → Type 0
-JoinsOnce old new door size (Joined crew phase) = AreSoon 1 old new door crew × IsJoined old.view.tier size crew.view × (crew.view.errand ≡ Rest) × (phase ≡ crew.view.phase)
-JoinsOnce old new door size (Full after count) = AreSoon 1 old new door after × IsFullHere (shape_of door) old.view.tier size after.view count
-JoinsOnce old new door size (Ended after shown) = AreSoon 1 old new door after × Refusal (shape_of door) old.view.tier size after.view (played.Ended shown)
+JoinsOnce old new door size (Joined crew phase) =
+    AreSoon 1 old new door crew × IsJoined old.view.tier size crew.view × (crew.view.errand ≡ Rest) × (phase ≡ crew.view.phase)
+JoinsOnce old new door size (Full after count) =
+    AreSoon 1 old new door after × IsFullHere (shape_of door) old.view.tier size after.view count
+JoinsOnce old new door size (Ended after shown) =
+    AreSoon 1 old new door after × Refusal (shape_of door) old.view.tier size after.view (played.Ended shown)
 JoinsOnce old new door size (Busy after) = AreSpent 1 old new door after × IsLookedAround door.view after.view × IsFresh after.view
 JoinsOnce old new door size (Held after phase cause) = ⊥
 JoinsOnce old new door size (Owing opening) = ⊥
@@ -86,9 +93,13 @@ pub record IsStill (tries : ℕ) (door after : Holding) : Type 0 where
 
 -- what the door's part of such a try answers
 abbrev pub AnswersHere : Holding → ℕ → ℕ → Registered → Type 0
-AnswersHere door tier size (Joined crew phase) = IsSpent 1 door crew × IsJoined tier size crew.view × (crew.view.errand ≡ Rest) × (phase ≡ crew.view.phase) × MadeOnly is_entering door.steps crew.steps
-AnswersHere door tier size (Full after count) = IsSpent 0 door after × IsFullHere (shape_of door) tier size after.view count × MadeOnly is_entering door.steps after.steps
-AnswersHere door tier size (Ended after shown) = IsSoon 1 door after × EndSeen after.view shown × MadeOnly is_entering door.steps after.steps
+AnswersHere door tier size (Joined crew phase) =
+    IsSpent 1 door crew × IsJoined tier size crew.view × (crew.view.errand ≡ Rest) × (phase ≡ crew.view.phase)
+    × MadeOnly is_entering door.steps crew.steps
+AnswersHere door tier size (Full after count) =
+    IsSpent 0 door after × IsFullHere (shape_of door) tier size after.view count × MadeOnly is_entering door.steps after.steps
+AnswersHere door tier size (Ended after shown) =
+    IsSoon 1 door after × EndSeen after.view shown × MadeOnly is_entering door.steps after.steps
 AnswersHere door tier size (Busy after) = IsStill 1 door after
 AnswersHere door tier size (Held after phase cause) = ⊥
 AnswersHere door tier size (Owing opening) = ⊥

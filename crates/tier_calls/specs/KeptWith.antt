@@ -21,14 +21,16 @@ pub record AllTried (old new : GroupHeld) : Type 0 where
 abbrev pub PassesFrom : ℕ → ℕ → GroupHeld → GroupHeld → TriedWith → Type 0
 PassesFrom joining leaving from old (went.Yet group) = AllTried old group
 PassesFrom joining leaving from old (went.Done group) = HasExchanged 1 joining leaving from group.tree group.view group.tokens
-PassesFrom joining leaving from old (went.Owing errand rest) = HasExchanged 1 joining leaving from errand.token.tree errand.token.view (sight_held errand.token ∷ tokens_in rest)
+PassesFrom joining leaving from old (went.Owing errand rest) =
+    HasExchanged 1 joining leaving from errand.token.tree errand.token.view (sight_held errand.token ∷ tokens_in rest)
     × ((c : GroupHeld) → rest ≡ Some c → (c.tree ≡ from.tree) × AllHere from.view c.view)
 PassesFrom joining leaving from old (went.Full group count) = ⊥
 PassesFrom joining leaving from old (went.Ended group word) = ⊥
 
 -- one look at the root, and then some tries
 abbrev pub LooksAndTriesWith : ℕ → ℕ → ℕ → GroupHeld → TriedWith → Type 0
-LooksAndTriesWith tries joining leaving old t = (mid : GroupHeld) × FirstLook old mid × (mid.view.arrived ≡ 0) × TriesWith tries joining leaving mid t
+LooksAndTriesWith tries joining leaving old t =
+    (mid : GroupHeld) × FirstLook old mid × (mid.view.arrived ≡ 0) × TriesWith tries joining leaving mid t
 
 -- some tries, after a look at the root if its word was kept
 abbrev pub TriesWithKept : Option Fields → ℕ → ℕ → ℕ → GroupHeld → TriedWith → Type 0

@@ -27,7 +27,8 @@ abbrev pub Others : GroupHeld → Option GroupHeld → Type 0
 Others old None = Unit {0}
 Others old (Some c) = (c.tree ≡ old.tree) × (c.view ≡ record old.view { arrived = 1 })
 
--- Each token has arrived with its member by one exchange of their tier's word, which was w. The first one arrived last and owes what follows from that.
+-- Each token has arrived with its member by one exchange of their tier's word, which was w. The first one arrived last and owes what
+-- follows from that.
 pub record LastArrived (w : Fields) (old : GroupHeld) (first : Holding) (rest : Option GroupHeld) : Type 0 where
   pub tree : first.tree ≡ old.tree
   pub view : first.view ≡ record old.view { arrived = 1; errand = first.view.errand }

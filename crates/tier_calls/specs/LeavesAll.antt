@@ -27,8 +27,8 @@ abbrev pub all_left : ℕ → ℕ → Fields → Fields
 all_left zero n w = record w { parties = w.parties - n; unarrived = w.unarrived - n }
 all_left (suc t) n w = record w { parties = w.parties - n; unarrived = (if w.parties == n then 1 else w.unarrived - n) }
 
--- What the last of these departures owes if nobody else was to arrive at the tier t: the advance at the root, and a climb below it, by a departure if the tier is empty
--- then. `above` is the tier's parent.
+-- What the last of these departures owes if nobody else was to arrive at the tier t: the advance at the root, and a climb below it, by a
+-- departure if the tier is empty then. `above` is the tier's parent.
 abbrev pub owed_by_last : ℕ → ℕ → Bool → Errand
 owed_by_last above zero empty = Advancing
 owed_by_last above (suc t) empty = Climbing above (if empty then Departure else Arrival)
@@ -46,7 +46,8 @@ pub record IsSpare (x : Sight) : Type 0 where
   pub none : x.view.size ≡ 0
   pub rests : x.view.errand ≡ Rest
 
--- Every token's member has left, once, all by one exchange of their tier's word, which was w. `first` is the first token, and the others are gone.
+-- Every token's member has left, once, all by one exchange of their tier's word, which was w. `first` is the first token, and the others
+-- are gone.
 pub record HaveLeft (P : List Kind → List Kind → Type 0) (tries : ℕ) (w : Fields) (old : GroupHeld) (first : Holding) : Type 0 where
   pub tree : first.tree ≡ old.tree
   pub none : first.view.size ≡ 0
@@ -70,9 +71,12 @@ LeftLast P tries old first = (w : Fields) × HaveLeft P tries w old first × (le
 
 -- One try from the word w: the departures of tokens that know as much as those of `from`, or else a look of all.
 abbrev pub TriesOnce : Fields → GroupHeld → GroupHeld → LeavingTry → Type 0
-TriesOnce w from old (once.Left door) = HasCounted Departure from.view door.view × HaveLeft LeavesOnce 1 w from door × (length from.tokens < w.unarrived)
-TriesOnce w from old (once.Owing errand) = HasCounted Departure from.view errand.token.view × HaveLeft LeavesOnce 1 w from errand.token × (length from.tokens ≡ w.unarrived)
-    × (errand.token.view.errand ≡ owed_by_last (parent_of (shape_of errand.token) from.view.tier) from.view.tier (w.parties == length from.tokens))
+TriesOnce w from old (once.Left door) =
+    HasCounted Departure from.view door.view × HaveLeft LeavesOnce 1 w from door × (length from.tokens < w.unarrived)
+TriesOnce w from old (once.Owing errand) =
+    HasCounted Departure from.view errand.token.view × HaveLeft LeavesOnce 1 w from errand.token × (length from.tokens ≡ w.unarrived)
+    × (errand.token.view.errand
+    ≡ owed_by_last (parent_of (shape_of errand.token) from.view.tier) from.view.tier (w.parties == length from.tokens))
 TriesOnce w from old (once.Lost group z) = AllLost w z old group
 
 -- some tries
@@ -82,14 +86,20 @@ TriesLeaving tries old (tried.Left door) = HasCounted Departure old.view door.vi
 TriesLeaving tries old (tried.Owing errand) = HasCounted Departure old.view errand.token.view × LeftLast LeavesOnce tries old errand.token
 TriesLeaving tries old (tried.Ended group word) = KeepsSoon tries old group × (word.ended ≡ true) × (group.view.end_seen ≡ Some word.phase)
 
--- What each answer says. After Left the door owes nothing. After Owing the errand's token owes a climb or the advance. After the other answers nothing was counted.
--- AlreadyArrived follows the look that begins the call, alone, and before Busy all tries were made.
+-- What each answer says. After Left the door owes nothing. After Owing the errand's token owes a climb or the advance. After the other
+-- answers nothing was counted. AlreadyArrived follows the look that begins the call, alone, and before Busy all tries were made.
 abbrev pub LeavesAll : GroupHeld → ℕ → LeftAll → Type 0
-LeavesAll old tries (answer.Left door phase) = HasPassed Departure old.view door.view × (phase ≡ door.view.phase) × LeftEarly LooksAndLeaves tries old door
+LeavesAll old tries (answer.Left door phase) =
+    HasPassed Departure old.view door.view × (phase ≡ door.view.phase) × LeftEarly LooksAndLeaves tries old door
 LeavesAll old tries (answer.Owing errand) = HasPassed Departure old.view errand.token.view × LeftLast LooksAndLeaves tries old errand.token
-LeavesAll old tries (answer.AlreadyArrived group phase) = (group.tree ≡ old.tree) × IsLooked old.view group.view × IsFresh group.view × (group.view.arrived ≡ 1) × (phase ≡ group.view.phase) × Each (Did Looks 0) old.tokens group.tokens
-LeavesAll old tries (answer.Ended group shown) = (group.tree ≡ old.tree) × IsLooked old.view group.view × EndSeen group.view shown × Each (Did HasLooked tries) old.tokens group.tokens
-LeavesAll old tries (answer.Busy group) = (group.tree ≡ old.tree) × IsLooked old.view group.view × (group.view.arrived ≡ 0) × Each (Did HasLooked tries) old.tokens group.tokens × HasSpent tries old.tokens group.tokens
+LeavesAll old tries (answer.AlreadyArrived group phase) =
+    (group.tree ≡ old.tree) × IsLooked old.view group.view × IsFresh group.view × (group.view.arrived ≡ 1) × (phase ≡ group.view.phase)
+    × Each (Did Looks 0) old.tokens group.tokens
+LeavesAll old tries (answer.Ended group shown) =
+    (group.tree ≡ old.tree) × IsLooked old.view group.view × EndSeen group.view shown × Each (Did HasLooked tries) old.tokens group.tokens
+LeavesAll old tries (answer.Busy group) =
+    (group.tree ≡ old.tree) × IsLooked old.view group.view × (group.view.arrived ≡ 0) × Each (Did HasLooked tries) old.tokens group.tokens
+    × HasSpent tries old.tokens group.tokens
 
 -- the answer says that the tree has ended
 abbrev pub HasEnded : LeftAll → Type 0

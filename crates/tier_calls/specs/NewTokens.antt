@@ -1,4 +1,5 @@
--- Several tokens without members in one seat, and the exchange by which some of them join, others leave, and all the rest arrive (not part of Java's API).
+-- Several tokens without members in one seat, and the exchange by which some of them join, others leave, and all the rest arrive (not part
+-- of Java's API).
 use Rattle.std.specs.Prelude.{◌≡◌, ℕ, ◌+◌, ◌≤◌, ◌<◌, false, None, List, [], length, replicate}
 use Rattle.std.specs.List.{AllByRecursion}
 use Rattle.atomic_table.specs.Table.{Me}

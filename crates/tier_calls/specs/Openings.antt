@@ -21,4 +21,5 @@ pub record IsOpening (g : Going) : Type 0 where
   pub at : IsAt g.token.tree g
   pub claims : 0 < claimed_by g.token.view.errand
   pub some : 0 < asked_size g.token.view.errand
-  pub shown : JoinAt g.token.tree.key.shape 1 g.token.view.tier (asked_tier g.token.view.errand) (asked_size g.token.view.errand) g.token.view g.answer g.progress
+  pub shown : JoinAt g.token.tree.key.shape 1 g.token.view.tier (asked_tier g.token.view.errand) (asked_size g.token.view.errand)
+      g.token.view g.answer g.progress

@@ -41,7 +41,8 @@ PassAnswer P C u (Done phase) = C u × (phase ≡ u.phase)
 PassAnswer P C u (Ended shown) = P u × EndSeen u shown
 PassAnswer P C u _ = ⊥
 
--- What holds of such a call, however far it has come. Until its member is counted it has not seen the end, and until it is over it has taken no advance.
+-- What holds of such a call, however far it has come. Until its member is counted it has not seen the end, and until it is over it has
+-- taken no advance.
 abbrev pub PassAt : Passage → (View → Type 0) → (View → Type 0) → View → Played → Progress → Type 0
 PassAt own P C u answer Idle = PassAnswer P C u answer
 PassAt own P C u answer (Passing passage) = (passage ≡ own) × P u × IsFresh u

@@ -15,11 +15,17 @@ pub record HasPassedOn (old new : Holding) : Type 0 where
   pub next : new.view.phase ≡ next_phase_of old.view.phase
   pub nobody : new.view.arrived ≡ 0
 
--- What each answer says. All but Ended follow a look that cleared the mark of an advance and did not see the end. Here says that no phase has passed since the look before.
+-- What each answer says. All but Ended follow a look that cleared the mark of an advance and did not see the end. Here says that no phase
+-- has passed since the look before.
 abbrev pub Polls : Holding → Holding → Polled → Type 0
-Polls old new (Passed phase) = IsSoon 1 old new × IsLooked old.view new.view × IsFresh new.view × HasPassedOn old new × (phase ≡ new.view.phase) × HasLooked old.steps new.steps
-Polls old new Waiting = IsSoon 1 old new × IsLooked old.view new.view × IsFresh new.view × (new.view.arrived ≡ new.view.size) × HasLooked old.steps new.steps
-Polls old new (Here phase) = IsSoon 1 old new × IsLooked old.view new.view × IsFresh new.view × (new.view.arrived < new.view.size) × (phase ≡ new.view.phase) × HasLooked old.steps new.steps × (new.view.phase ≡ old.view.phase)
+Polls old new (Passed phase) =
+    IsSoon 1 old new × IsLooked old.view new.view × IsFresh new.view × HasPassedOn old new × (phase ≡ new.view.phase)
+    × HasLooked old.steps new.steps
+Polls old new Waiting =
+    IsSoon 1 old new × IsLooked old.view new.view × IsFresh new.view × (new.view.arrived ≡ new.view.size) × HasLooked old.steps new.steps
+Polls old new (Here phase) =
+    IsSoon 1 old new × IsLooked old.view new.view × IsFresh new.view × (new.view.arrived < new.view.size) × (phase ≡ new.view.phase)
+    × HasLooked old.steps new.steps × (new.view.phase ≡ old.view.phase)
 Polls old new (Ended shown) = IsSoon 1 old new × IsLooked old.view new.view × EndSeen new.view shown × HasLooked old.steps new.steps
 
 -- The token's last step was at its tier, which is now in its phase. Or that step was a try to bring the tier into it,

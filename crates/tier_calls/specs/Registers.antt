@@ -1,4 +1,5 @@
--- What registrations answer, by the view of their token (`register` and `bulkRegister` of Java SE 21's `Phaser`; tokens are not part of its API).
+-- What registrations answer, by the view of their token (`register` and `bulkRegister` of Java SE 21's `Phaser`; tokens are not part of its
+-- API).
 use Rattle.std.specs.Prelude.{◌≡◌, ◌≢◌, ℕ, ◌<◌, List}
 use Rattle.tier_steps.specs.declared.kind.Kind.{Kind}
 use Rattle.tier_steps.specs.declared.view.View.{View}
@@ -33,8 +34,10 @@ pub record IsFor (tier size : ℕ) (g : Going) : Type 0 where
 
 -- What each answer says. After Joined the token owes nothing. After Busy it has not seen the end and has claimed nothing.
 abbrev pub Registers : Holding → ℕ → ℕ → ℕ → Registered → Type 0
-Registers h tier size tries (Joined crew phase) = IsSoon tries h crew × IsJoined tier size crew.view × (crew.view.errand ≡ Rest) × (phase ≡ crew.view.phase)
-Registers h tier size tries (Held door phase cause) = IsSoon tries h door × Refusal (shape_of h) tier size door.view (played.Held phase cause)
+Registers h tier size tries (Joined crew phase) =
+    IsSoon tries h crew × IsJoined tier size crew.view × (crew.view.errand ≡ Rest) × (phase ≡ crew.view.phase)
+Registers h tier size tries (Held door phase cause) =
+    IsSoon tries h door × Refusal (shape_of h) tier size door.view (played.Held phase cause)
 Registers h tier size tries (Full door count) = IsSoon tries h door × Refusal (shape_of h) tier size door.view (played.Full count)
 Registers h tier size tries (Ended door shown) = IsSoon tries h door × Refusal (shape_of h) tier size door.view (played.Ended shown)
 Registers h tier size tries (Busy door) = IsSpent tries h door × IsLookedAround h.view door.view × IsFresh door.view
@@ -72,10 +75,14 @@ HasEnded _ = ⊥
 
 -- What each answer of a resumed registration says, for these members at this tier.
 abbrev pub OpensFor : ℕ → ℕ → Going → ℕ → Opened → Type 0
-OpensFor tier size g tries (opened.Joined crew phase) = IsSoon tries g.token crew × IsJoined tier size crew.view × (crew.view.errand ≡ Rest) × (phase ≡ crew.view.phase)
-OpensFor tier size g tries (opened.Held door phase cause) = IsSoon tries g.token door × Refusal (shape_of g.token) tier size door.view (played.Held phase cause)
-OpensFor tier size g tries (opened.Full door count) = IsSoon tries g.token door × Refusal (shape_of g.token) tier size door.view (played.Full count)
-OpensFor tier size g tries (opened.Ended door shown) = IsSoon tries g.token door × Refusal (shape_of g.token) tier size door.view (played.Ended shown)
+OpensFor tier size g tries (opened.Joined crew phase) =
+    IsSoon tries g.token crew × IsJoined tier size crew.view × (crew.view.errand ≡ Rest) × (phase ≡ crew.view.phase)
+OpensFor tier size g tries (opened.Held door phase cause) =
+    IsSoon tries g.token door × Refusal (shape_of g.token) tier size door.view (played.Held phase cause)
+OpensFor tier size g tries (opened.Full door count) =
+    IsSoon tries g.token door × Refusal (shape_of g.token) tier size door.view (played.Full count)
+OpensFor tier size g tries (opened.Ended door shown) =
+    IsSoon tries g.token door × Refusal (shape_of g.token) tier size door.view (played.Ended shown)
 OpensFor tier size g tries (opened.Owing opening) = IsSpent tries g.token opening.token × IsFor tier size opening
 
 abbrev pub Opens : Going → ℕ → Opened → Type 0

@@ -45,8 +45,12 @@ OthersCame crew (suc n) tries group phase = OthersJoin crew (suc n) tries (answe
 
 -- What each answer says: first one token registers, and then the others beside it.
 abbrev pub RegistersAll : Holding → ℕ → ℕ → ℕ → RegisteredAll → Type 0
-RegistersAll h tier n tries (answer.Joined group phase) = (crew : Holding) × RegistersFirst h tier tries (first.Joined crew phase) × OthersCame crew (n - 1) tries group phase × AreRegistered tier n group phase
-RegistersAll h tier n tries (answer.Partly group why) = (crew : Holding) × (phase : ℕ) × RegistersFirst h tier tries (first.Joined crew phase) × OthersJoin crew (n - 1) tries (answer.Partly group why)
+RegistersAll h tier n tries (answer.Joined group phase) =
+    (crew : Holding) × RegistersFirst h tier tries (first.Joined crew phase) × OthersCame crew (n - 1) tries group phase
+    × AreRegistered tier n group phase
+RegistersAll h tier n tries (answer.Partly group why) =
+    (crew : Holding) × (phase : ℕ) × RegistersFirst h tier tries (first.Joined crew phase)
+    × OthersJoin crew (n - 1) tries (answer.Partly group why)
     × (1 < n) × (length group.tokens ≡ 1) × (group.view.tier ≡ tier) × (group.view.arrived ≡ 0)
 RegistersAll h tier n tries (answer.Held door phase cause) = RegistersFirst h tier tries (first.Held door phase cause)
 RegistersAll h tier n tries (answer.Full door count) = RegistersFirst h tier tries (first.Full door count)

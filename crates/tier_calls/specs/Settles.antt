@@ -13,7 +13,8 @@ use Rattle.tier_calls.specs.Holding.{Named, Holding, sight_held}
 use Rattle.tier_calls.specs.Groups.{GroupHeld, IsOne}
 use Rattle.tier_calls.specs.LastOnes.{tokens_in}
 
--- All tokens of a seat have just arrived by one exchange, the first of them last, and as the last at the tier t. `before` is the word before that last arrival.
+-- All tokens of a seat have just arrived by one exchange, the first of them last, and as the last at the tier t. `before` is the word
+-- before that last arrival.
 pub record HaveAllArrived (k : Key) (t : ℕ) (v : View) (count : ℕ) (me : Me Kind (List Sight)) (before next : Fields) : Type 0 where
   pub from : Fields
   pub list : List Sight

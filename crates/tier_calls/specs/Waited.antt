@@ -9,8 +9,8 @@ use Rattle.tier_calls.specs.Groups.{GroupHeld}
 use Rattle.tier_calls.specs.declared.polling.Polled.{Polled}
 use Rattle.tier_calls.specs.declared.polling.Polled.TheVariants.{Passed, Waiting, Here, Ended}
 
--- If the root of this tree is in the phase `now`, and some token with members is still in `left`, then the last advance left `left`, and found that everybody had arrived
--- in it, in whatever way that state was reached.
+-- If the root of this tree is in the phase `now`, and some token with members is still in `left`, then the last advance left `left`, and
+-- found that everybody had arrived in it, in whatever way that state was reached.
 abbrev pub WaitedFor : Named → ℕ → ℕ → Type 0
 WaitedFor n left now = WaitedBetween n.key left now
 
@@ -25,8 +25,9 @@ pub record SawAdvance (old new : Holding) (phase : ℕ) : Type 0 where
   -- and before the last advance of every such run, every member of every token had arrived in the token's phase
   pub waited : WaitedBetween old.tree.key old.view.phase phase
 
--- A token looked at the root, and found that the tree has ended. If the root is in another phase than the token was, as after an advance that ended the tree, then before the
--- last advance all had arrived. In whatever way a state of this tree was reached whose root has ended, a step of that run ended the tree.
+-- A token looked at the root, and found that the tree has ended. If the root is in another phase than the token was, as after an advance
+-- that ended the tree, then before the last advance all had arrived. In whatever way a state of this tree was reached whose root has ended,
+-- a step of that run ended the tree.
 pub record SawEnd (old new : Holding) : Type 0 where
   pub root : Fields
   pub ended : root.ended ≡ true

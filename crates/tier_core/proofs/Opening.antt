@@ -11,7 +11,8 @@ use Rattle.tier_core.specs.Turn.{Progress, Idle}
 use Rattle.tier_core.specs.Machine.{State, IsCore, CallFits, view_at, call_at, opened, with_token}
 use Rattle.tier_steps.proofs.Start.{nobody_tallies, new_tokens_tally}
 
-pub opened_core : (ps : List ℕ) (phase : ℕ) (plan : EndPlan) → IsShape ps → length ps ≤ 65535 → phase ≤ 2147483647 → IsCore (opened ps phase plan)
+pub opened_core : (ps : List ℕ) (phase : ℕ) (plan : EndPlan) → IsShape ps → length ps ≤ 65535 → phase ≤ 2147483647
+    → IsCore (opened ps phase plan)
 opened_core ps phase plan shape few legal = record {
   shape = shape;
   few = few;
@@ -43,7 +44,9 @@ token_core s core =
       few = core.few;
       tally = new_tokens_tally s.parents s.words s.views [] (word_at s.words 0).phase
           (subst (λ (vs : List View). Tallies s.parents s.words vs) (sym (append_none s.views)) core.tally);
-      long = length-append s.calls (Idle ∷ []) ∙ (ap (λ n. n + 1) core.long ∙ sym (length-append s.views (new_view (word_at s.words 0).phase ∷ [])));
+      long =
+          length-append s.calls (Idle ∷ [])
+          ∙ (ap (λ n. n + 1) core.long ∙ sym (length-append s.views (new_view (word_at s.words 0).phase ∷ [])));
       calls = λ token h. ⊎_elim
           (λ (old : token < length s.views).
           subst (λ (p : Progress). CallFits s.parents p (view_at (s.views ++ new_view (word_at s.words 0).phase ∷ []) token))
@@ -67,8 +70,10 @@ same_core s core views calls same kept =
     subst (λ (vs : List View). IsCore record { parents = s.parents; words = s.words; views = vs; calls = calls; plan = s.plan }) (sym same)
     (subst (λ (ps : List Progress). IsCore record { parents = s.parents; words = s.words; views = s.views; calls = ps; plan = s.plan }) (sym kept) core)
 
-pub added_core : (s : State) (phase : ℕ) (v : View) (views : List View) (before calls : List Progress) → IsCore s → phase ≡ (word_at s.words 0).phase → v ≡ new_view phase
-    → views ≡ s.views ++ v ∷ [] → before ≡ s.calls → calls ≡ before ++ Idle ∷ [] → IsCore record { parents = s.parents; words = s.words; views = views; calls = calls; plan = s.plan }
+pub added_core : (s : State) (phase : ℕ) (v : View) (views : List View) (before calls : List Progress) → IsCore s
+    → phase ≡ (word_at s.words 0).phase → v ≡ new_view phase
+    → views ≡ s.views ++ v ∷ [] → before ≡ s.calls → calls ≡ before ++ Idle ∷ []
+    → IsCore record { parents = s.parents; words = s.words; views = views; calls = calls; plan = s.plan }
 added_core s phase v views before calls core root new more same one =
     same_core (with_token s) (token_core s core) views calls (more ∙ ap (λ (u : View). s.views ++ u ∷ []) (new ∙ ap new_view root))
     (one ∙ ap (λ (ps : List Progress). ps ++ Idle ∷ []) same)

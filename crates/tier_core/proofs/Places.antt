@@ -42,7 +42,8 @@ is_step s i r core h may = record {
 }
 
 -- a change of one call and its view
-calls_kept : (ps : List ℕ) (calls : List Progress) (views : List View) (i : ℕ) (p : Progress) (v : View) → length calls ≡ length views → i < length views
+calls_kept : (ps : List ℕ) (calls : List Progress) (views : List View) (i : ℕ) (p : Progress) (v : View) → length calls ≡ length views
+    → i < length views
     → ((j : ℕ) → j < length views → CallFits ps (call_at calls j) (view_at views j)) → CallFits ps p v
     → (j : ℕ) → j < length (set views i v) → CallFits ps (call_at (set calls i p) j) (view_at (set views i v) j)
 calls_kept ps calls views i p v long h old fits j k = ⊎_elim
@@ -64,20 +65,28 @@ played_core s i r core h may =
       tally = subst (λ (vs : List View). Tallies s.parents (words_after s.words r.kind r.tier (view_at s.views i)) vs)
           (sym (set_around s.views i (stepped_view s.parents s.words r.kind r.tier (view_at s.views i)) h))
           (kinds_keep_tally s.parents s.words (take i s.views) (view_at s.views i) (drop (suc i) s.views) r.tier r.kind (is_step s i r core h may));
-      long = length-set s.calls i r.next ∙ (core.long ∙ sym (length-set s.views i (stepped_view s.parents s.words r.kind r.tier (view_at s.views i))));
-      calls = calls_kept s.parents s.calls s.views i r.next (stepped_view s.parents s.words r.kind r.tier (view_at s.views i)) core.long h core.calls may.keeps;
+      long =
+          length-set s.calls i r.next
+          ∙ (core.long ∙ sym (length-set s.views i (stepped_view s.parents s.words r.kind r.tier (view_at s.views i))));
+      calls =
+          calls_kept s.parents s.calls s.views i r.next (stepped_view s.parents s.words r.kind r.tier (view_at s.views i)) core.long h
+          core.calls may.keeps;
     }
 
 -- a turn is the flat step of its label
-pub played_flat : (s : State) (i : ℕ) (r : Turn) (f : Flat) → IsCore s → i < length s.views → MayPlay s i r → LooksAlike f (image s.words s.views)
+pub played_flat : (s : State) (i : ℕ) (r : Turn) (f : Flat) → IsCore s → i < length s.views → MayPlay s i r
+    → LooksAlike f (image s.words s.views)
     → IsAllowedLabel (label i r.kind) f × LooksAlike (labelled (label i r.kind) f) (image (played s i r).words (played s i r).views)
 played_flat s i r f core h may alike =
     let alike' : LooksAlike f (image s.words (take i s.views ++ view_at s.views i ∷ drop (suc i) s.views)) =
     subst (λ (vs : List View). LooksAlike f (image s.words vs)) (around s.views i (new_view 0) h) alike in
-    let law = kinds_are_flat s.parents s.words (take i s.views) (view_at s.views i) (drop (suc i) s.views) r.tier r.kind f (is_step s i r core h may) alike' in
+    let law =
+    kinds_are_flat s.parents s.words (take i s.views) (view_at s.views i) (drop (suc i) s.views) r.tier r.kind f (is_step s i r core h may)
+    alike' in
     let owner : length (take i s.views) ≡ i = (let a = length-take i s.views in omega arith) in (
       subst (λ (o : ℕ). IsAllowedLabel (label o r.kind) f) owner law.0,
-      subst (λ (vs : List View). LooksAlike (labelled (label i r.kind) f) (image (words_after s.words r.kind r.tier (view_at s.views i)) vs))
+      subst
+          (λ (vs : List View). LooksAlike (labelled (label i r.kind) f) (image (words_after s.words r.kind r.tier (view_at s.views i)) vs))
           (sym (set_around s.views i (stepped_view s.parents s.words r.kind r.tier (view_at s.views i)) h))
           (subst (λ (o : ℕ). LooksAlike (labelled (label o r.kind) f) (image (words_after s.words r.kind r.tier (view_at s.views i))
           (take i s.views ++ stepped_view s.parents s.words r.kind r.tier (view_at s.views i) ∷ drop (suc i) s.views))) owner law.1),
@@ -119,7 +128,8 @@ inside_known old inside i k r w v is = subst (λ (s : State). i < length s.views
 pub inside_may : (old inside : State) (i k : ℕ) (r : Turn) (w : Fields) (v : View) → IsRead old inside i k r w v → MayPlay inside i r
 inside_may old inside i k r w v is = subst (λ (s : State). MayPlay s i r) (sym is.same) is.may
 
-word_read : (old inside : State) (i k : ℕ) (r : Turn) (w : Fields) (v : View) → IsRead old inside i k r w v → word_at inside.words r.tier ≡ w
+word_read : (old inside : State) (i k : ℕ) (r : Turn) (w : Fields) (v : View) → IsRead old inside i k r w v
+    → word_at inside.words r.tier ≡ w
 word_read old inside i k r w v is =
     get_or_default inside.words r.tier blank w (inside_may old inside i k r w v is).within
     ∙ sym (is.word ∙ ap (λ n. get_or inside.words n w) is.tier)
@@ -127,7 +137,8 @@ word_read old inside i k r w v is =
 view_read : (old inside : State) (i k : ℕ) (r : Turn) (w : Fields) (v : View) → IsRead old inside i k r w v → view_at inside.views i ≡ v
 view_read old inside i k r w v is = get_or_default inside.views i (new_view 0) v (inside_known old inside i k r w v is) ∙ sym is.view
 
-pub read_runnable : (old inside : State) (i k : ℕ) (r : Turn) (w : Fields) (v : View) → IsRead old inside i k r w v → IsRunnable r.kind r.tier w v
+pub read_runnable : (old inside : State) (i k : ℕ) (r : Turn) (w : Fields) (v : View) → IsRead old inside i k r w v
+    → IsRunnable r.kind r.tier w v
 read_runnable old inside i k r w v is =
     subst (λ (x : Fields). IsRunnable r.kind r.tier x v) (word_read old inside i k r w v is)
     (subst (λ (x : View). IsRunnable r.kind r.tier (word_at inside.words r.tier) x) (view_read old inside i k r w v is)

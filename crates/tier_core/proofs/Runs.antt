@@ -72,7 +72,8 @@ begun_core s i c core is e =
     }
 
 -- an advance
-pub finish_may : (s : State) (i : ℕ) (ends : Bool) → IsCore s → i < length s.views → is_due (call_at s.calls i) ≡ true → MayPlay s i (finish_at s i ends)
+pub finish_may : (s : State) (i : ℕ) (ends : Bool) → IsCore s → i < length s.views → is_due (call_at s.calls i) ≡ true
+    → MayPlay s i (finish_at s i ends)
 finish_may s i ends core h e =
     finish_next s.parents s.words (view_at s.views i) ends core.tally.some
     (due_advances s.parents (call_at s.calls i) (view_at s.views i) e (core.calls i h))
@@ -87,7 +88,8 @@ plays s i r f core alike h may =
     let law = played_flat s i r f core h may alike in
     (law.0, law.1, played_core s i r core h may)
 
-pub step_moves : (s : State) (x : Step) (f : Flat) → IsCore s → IsStepOfCalls x → LooksAlike f (image s.words s.views) → Moves (step_label s x) (after s x) f
+pub step_moves : (s : State) (x : Step) (f : Flat) → IsCore s → IsStepOfCalls x → LooksAlike f (image s.words s.views)
+    → Moves (step_label s x) (after s x) f
 step_moves s (Begin i c) f core is alike =
     by_test (λ b. Moves None (cond b (begun s i c) s) f) (may_begin s i c)
     (λ e. (tt, alike, begun_core s i c core is e)) (λ _. (tt, alike, core))
@@ -98,14 +100,16 @@ step_moves s (Go i) f core is alike =
     plays s i (turn_at s i) f core alike h (turn_may s i core h a.1))
     (λ _. (tt, alike, core))
 step_moves s (Finish i) f core is alike =
-    by_test (λ b. Moves (cond b (label i (finish_at s i (plan_ends s)).kind) None) (cond b (played s i (finish_at s i (plan_ends s))) s) f) (may_finish s i)
+    by_test (λ b. Moves (cond b (label i (finish_at s i (plan_ends s)).kind) None) (cond b (played s i (finish_at s i (plan_ends s))) s) f)
+    (may_finish s i)
     (λ e. let a = both_true (ltb i (length s.views)) (is_due (call_at s.calls i)) e in
     let h : i < length s.views = ltb-true i (length s.views) a.0 in
     plays s i (finish_at s i (plan_ends s)) f core alike h (finish_may s i (plan_ends s) core h a.1))
     (λ _. (tt, alike, core))
 
 -- a run that begins with a label, or with a step that has none
-label_run : (l : Option FlatStep) (steps : List FlatStep) (f : Flat) → IsAllowedLabel l f → IsFlatRun steps (labelled l f) → IsFlatRun (listed l ++ steps) f
+label_run : (l : Option FlatStep) (steps : List FlatStep) (f : Flat) → IsAllowedLabel l f → IsFlatRun steps (labelled l f)
+    → IsFlatRun (listed l ++ steps) f
 label_run None steps f may rest = rest
 label_run (Some step) steps f may rest = (may, rest)
 

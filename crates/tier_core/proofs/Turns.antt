@@ -53,7 +53,8 @@ looked_tier w v =
 pub looked_open : (w : Fields) (v : View) → w.ended ≡ false → (looked w v).errand ≡ v.errand
 looked_open w v going =
     let u : View = record v { led = false; note = cond (is_going_back v.errand) v.note None } in
-    by_test (λ b. b ≡ false → (cond b (record u { end_seen = Some w.phase; errand = dropped v.errand }) (moved w u)).errand ≡ v.errand) w.ended
+    by_test (λ b. b ≡ false → (cond b (record u { end_seen = Some w.phase; errand = dropped v.errand }) (moved w u)).errand ≡ v.errand)
+    w.ended
     (λ _ e. not_both true refl e) (λ _ _. move_keeps (λ x. x.errand ≡ v.errand) w u refl (λ _ _. refl)) going
 
 pub looked_ended : (w : Fields) (v : View) → w.ended ≡ true → (looked w v).errand ≡ dropped v.errand
@@ -67,7 +68,8 @@ looked_rests w v e = ⊎_elim
     (λ (going : w.ended ≡ false). looked_open w v going ∙ e)
     (either w.ended)
 
-pub looked_fits : (ps : List ℕ) (ws : List Fields) (front back : List View) (v : View) → (word_at ws 0).ended ≡ false → Tallies ps ws (front ++ v ∷ back)
+pub looked_fits : (ps : List ℕ) (ws : List Fields) (front back : List View) (v : View) → (word_at ws 0).ended ≡ false
+    → Tallies ps ws (front ++ v ∷ back)
     → ViewFits ps (root_phase ws) (word_at ws 0).ended (looked (word_at ws 0) v)
 looked_fits ps ws front back v going tally = (looked_on ps (word_at ws 0) v going (mine ps ws front back v tally)).1
 
@@ -109,7 +111,8 @@ refuses more w going e = (
       (or_parts (has_no_room more w) (eqb w.unarrived 0 || is_being_opened w) e),
 )
 
-join_first : (ps : List ℕ) (ws : List Fields) (v : View) (tier size : ℕ) → IsShape ps → 0 < length ws → v.errand ≡ Rest → IsWanted ps tier size v
+join_first : (ps : List ℕ) (ws : List Fields) (v : View) (tier size : ℕ) → IsShape ps → 0 < length ws → v.errand ≡ Rest
+    → IsWanted ps tier size v
     → (word_at ws 0).ended ≡ false
     → IsNext ps ws v (cond (eqb tier 0 && is_refusing size (word_at ws 0)) (Refuse 0 0 size) Look) 0 (ToSeek tier size)
 join_first ps ws v tier size shape some rest wanted going =
@@ -134,7 +137,8 @@ join_first ps ws v tier size shape some rest wanted going =
 ends_look : (ps : List ℕ) (ws : List Fields) (v : View) → 0 < length ws → v.errand ≡ Rest → IsNext ps ws v Look 0 Idle
 ends_look ps ws v some rest = record { within = some; needs = refl; keeps = looked_rests (word_at ws 0) v rest }
 
-some_left : (ps : List ℕ) (ws : List Fields) (front back : List View) (v : View) → (word_at ws 0).ended ≡ false → Tallies ps ws (front ++ v ∷ back)
+some_left : (ps : List ℕ) (ws : List Fields) (front back : List View) (v : View) → (word_at ws 0).ended ≡ false
+    → Tallies ps ws (front ++ v ∷ back)
     → eqb (looked (word_at ws 0) v).arrived v.size ≡ false → (looked (word_at ws 0) v).arrived < (looked (word_at ws 0) v).size
 some_left ps ws front back v going tally e =
     let a = (looked_fits ps ws front back v going tally).within in
@@ -147,7 +151,8 @@ pass_first : (ps : List ℕ) (ws : List Fields) (front back : List View) (v : Vi
     → v.errand ≡ Rest
     → IsNext ps ws v Look 0 (cond (word_at ws 0).ended Idle (cond (eqb (looked (word_at ws 0) v).arrived v.size) Idle (Passing passage)))
 pass_first ps ws front back v passage tally rest =
-    by_test (λ b. IsNext ps ws v Look 0 (cond b Idle (cond (eqb (looked (word_at ws 0) v).arrived v.size) Idle (Passing passage)))) (word_at ws 0).ended
+    by_test (λ b. IsNext ps ws v Look 0 (cond b Idle (cond (eqb (looked (word_at ws 0) v).arrived v.size) Idle (Passing passage))))
+    (word_at ws 0).ended
     (λ _. ends_look ps ws v tally.some rest)
     (λ going. by_test (λ b. IsNext ps ws v Look 0 (cond b Idle (Passing passage))) (eqb (looked (word_at ws 0) v).arrived v.size)
     (λ _. ends_look ps ws v tally.some rest)
@@ -172,14 +177,17 @@ lag_shown w v p u n = both_hold (ltb 0 w.parties) (eqb w.unarrived 0 && not (eqb
     (both_hold (eqb w.unarrived 0) (not (eqb w.phase v.phase)) (eq-eqb w.unarrived 0 u) (ap not (ne_eqb w.phase v.phase n)))
 
 -- a tier that lags behind a token which counts there is below the root
-lags_below : (ps : List ℕ) (ws : List Fields) (front back : List View) (v : View) → (word_at ws 0).ended ≡ false → Tallies ps ws (front ++ v ∷ back)
+lags_below : (ps : List ℕ) (ws : List Fields) (front back : List View) (v : View) → (word_at ws 0).ended ≡ false
+    → Tallies ps ws (front ++ v ∷ back)
     → (looked (word_at ws 0) v).arrived < (looked (word_at ws 0) v).size → lags (word_at ws v.tier) (looked (word_at ws 0) v) ≡ true
     → 0 < (looked (word_at ws 0) v).tier
 lags_below ps ws front back v going tally some e = ⊎_elim
     (λ (z : v.tier ≡ 0). absurd (
     let a = (lag_parts (word_at ws v.tier) (looked (word_at ws 0) v) e).2 in
     let b : (word_at ws v.tier).phase ≡ (word_at ws 0).phase = ap (λ t. (word_at ws t).phase) z in
-    let c = unarrived_is_current ps (root_phase ws) (word_at ws 0).ended (looked (word_at ws 0) v) (looked_fits ps ws front back v going tally) some in
+    let c =
+    unarrived_is_current ps (root_phase ws) (word_at ws 0).ended (looked (word_at ws 0) v) (looked_fits ps ws front back v going tally)
+    some in
     a (b ∙ sym c)))
     (λ (n : v.tier ≢ 0). let t = looked_tier (word_at ws 0) v in omega arith)
     (cases_eq v.tier 0)
@@ -211,7 +219,8 @@ poll_first ps ws front back v has_moved tally rest =
 begun : (ps : List ℕ) (ws : List Fields) (front back : List View) (v : View) (c : Call) → IsShape ps → Tallies ps ws (front ++ v ∷ back)
     → v.errand ≡ Rest → BegunFits ps c v → Goes ps ws v (first_turn c (word_at ws 0) (word_at ws v.tier) v)
 begun ps ws front back v (call.Join tier size) shape tally rest fits =
-    by_test (λ b. IsNext ps ws v (cond b Look (cond (eqb tier 0 && is_refusing size (word_at ws 0)) (Refuse 0 0 size) Look)) 0 (cond b Idle (ToSeek tier size)))
+    by_test
+    (λ b. IsNext ps ws v (cond b Look (cond (eqb tier 0 && is_refusing size (word_at ws 0)) (Refuse 0 0 size) Look)) 0 (cond b Idle (ToSeek tier size)))
     (word_at ws 0).ended
     (λ _. ends_look ps ws v tally.some rest)
     (λ going. join_first ps ws v tier size shape tally.some rest fits going)
@@ -232,7 +241,9 @@ gives_back ps tier zero size answer v e refused = e
 gives_back ps tier (suc claimed) size answer v e refused = (tier, claimed, size, e, refused)
 
 pub refusal_is : (t more phase : ℕ) (w : Fields) → is_refusal (refusal t more phase w) ≡ true
-refusal_is t more phase w = by_test (λ b. is_refusal (cond b (Full w.parties) (Held phase (cause_of t phase w))) ≡ true) (has_no_room more w) (λ _. refl) (λ _. refl)
+refusal_is t more phase w =
+    by_test (λ b. is_refusal (cond b (Full w.parties) (Held phase (cause_of t phase w))) ≡ true) (has_no_room more w) (λ _. refl)
+    (λ _. refl)
 
 dropped_path : (tier claimed size : ℕ) → dropped (opening tier claimed Seeking size) ≡ opening tier claimed GoingBack size
 dropped_path tier zero size = refl
@@ -266,7 +277,8 @@ admits t more w going legal kept unclaimable =
           let one : w.unarrived ≡ 1 = omega arith in (
             ⊎_elim (λ (z : t ≡ 0). z) (λ (n : t ≢ 0). not_both (is_claimable t w)
                 (both_hold (ltb 0 t) (eqb w.parties 0 && eqb w.unarrived 1) (lt-ltb 0 t (omega arith))
-                (both_hold (eqb w.parties 0) (eqb w.unarrived 1) (eq-eqb w.parties 0 none) (eq-eqb w.unarrived 1 one))) unclaimable) (cases_eq t 0),
+                (both_hold (eqb w.parties 0) (eqb w.unarrived 1) (eq-eqb w.parties 0 none) (eq-eqb w.unarrived 1 one))) unclaimable)
+                (cases_eq t 0),
             one,
           ));
       capacity = (let r = ltb-false 65535 (w.parties + more) a.0 in omega arith);
@@ -284,7 +296,12 @@ seek : (ps : List ℕ) (ws : List Fields) (front back : List View) (v : View) (t
 seek ps ws front back v tier claimed size t tally h due =
     let w : Fields = word_at ws t in
     by_cond (Goes ps ws v) (word_at ws t).ended
-    (record { kind = Look; tier = 0; next = giving_back claimed (end_shown (word_at ws t)); answer = unless_claimed claimed (end_shown (word_at ws t)) })
+    (record {
+      kind = Look;
+      tier = 0;
+      next = giving_back claimed (end_shown (word_at ws t));
+      answer = unless_claimed claimed (end_shown (word_at ws t));
+    })
     (cond (is_refusing (added claimed size) (word_at ws t)) (record {
       kind = Refuse tier claimed size;
       tier = t;
@@ -292,7 +309,12 @@ seek ps ws front back v tier claimed size t tally h due =
       answer = unless_claimed claimed (refusal t (added claimed size) (refused t (word_at ws t) v).phase (word_at ws t));
     })
     (cond (is_claimable t (word_at ws t)) (record { kind = Claim tier claimed size; tier = t; next = ToSeek tier size; answer = GoesOn })
-    (record { kind = Join tier claimed size; tier = t; next = settling claimed; answer = unless_claimed claimed (Done (word_at ws t).phase) })))
+    (record {
+      kind = Join tier claimed size;
+      tier = t;
+      next = settling claimed;
+      answer = unless_claimed claimed (Done (word_at ws t).phase);
+    })))
     (λ e. record {
       within = tally.some;
       needs = refl;
@@ -308,7 +330,12 @@ seek ps ws front back v tier claimed size t tally h due =
       answer = unless_claimed claimed (refusal t (added claimed size) (refused t (word_at ws t) v).phase (word_at ws t));
     })
     (cond (is_claimable t (word_at ws t)) (record { kind = Claim tier claimed size; tier = t; next = ToSeek tier size; answer = GoesOn })
-    (record { kind = Join tier claimed size; tier = t; next = settling claimed; answer = unless_claimed claimed (Done (word_at ws t).phase) }))
+    (record {
+      kind = Join tier claimed size;
+      tier = t;
+      next = settling claimed;
+      answer = unless_claimed claimed (Done (word_at ws t).phase);
+    }))
     (λ e. record {
       within = h;
       needs = (due, refuses (added claimed size) (word_at ws t) going e);
@@ -319,7 +346,12 @@ seek ps ws front back v tier claimed size t tally h due =
     })
     (λ kept. by_cond (Goes ps ws v) (is_claimable t (word_at ws t))
     (record { kind = Claim tier claimed size; tier = t; next = ToSeek tier size; answer = GoesOn })
-    (record { kind = Join tier claimed size; tier = t; next = settling claimed; answer = unless_claimed claimed (Done (word_at ws t).phase) })
+    (record {
+      kind = Join tier claimed size;
+      tier = t;
+      next = settling claimed;
+      answer = unless_claimed claimed (Done (word_at ws t).phase);
+    })
     (λ e. record {
       within = h;
       needs = (due, free t (word_at ws t) e);
@@ -332,7 +364,8 @@ seek ps ws front back v tier claimed size t tally h due =
     })))
 
 -- the steps of a path that is settled or given back
-settle : (ps : List ℕ) (ws : List Fields) (front back : List View) (v : View) (tier claimed size : ℕ) → IsShape ps → Tallies ps ws (front ++ v ∷ back)
+settle : (ps : List ℕ) (ws : List Fields) (front back : List View) (v : View) (tier claimed size : ℕ) → IsShape ps
+    → Tallies ps ws (front ++ v ∷ back)
     → v.errand ≡ Opening tier (suc claimed) Joined size → Goes ps ws v (settle_turn ps v v.errand)
 settle ps ws front back v tier claimed size shape tally q =
     let fit : ErrandFits ps (root_phase ws) v (Opening tier (suc claimed) Joined size) =
@@ -366,15 +399,18 @@ in_phase root w v some current up kept = ⊎_elim
     (cases_eq w.phase v.phase))
     (up some)
 
-own_place : (ps : List ℕ) (ws : List Fields) (front back : List View) (v : View) → Tallies ps ws (front ++ v ∷ back) → v.arrived < v.size → v.tier < length ws
+own_place : (ps : List ℕ) (ws : List Fields) (front back : List View) (v : View) → Tallies ps ws (front ++ v ∷ back) → v.arrived < v.size
+    → v.tier < length ws
 own_place ps ws front back v tally some =
     subst (λ (n : ℕ). v.tier < n) (sym tally.long) ((mine ps ws front back v tally).placed (omega arith))
 
-own_pass : (ps : List ℕ) (ws : List Fields) (front back : List View) (v : View) → Tallies ps ws (front ++ v ∷ back) → v.errand ≡ Rest → v.arrived < v.size
+own_pass : (ps : List ℕ) (ws : List Fields) (front back : List View) (v : View) → Tallies ps ws (front ++ v ∷ back) → v.errand ≡ Rest
+    → v.arrived < v.size
     → (word_at ws v.tier).ended ≡ false → lags (word_at ws v.tier) v ≡ false → CanPass v.tier (word_at ws v.tier) v
 own_pass ps ws front back v tally rest some going kept =
     let h = own_place ps ws front back v tally some in
-    let current : v.phase ≡ root_phase ws = unarrived_is_current ps (root_phase ws) (word_at ws 0).ended v (mine ps ws front back v tally) some in
+    let current : v.phase ≡ root_phase ws =
+    unarrived_is_current ps (root_phase ws) (word_at ws 0).ended v (mine ps ws front back v tally) some in
     let a = stands ps ws front back v v.tier tally h going in
     let b = resting_late (root_phase ws) ps v.tier v rest in
     let c = absent_current (root_phase ws) v current in
@@ -388,7 +424,8 @@ own_pass ps ws front back v tally rest some going kept =
       unarrived = some;
     }
 
-owed_goes : (ps : List ℕ) (above t : ℕ) (own k : Passage) (w : Fields) (v : View) → v.errand ≡ owed above t k w → CallFits ps (goes_on own (owed above t k w)) v
+owed_goes : (ps : List ℕ) (above t : ℕ) (own k : Passage) (w : Fields) (v : View) → v.errand ≡ owed above t k w
+    → CallFits ps (goes_on own (owed above t k w)) v
 owed_goes ps above t own k w v e =
     owed_is (λ x. v.errand ≡ x → CallFits ps (goes_on own x) v) above t k w (λ q. q) (λ _ q. q) (λ j _ q. (above, j, q)) e
 
@@ -418,7 +455,9 @@ pass ps ws front back v passage tally rest some =
       kind = own_kind passage;
       tier = v.tier;
       next = goes_on passage (owed (parent_of ps v.tier) v.tier passage (word_at ws v.tier));
-      answer = reported v.phase (passed v.tier passage (word_at ws v.tier)).parties (owed (parent_of ps v.tier) v.tier passage (word_at ws v.tier));
+      answer =
+          reported v.phase (passed v.tier passage (word_at ws v.tier)).parties
+          (owed (parent_of ps v.tier) v.tier passage (word_at ws v.tier));
     }))
     (λ _. ends_look ps ws v tally.some rest)
     (λ going. by_cond (Goes ps ws v) (lags (word_at ws v.tier) v)
@@ -427,7 +466,9 @@ pass ps ws front back v passage tally rest some =
       kind = own_kind passage;
       tier = v.tier;
       next = goes_on passage (owed (parent_of ps v.tier) v.tier passage (word_at ws v.tier));
-      answer = reported v.phase (passed v.tier passage (word_at ws v.tier)).parties (owed (parent_of ps v.tier) v.tier passage (word_at ws v.tier));
+      answer =
+          reported v.phase (passed v.tier passage (word_at ws v.tier)).parties
+          (owed (parent_of ps v.tier) v.tier passage (word_at ws v.tier));
     })
     (λ e. let l = lag_parts (word_at ws v.tier) v e in record {
       within = h;
@@ -436,7 +477,8 @@ pass ps ws front back v passage tally rest some =
     })
     (λ e. own_next ps ws v passage h (own_pass ps ws front back v tally rest some going e)))
 
-climb_pass : (ps : List ℕ) (ws : List Fields) (front back : List View) (v : View) (t : ℕ) (passage : Passage) → Tallies ps ws (front ++ v ∷ back)
+climb_pass : (ps : List ℕ) (ws : List Fields) (front back : List View) (v : View) (t : ℕ) (passage : Passage)
+    → Tallies ps ws (front ++ v ∷ back)
     → t < length ws → v.phase ≡ root_phase ws → v.errand ≡ Climbing t passage
     → (word_at ws t).ended ≡ false → lags (word_at ws t) v ≡ false → CanClimb t passage (word_at ws t) v
 climb_pass ps ws front back v t passage tally h current q going kept =
@@ -447,7 +489,8 @@ climb_pass ps ws front back v t passage tally h current q going kept =
     record { errand = q; going = going; current = in_phase (root_phase ws) (word_at ws t) v some current (tally.phases t h) kept }
 
 -- a step of a climb
-climb : (ps : List ℕ) (ws : List Fields) (front back : List View) (v : View) (own : Passage) (t : ℕ) (passage : Passage) → Tallies ps ws (front ++ v ∷ back)
+climb : (ps : List ℕ) (ws : List Fields) (front back : List View) (v : View) (own : Passage) (t : ℕ) (passage : Passage)
+    → Tallies ps ws (front ++ v ∷ back)
     → v.errand ≡ Climbing t passage → Goes ps ws v (climb_turn ps own (word_at ws t) v (Climbing t passage))
 climb ps ws front back v own t passage tally q =
     let fit : ErrandFits ps (root_phase ws) v (Climbing t passage) =
@@ -483,7 +526,8 @@ climb ps ws front back v own t passage tally q =
     (λ e. record {
       within = h;
       needs = climb_pass ps ws front back v t passage tally h fit.0 q going e;
-      keeps = owed_goes ps (parent_of ps t) t own passage (word_at ws t) (view_after (parent_of ps t) (Climb passage) t (word_at ws t) v) refl;
+      keeps =
+          owed_goes ps (parent_of ps t) t own passage (word_at ws t) (view_after (parent_of ps t) (Climb passage) t (word_at ws t) v) refl;
     }))
 
 -- the second step of a poll
@@ -511,7 +555,8 @@ turns_are_steps ps ws front v back (ToGiveBack answer) shape tally active fits =
     give_back ps ws front back v fits.0 fits.1 fits.2 answer shape tally fits.3 fits.4
 turns_are_steps ps ws front v back (Passing passage) shape tally active fits = pass ps ws front back v passage tally fits.0 fits.1
 turns_are_steps ps ws front v back (Owing own) shape tally active fits =
-    subst (λ (x : Errand). Goes ps ws v (climb_turn ps own (word_at ws (errand_place ps x)) v x)) (sym fits.2) (climb ps ws front back v own fits.0 fits.1 tally fits.2)
+    subst (λ (x : Errand). Goes ps ws v (climb_turn ps own (word_at ws (errand_place ps x)) v x)) (sym fits.2)
+    (climb ps ws front back v own fits.0 fits.1 tally fits.2)
 turns_are_steps ps ws front v back (Refreshing has_moved) shape tally active fits =
     refresh ps ws v (own_place ps ws front back v tally fits.1) fits.0 fits.1 fits.2
 
@@ -539,7 +584,8 @@ seek_place tier k size t w v =
     (by_cond (λ r. r.tier ≡ t) (is_refusing (added k size) w) back (cond (is_claimable t w) claim join) (λ _. refl)
     (λ _. by_cond (λ r. r.tier ≡ t) (is_claimable t w) claim join (λ _. refl) (λ _. refl)))
 
-pass_place : (ps : List ℕ) (own : Passage) (t : ℕ) (passage : Passage) (kind : Kind) (here : Progress) (over : Played) (w : Fields) (v : View)
+pass_place : (ps : List ℕ) (own : Passage) (t : ℕ) (passage : Passage) (kind : Kind) (here : Progress) (over : Played) (w : Fields)
+    (v : View)
     → AtPlace (pass_turn ps own t passage kind here over w v) t w
 pass_place ps own t passage kind here over w v =
     let wait : Turn = record { kind = Refresh; tier = t; next = here; answer = GoesOn } in
@@ -555,12 +601,14 @@ turn_place : (ps : List ℕ) (ends : Bool) (w : Fields) (p : Progress) (v : View
     → AtPlace (turn_by ps ends w p v) (place ps p v) w
 turn_place ps ends w Idle v going fits = not_both false going refl
 turn_place ps ends w (Begun c) v going fits = not_both false going refl
-turn_place ps ends w (ToSeek tier size) v going fits = seek_place tier (claimed_by v.errand) size (ancestor ps tier (claimed_by v.errand)) w v
+turn_place ps ends w (ToSeek tier size) v going fits =
+    seek_place tier (claimed_by v.errand) size (ancestor ps tier (claimed_by v.errand)) w v
 turn_place ps ends w Settling v going fits =
     subst (λ (e : Errand). AtPlace (settle_turn ps v e) (errand_place ps e) w) (sym fits.3) (λ _. refl)
 turn_place ps ends w (ToGiveBack answer) v going fits =
     subst (λ (e : Errand). AtPlace (give_back_turn ps answer e) (errand_place ps e) w) (sym fits.3) (λ _. refl)
-turn_place ps ends w (Passing passage) v going fits = pass_place ps passage v.tier passage (own_kind passage) (Passing passage) (end_shown w) w v
+turn_place ps ends w (Passing passage) v going fits =
+    pass_place ps passage v.tier passage (own_kind passage) (Passing passage) (end_shown w) w v
 turn_place ps ends w (Owing own) v going fits =
     subst (λ (e : Errand). AtPlace (climb_turn ps own w v e) (errand_place ps e) w) (sym fits.2)
     (pass_place ps own fits.0 fits.1 (Climb fits.1) (Owing own) (Done v.phase) w v)
@@ -577,14 +625,17 @@ finish_next ps ws v ends some owes =
 
 -- a step known by one word is a step that its token may take
 turn_goes : (ps : List ℕ) (ws : List Fields) (front : List View) (v : View) (back : List View) (p : Progress) (ends : Bool)
-    → IsShape ps → Tallies ps ws (front ++ v ∷ back) → is_going p ≡ true → CallFits ps p v → Goes ps ws v (turn_by ps ends (word_at ws (place ps p v)) p v)
+    → IsShape ps → Tallies ps ws (front ++ v ∷ back) → is_going p ≡ true → CallFits ps p v
+    → Goes ps ws v (turn_by ps ends (word_at ws (place ps p v)) p v)
 turn_goes ps ws front v back Idle ends shape tally going fits = not_both false going refl
 turn_goes ps ws front v back (Begun c) ends shape tally going fits = not_both false going refl
-turn_goes ps ws front v back (ToSeek tier size) ends shape tally going fits = turns_are_steps ps ws front v back (ToSeek tier size) shape tally refl fits
+turn_goes ps ws front v back (ToSeek tier size) ends shape tally going fits =
+    turns_are_steps ps ws front v back (ToSeek tier size) shape tally refl fits
 turn_goes ps ws front v back Settling ends shape tally going fits = turns_are_steps ps ws front v back Settling shape tally refl fits
 turn_goes ps ws front v back (ToGiveBack answer) ends shape tally going fits =
     turns_are_steps ps ws front v back (ToGiveBack answer) shape tally refl fits
-turn_goes ps ws front v back (Passing passage) ends shape tally going fits = turns_are_steps ps ws front v back (Passing passage) shape tally refl fits
+turn_goes ps ws front v back (Passing passage) ends shape tally going fits =
+    turns_are_steps ps ws front v back (Passing passage) shape tally refl fits
 turn_goes ps ws front v back (Owing own) ends shape tally going fits = turns_are_steps ps ws front v back (Owing own) shape tally refl fits
 turn_goes ps ws front v back (Due own) ends shape tally going fits = finish_next ps ws v ends tally.some fits
 turn_goes ps ws front v back (Refreshing has_moved) ends shape tally going fits =
@@ -600,11 +651,14 @@ ended_is_root ps ws vs t tally e = ⊎_elim
 pub one_word_is_enough : OneWordIsEnough
 one_word_is_enough ps ws front v back p ends shape tally going fits =
     let t : ℕ = place ps p v in
-    let here = turn_place ps ends (word_at ws (place ps p v)) p v going fits (ended_is_root ps ws (front ++ v ∷ back) (place ps p v) tally) in
+    let here =
+    turn_place ps ends (word_at ws (place ps p v)) p v going fits (ended_is_root ps ws (front ++ v ∷ back) (place ps p v) tally) in
     let may = turn_goes ps ws front v back p ends shape tally going fits in
     record {
       here = here;
-      next = subst (λ (n : ℕ). IsNext ps ws v (turn_by ps ends (word_at ws (place ps p v)) p v).kind n (turn_by ps ends (word_at ws (place ps p v)) p v).next)
+      next =
+          subst
+          (λ (n : ℕ). IsNext ps ws v (turn_by ps ends (word_at ws (place ps p v)) p v).kind n (turn_by ps ends (word_at ws (place ps p v)) p v).next)
           here may;
     }
 
@@ -664,7 +718,8 @@ seek_range tier k size t w v =
     (refusal_range (refusal t (added k size) (refused t w v).phase w) (refusal_is t (added k size) (refused t w v).phase w)))
     (λ _. by_cond (λ r. IsInRange r.answer) (is_claimable t w) claim join (λ _. tt) (λ _. unless_range k (Done w.phase) tt)))
 
-pass_range : (ps : List ℕ) (own : Passage) (t : ℕ) (passage : Passage) (kind : Kind) (here : Progress) (over : Played) (w : Fields) (v : View)
+pass_range : (ps : List ℕ) (own : Passage) (t : ℕ) (passage : Passage) (kind : Kind) (here : Progress) (over : Played) (w : Fields)
+    (v : View)
     → IsInRange over → v.phase ≤ 2147483647 → IsLegal w → IsInRange (pass_turn ps own t passage kind here over w v).answer
 pass_range ps own t passage kind here over w v last phase legal =
     let wait : Turn = record { kind = Refresh; tier = t; next = here; answer = GoesOn } in
@@ -679,20 +734,24 @@ pass_range ps own t passage kind here over w v last phase legal =
     (λ _. owed_is (λ e. IsInRange (reported v.phase (passed t passage w).parties e)) (parent_of ps t) t passage w tt
     (λ _. (phase, (passed_legal t passage w legal).parties)) (λ _ _. tt)))
 
-pub turn_range : (ps : List ℕ) (ws : List Fields) (front : List View) (v : View) (back : List View) (p : Progress) → Tallies ps ws (front ++ v ∷ back)
+pub turn_range : (ps : List ℕ) (ws : List Fields) (front : List View) (v : View) (back : List View) (p : Progress)
+    → Tallies ps ws (front ++ v ∷ back)
     → CallFits ps p v → IsInRange (turn ps ws p v).answer
 turn_range ps ws front v back Idle tally fits = tt
 turn_range ps ws front v back (Begun c) tally fits = first_range c (word_at ws 0) (word_at ws v.tier) v
 turn_range ps ws front v back (ToSeek tier size) tally fits =
-    seek_range tier (claimed_by v.errand) size (ancestor ps tier (claimed_by v.errand)) (word_at ws (ancestor ps tier (claimed_by v.errand))) v
+    seek_range tier (claimed_by v.errand) size (ancestor ps tier (claimed_by v.errand))
+    (word_at ws (ancestor ps tier (claimed_by v.errand))) v
 turn_range ps ws front v back Settling tally fits =
     subst (λ (e : Errand). IsInRange (settle_turn ps v e).answer) (sym fits.3) (unless_range fits.1 (Done v.phase) tt)
 turn_range ps ws front v back (ToGiveBack answer) tally fits =
-    subst (λ (e : Errand). IsInRange (give_back_turn ps answer e).answer) (sym fits.3) (unless_range fits.1 answer (refusal_range answer fits.4))
+    subst (λ (e : Errand). IsInRange (give_back_turn ps answer e).answer) (sym fits.3)
+    (unless_range fits.1 answer (refusal_range answer fits.4))
 turn_range ps ws front v back (Passing passage) tally fits =
     let current = unarrived_is_current ps (root_phase ws) (word_at ws 0).ended v (mine ps ws front back v tally) fits.1 in
     let legal = (tally.legal 0 tally.some).phase in
-    pass_range ps passage v.tier passage (own_kind passage) (Passing passage) (end_shown (word_at ws v.tier)) (word_at ws v.tier) v tt (omega arith)
+    pass_range ps passage v.tier passage (own_kind passage) (Passing passage) (end_shown (word_at ws v.tier)) (word_at ws v.tier) v tt
+    (omega arith)
     (tally.legal v.tier (own_place ps ws front back v tally fits.1))
 turn_range ps ws front v back (Owing own) tally fits =
     let fit : ErrandFits ps (root_phase ws) v (Climbing fits.0 fits.1) =
@@ -714,4 +773,5 @@ one_word_tells_ranges ps ws front v back (ToGiveBack answer) ends tally fits = t
 one_word_tells_ranges ps ws front v back (Passing passage) ends tally fits = turn_range ps ws front v back (Passing passage) tally fits
 one_word_tells_ranges ps ws front v back (Owing own) ends tally fits = turn_range ps ws front v back (Owing own) tally fits
 one_word_tells_ranges ps ws front v back (Due own) ends tally fits = tt
-one_word_tells_ranges ps ws front v back (Refreshing has_moved) ends tally fits = turn_range ps ws front v back (Refreshing has_moved) tally fits
+one_word_tells_ranges ps ws front v back (Refreshing has_moved) ends tally fits =
+    turn_range ps ws front v back (Refreshing has_moved) tally fits

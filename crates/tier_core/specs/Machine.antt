@@ -51,7 +51,8 @@ CallFits parents Idle v = v.errand ≡ Rest
 CallFits parents (Begun c) v = (v.errand ≡ Rest) × BegunFits parents c v
 CallFits parents (ToSeek tier size) v = (v.errand ≡ opening tier (claimed_by v.errand) Seeking size) × IsWanted parents tier size v
 CallFits parents Settling v = (tier : ℕ) × (claimed : ℕ) × (size : ℕ) × (v.errand ≡ Opening tier (suc claimed) Joined size)
-CallFits parents (ToGiveBack answer) v = (tier : ℕ) × (claimed : ℕ) × (size : ℕ) × (v.errand ≡ Opening tier (suc claimed) GoingBack size) × (is_refusal answer ≡ true)
+CallFits parents (ToGiveBack answer) v =
+    (tier : ℕ) × (claimed : ℕ) × (size : ℕ) × (v.errand ≡ Opening tier (suc claimed) GoingBack size) × (is_refusal answer ≡ true)
 CallFits parents (Passing passage) v = (v.errand ≡ Rest) × (v.arrived < v.size)
 CallFits parents (Owing own) v = (t : ℕ) × (passage : Passage) × (v.errand ≡ Climbing t passage)
 CallFits parents (Due own) v = v.errand ≡ Advancing

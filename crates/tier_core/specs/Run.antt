@@ -104,8 +104,8 @@ pub record IsFlat (s : State) (steps : List Step) (f : Flat) : Type 0 where
   -- the tally holds in the state after the run
   pub core : IsCore (run steps s)
 
--- The tree is flat: on every tree, any steps of any tokens are a run of one flat phaser over all members of all tokens. A member counts from
--- the step that admits it.
+-- The tree is flat: on every tree, any steps of any tokens are a run of one flat phaser over all members of all tokens. A member counts
+-- from the step that admits it.
 abbrev pub TheTreeIsFlat : Type 0
 TheTreeIsFlat =
     (s : State) (steps : List Step) (f : Flat)

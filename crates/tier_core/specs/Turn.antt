@@ -5,9 +5,21 @@ use Rattle.tier_core.specs.declared.call.Call.TheVariants as call
 pub use Rattle.tier_core.specs.declared.call.Cause.{Cause}
 use Rattle.tier_core.specs.declared.call.Cause.TheVariants as cause
 pub use Rattle.tier_core.specs.declared.call.Played.{Played}
-pub use Rattle.tier_core.specs.declared.call.Played.TheVariants.{GoesOn, Done, Passed, Waiting, Held, Full, AlreadyArrived, Ended, MustAdvance}
+pub use
+    Rattle.tier_core.specs.declared.call.Played.TheVariants.{GoesOn, Done, Passed, Waiting, Held, Full, AlreadyArrived, Ended, MustAdvance}
 pub use Rattle.tier_core.specs.declared.call.Progress.{Progress}
-pub use Rattle.tier_core.specs.declared.call.Progress.TheVariants.{Idle, Begun, Seeking as ToSeek, Settling, GivingBack as ToGiveBack, Passing, Owing, Due, Refreshing}
+pub use
+    Rattle.tier_core.specs.declared.call.Progress.TheVariants.{
+      Idle,
+      Begun,
+      Seeking as ToSeek,
+      Settling,
+      GivingBack as ToGiveBack,
+      Passing,
+      Owing,
+      Due,
+      Refreshing,
+    }
 pub use Rattle.tier_core.specs.declared.call.Turn.{Turn}
 use Rattle.std.specs.Prelude.{ℕ, zero, suc, ◌+◌, ◌≤◌, Bool, true, false, ◌==◌, nat_lt, not, ◌&&◌, ◌||◌, if◌then◌else◌, List}
 use Rattle.phaser_word.specs.Phase.{shown_of}
@@ -75,7 +87,8 @@ giving_back (suc claimed) answer = ToGiveBack answer
 -- A join with `claimed` claimed tiers, at the next tier of its path: it ends with the tree, is refused, claims an empty tier, or is taken.
 abbrev pub seek_turn : ℕ → ℕ → ℕ → ℕ → Fields → View → Turn
 seek_turn tier claimed size t w v =
-    if w.ended then record { kind = Look; tier = 0; next = giving_back claimed (end_shown w); answer = unless_claimed claimed (end_shown w) }
+    if w.ended
+    then record { kind = Look; tier = 0; next = giving_back claimed (end_shown w); answer = unless_claimed claimed (end_shown w) }
     else (if is_refusing (added claimed size) w then record {
       kind = Refuse tier claimed size;
       tier = t;
@@ -138,7 +151,8 @@ reported phase parties Advancing = MustAdvance phase parties
 reported phase parties (Climbing t up) = GoesOn
 reported phase parties (Opening tier claimed stage size) = GoesOn
 
--- The step of an arrival or a departure that passes a tier. If the root has ended, the token looks instead. A lagging tier is refreshed first.
+-- The step of an arrival or a departure that passes a tier. If the root has ended, the token looks instead. A lagging tier is refreshed
+-- first.
 abbrev pub pass_turn : List ℕ → Passage → ℕ → Passage → Kind → Progress → Played → Fields → View → Turn
 pass_turn parents own t passage kind here over w v =
     if w.ended then last_look over
@@ -176,13 +190,15 @@ first_turn call.Arrive root own v = record {
   kind = Look;
   tier = 0;
   next = (if root.ended then Idle else (if (looked root v).arrived == v.size then Idle else Passing Arrival));
-  answer = (if root.ended then end_shown root else (if (looked root v).arrived == v.size then AlreadyArrived (looked root v).phase else GoesOn));
+  answer =
+      (if root.ended then end_shown root else (if (looked root v).arrived == v.size then AlreadyArrived (looked root v).phase else GoesOn));
 }
 first_turn call.Leave root own v = record {
   kind = Look;
   tier = 0;
   next = (if root.ended then Idle else (if (looked root v).arrived == v.size then Idle else Passing Departure));
-  answer = (if root.ended then end_shown root else (if (looked root v).arrived == v.size then AlreadyArrived (looked root v).phase else GoesOn));
+  answer =
+      (if root.ended then end_shown root else (if (looked root v).arrived == v.size then AlreadyArrived (looked root v).phase else GoesOn));
 }
 first_turn call.Poll root own v = record {
   kind = Look;

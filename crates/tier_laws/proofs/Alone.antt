@@ -141,7 +141,8 @@ turn_due ps ws (ToSeek tier size) v =
 turn_due ps ws Settling v = settle_due ps v v.errand
 turn_due ps ws (ToGiveBack a) v = give_back_due ps a v.errand
 turn_due ps ws (Passing passage) v =
-    pass_due ps passage v.tier passage (own_kind passage) (Passing passage) (end_shown (word_at ws v.tier)) (word_at ws v.tier) v (own_passes passage) refl
+    pass_due ps passage v.tier passage (own_kind passage) (Passing passage) (end_shown (word_at ws v.tier)) (word_at ws v.tier) v
+    (own_passes passage) refl
 turn_due ps ws (Owing own) v = climb_due ps (word_at ws (errand_place ps v.errand)) own v v.errand
 turn_due ps ws (Due passage) v = λ e. not_both false e refl
 turn_due ps ws (Refreshing has_moved) v = λ e. not_both false e refl
@@ -187,7 +188,9 @@ nobody_must_advance s i j core going is n may =
     (record {
       known = subst (λ (m : ℕ). i < m) (sym same.tokens) is.known;
       rests = ap (λ (x : View). x.errand) same.view ∙ is.rests;
-      some = subst (λ (m : ℕ). 0 < m) (sym (ap (λ x. absent (flat_of s').phase x) same.view ∙ ap (λ p. absent p (view_at s.views i)) after.0)) is.some;
+      some =
+          subst (λ (m : ℕ). 0 < m) (sym (ap (λ x. absent (flat_of s').phase x) same.view ∙ ap (λ p. absent p (view_at s.views i)) after.0))
+          is.some;
     })
     (subst (λ (m : ℕ). j < m) (sym (length-set s.views j (stepped_view s.parents s.words r.kind r.tier (view_at s.views j)))) a.0) in
     let there : call_at s'.calls j ≡ (turn_at s j).next =

@@ -28,12 +28,14 @@ use Rattle.tier_laws.proofs.Ending.{alike_itself, at, own_imaged, imaged}
 
 -- what is kept by the call's steps, by others' steps and calls, and by a token that is added
 pub record Carries (i : ℕ) (P : State → List Moment → Type 0) : Type 0 where
-  pub goes : (s : State) (past : List Moment) → IsCore s → i < length s.views → is_active (call_at s.calls i) ≡ true → MayPlay s i (turn_at s i)
+  pub goes : (s : State) (past : List Moment) → IsCore s → i < length s.views → is_active (call_at s.calls i) ≡ true
+      → MayPlay s i (turn_at s i)
       → P s past → P (played s i (turn_at s i)) (at i s (turn_at s i) ∷ past)
   pub ends : (s : State) (past : List Moment) → IsCore s → i < length s.views → is_due (call_at s.calls i) ≡ true
       → MayPlay s i (finish_at s i (plan_ends s))
       → P s past → P (played s i (finish_at s i (plan_ends s))) (at i s (finish_at s i (plan_ends s)) ∷ past)
-  pub others : (s : State) (past : List Moment) (j : ℕ) (r : Turn) → IsCore s → i < length s.views → j < length s.views → i ≢ j → MayPlay s j r
+  pub others : (s : State) (past : List Moment) (j : ℕ) (r : Turn) → IsCore s → i < length s.views → j < length s.views → i ≢ j
+      → MayPlay s j r
       → P s past → P (played s j r) past
   pub begins : (s : State) (past : List Moment) (j : ℕ) (d : Call) → IsCore s → i < length s.views → i ≢ j → P s past → P (begun s j d) past
   pub enters : (s : State) (past : List Moment) → IsCore s → i < length s.views → P s past → P (with_token s) past
@@ -78,7 +80,8 @@ turn_step i P s past j r may here own other =
     (λ q. own e (eqb-true j i q)) (λ n. other e (eqb-false j i n)))
     (λ _. by_test (λ b. P s (cond b [] [] ++ past)) (eqb j i) (λ _. here) (λ _. here))
 
-one_step : (i : ℕ) (P : State → List Moment → Type 0) → Carries i P → (s : State) (past : List Moment) (x : Step) → IsCore s → i < length s.views
+one_step : (i : ℕ) (P : State → List Moment → Type 0) → Carries i P → (s : State) (past : List Moment) (x : Step) → IsCore s
+    → i < length s.views
     → IsOfCall i x → P s past → P (after s x) (own_imaged i s x ++ past)
 one_step i P carries s past (Begin j d) core h other here =
     after_either (λ x. P x past) (may_begin s j d) s (begun s j d) (λ _. carries.begins s past j d core h other here) here
@@ -123,8 +126,10 @@ abbrev pub TurnKeeps : ℕ → (List Moment → Progress → View → Type 0) �
 TurnKeeps i Q s past r =
     MayPlay s i r → OfToken i Q s past → Q (at i s r ∷ past) r.next (stepped_view s.parents s.words r.kind r.tier (view_at s.views i))
 
-played_own : (i : ℕ) (Q : List Moment → Progress → View → Type 0) (s : State) (past : List Moment) (r : Turn) → IsCore s → i < length s.views
-    → Q (at i s r ∷ past) r.next (stepped_view s.parents s.words r.kind r.tier (view_at s.views i)) → OfToken i Q (played s i r) (at i s r ∷ past)
+played_own : (i : ℕ) (Q : List Moment → Progress → View → Type 0) (s : State) (past : List Moment) (r : Turn) → IsCore s
+    → i < length s.views
+    → Q (at i s r ∷ past) r.next (stepped_view s.parents s.words r.kind r.tier (view_at s.views i))
+    → OfToken i Q (played s i r) (at i s r ∷ past)
 played_own i Q s past r core h here =
     subst (λ (p : Progress). Q (at i s r ∷ past) p (view_at (played s i r).views i))
     (sym (get_or-set_same s.calls i r.next Idle (let l = core.long in omega arith)))
@@ -138,7 +143,8 @@ same_own i Q s s' past call view here =
 
 -- it holds along the call, since nobody else changes them
 pub of_token : (i : ℕ) (Q : List Moment → Progress → View → Type 0)
-    → ((s : State) (past : List Moment) → IsCore s → i < length s.views → is_active (call_at s.calls i) ≡ true → TurnKeeps i Q s past (turn_at s i))
+    → ((s : State) (past : List Moment) → IsCore s → i < length s.views → is_active (call_at s.calls i) ≡ true
+    → TurnKeeps i Q s past (turn_at s i))
     → ((s : State) (past : List Moment) → IsCore s → i < length s.views → is_due (call_at s.calls i) ≡ true
     → TurnKeeps i Q s past (finish_at s i (plan_ends s)))
     → Carries i (OfToken i Q)
@@ -152,7 +158,8 @@ of_token i Q goes ends = record {
 
 pub begun_known : (s : State) (i : ℕ) (c : Call) → may_begin s i c ≡ true → i < length s.views
 begun_known s i c may =
-    ltb-true i (length s.views) (both_true (ltb i (length s.views)) (is_idle (call_at s.calls i) && may_call (length s.parents) c (view_at s.views i)) may).0
+    ltb-true i (length s.views)
+    (both_true (ltb i (length s.views)) (is_idle (call_at s.calls i) && may_call (length s.parents) c (view_at s.views i)) may).0
 
 -- the state in which a call begins
 pub begun_own : (i : ℕ) (Q : List Moment → Progress → View → Type 0) (s : State) (c : Call) → IsCore s → may_begin s i c ≡ true
@@ -162,7 +169,8 @@ begun_own i Q s c core may here =
     (sym (get_or-set_same s.calls i (Begun c) Idle (let l = core.long in let h = begun_known s i c may in omega arith))) here
 
 -- from the begin of a call
-pub along_call : (i : ℕ) (c : Call) (Q : List Moment → Progress → View → Type 0) → Carries i (OfToken i Q) → (events : List Event) (s : State)
+pub along_call : (i : ℕ) (c : Call) (Q : List Moment → Progress → View → Type 0) → Carries i (OfToken i Q)
+    → (events : List Event) (s : State)
     → IsCore s → IsCall c → may_begin s i c ≡ true → Q [] (Begun c) (view_at s.views i) → AreEvents events → AreOfCall i events
     → Left i (OfToken i Q) (run_of events (begun s i c)) (imaged i events (begun s i c) [])
 along_call i c Q carries events s core is may here are own =

@@ -19,8 +19,10 @@ played_of (answer.Played a) other = a
 played_of answer.NotNow other = other
 
 -- a turn that may be taken, or not
-reported_by : (s : State) (f : Flat) (i : ℕ) (r : Turn) (b : Bool) (a : Played) → cond b (answer.Played r.answer) answer.NotNow ≡ answer.Played a
-    → (m : Moment) × (cond (eqb i i) (cond b (moment_of i s f r ∷ []) []) [] ≡ m ∷ []) × (m.state ≡ s) × (m.before ≡ f) × (m.turn.answer ≡ a)
+reported_by : (s : State) (f : Flat) (i : ℕ) (r : Turn) (b : Bool) (a : Played)
+    → cond b (answer.Played r.answer) answer.NotNow ≡ answer.Played a
+    → (m : Moment) × (cond (eqb i i) (cond b (moment_of i s f r ∷ []) []) [] ≡ m ∷ []) × (m.state ≡ s) × (m.before ≡ f)
+    × (m.turn.answer ≡ a)
 reported_by s f i r true a e =
     (moment_of i s f r, ap (λ b. cond b (moment_of i s f r ∷ []) []) (eq-eqb i i refl), refl, refl, ap (λ x. played_of x r.answer) e)
 reported_by s f i r false a e = absurd (let b : answer.NotNow ≡ answer.Played a = e in cc)

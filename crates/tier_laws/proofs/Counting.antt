@@ -32,7 +32,8 @@ none_before test f u o (v ∷ vs) each all h =
     let d = none_before test f u (suc o) vs each all.1 (omega arith) in omega arith
 
 counts_at : (test : Member → Bool) (f : View → ℕ) (u o : ℕ) (vs : List View) (i : ℕ) → CountsOwn test f u
-    → AllByRecursion (λ v. v.arrived ≤ v.size) vs → i < length vs → u ≡ o + i → count_by test (all_members o vs) ≡ f (get_or vs i (new_view 0))
+    → AllByRecursion (λ v. v.arrived ≤ v.size) vs → i < length vs → u ≡ o + i
+    → count_by test (all_members o vs) ≡ f (get_or vs i (new_view 0))
 counts_at test f u o [] i each all h e = absurd (omega arith)
 counts_at test f u o (v ∷ vs) zero each all h e =
     let a = count_append test (token_members o v) (all_members (suc o) vs) in

@@ -49,7 +49,8 @@ runs_answer_as_the_flat_phaser s steps f core are alike = record {
 }
 
 -- a new tree with tokens represents the flat phaser without members
-pub tokens_keep : (many : ℕ) (s : State) (f : Flat) → IsCore s → flat_of s ≡ f → IsCore (with_tokens many s) × (flat_of (with_tokens many s) ≡ f)
+pub tokens_keep : (many : ℕ) (s : State) (f : Flat) → IsCore s → flat_of s ≡ f
+    → IsCore (with_tokens many s) × (flat_of (with_tokens many s) ≡ f)
 tokens_keep zero s f core e = (core, e)
 tokens_keep (suc many) s f core e = tokens_keep many (with_token s) f (token_core s core) (same_flat s ∙ e)
 

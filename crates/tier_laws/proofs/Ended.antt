@@ -162,7 +162,8 @@ members_same owner (v ∷ vs) zero v' h same = ap (λ ms. ms ++ all_members (suc
 members_same owner (v ∷ vs) (suc i) v' h same = ap (λ ms. token_members owner v ++ ms) (members_same (suc owner) vs i v' (omega arith) same)
 
 -- images of trees that have ended are given by their members
-ended_image : (ws : List Fields) (xs ys : List View) → (word_at ws 0).ended ≡ true → all_members 0 xs ≡ all_members 0 ys → image ws xs ≡ image ws ys
+ended_image : (ws : List Fields) (xs ys : List View) → (word_at ws 0).ended ≡ true → all_members 0 xs ≡ all_members 0 ys
+    → image ws xs ≡ image ws ys
 ended_image ws xs ys e members =
     let none : (b : Bool) → cond (word_at ws 0).ended false b ≡ false = λ b. ap (λ x. cond x false b) e in
     ap (λ ms. record {

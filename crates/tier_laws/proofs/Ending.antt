@@ -56,7 +56,10 @@ ended_stays s i r core h may e =
     let same = over (label i r.kind) (flat_of s) e in
     let ended : (flat_after (at i s r)).ended ≡ true = sym alike.ended ∙ (ap (λ (f : Flat). f.ended) same ∙ e) in
     let phase : (flat_of s).phase ≡ (flat_after (at i s r)).phase = ap (λ (f : Flat). f.phase) (sym same) ∙ alike.phase in
-    record { ended = ended; shows = shows (word_at s.words 0).phase (flat_after (at i s r)).phase (flat_after (at i s r)).ended phase ended }
+    record {
+      ended = ended;
+      shows = shows (word_at s.words 0).phase (flat_after (at i s r)).phase (flat_after (at i s r)).ended phase ended;
+    }
 
 -- a forced tree has ended in its phase
 pub forced : (s : State) (i : ℕ) (r : Turn) → IsCore s → i < length s.views → MayPlay s i r → r.kind ≡ Force
@@ -70,10 +73,14 @@ forced s i r core h may e =
     (λ e _. (e, refl)) (λ _ _. (refl, refl)) refl in
     let ended : (flat_after (at i s r)).ended ≡ true = sym alike.ended ∙ known.0 in
     let phase : (flat_of s).phase ≡ (flat_after (at i s r)).phase = sym known.1 ∙ alike.phase in
-    record { ended = ended; shows = shows (word_at s.words 0).phase (flat_after (at i s r)).phase (flat_after (at i s r)).ended phase ended }
+    record {
+      ended = ended;
+      shows = shows (word_at s.words 0).phase (flat_after (at i s r)).phase (flat_after (at i s r)).ended phase ended;
+    }
 
 -- a token that owes the advance of a tree that goes on finds it due
-pub owing_is_ready : (s : State) (i : ℕ) → IsCore s → i < length s.views → (view_at s.views i).errand ≡ Advancing → (word_at s.words 0).ended ≡ false
+pub owing_is_ready : (s : State) (i : ℕ) → IsCore s → i < length s.views → (view_at s.views i).errand ≡ Advancing
+    → (word_at s.words 0).ended ≡ false
     → IsReady s.words s.views
 owing_is_ready s i core h owes going =
     subst (λ (vs : List View). IsReady s.words vs) (sym (around s.views i (new_view 0) h))

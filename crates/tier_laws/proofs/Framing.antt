@@ -37,6 +37,7 @@ turned s i j r n = let own = turns_change_their_own s i r in record { view = own
 pub others_stay : OthersStay
 others_stay s (Begin i c) j n = after_either (IsUntouched j s) (may_begin s i c) s (begun s i c)
     (λ _. record { view = refl; call = get_or-set_other s.calls i j (Begun c) Idle n; tokens = refl }) (same s j)
-others_stay s (Go i) j n = after_either (IsUntouched j s) (may_go s i) s (played s i (turn_at s i)) (λ _. turned s i j (turn_at s i) n) (same s j)
+others_stay s (Go i) j n =
+    after_either (IsUntouched j s) (may_go s i) s (played s i (turn_at s i)) (λ _. turned s i j (turn_at s i) n) (same s j)
 others_stay s (Finish i) j n = after_either (IsUntouched j s) (may_finish s i) s (played s i (finish_at s i (plan_ends s)))
     (λ _. turned s i j (finish_at s i (plan_ends s)) n) (same s j)

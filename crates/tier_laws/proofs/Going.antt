@@ -39,7 +39,8 @@ pub record Passer (s : State) (i : ℕ) (c : Call) (past : List Moment) (t : ℕ
   pub current : (view_at s.views i).phase ≡ root_phase s.words
   pub word : word_after kind t (word_at s.words t) (view_at s.views i) ≡ passed t passage (word_at s.words t)
   pub phase : (stepped_view s.parents s.words kind t (view_at s.views i)).phase ≡ (view_at s.views i).phase
-  pub errand : (stepped_view s.parents s.words kind t (view_at s.views i)).errand ≡ owed (parent_of s.parents t) t passage (word_at s.words t)
+  pub errand : (stepped_view s.parents s.words kind t (view_at s.views i)).errand
+      ≡ owed (parent_of s.parents t) t passage (word_at s.words t)
   pub done : (r : Turn) → r.kind ≡ kind → IsDoneIn i c (view_at s.views i).phase (at i s r ∷ past)
 
 -- the step that makes the root's advance due
@@ -54,7 +55,8 @@ makes_due s i c past t passage kind r core is may going z kind_is tier_is owes =
     let core' = played_core s i r core is.known may in
     let known' : i < length s'.views = subst (λ (n : ℕ). i < n)
     (sym (length-set s.views i (stepped_view s.parents s.words r.kind r.tier (view_at s.views i)))) is.known in
-    let same : stepped_view s.parents s.words r.kind r.tier (view_at s.views i) ≡ stepped_view s.parents s.words kind t (view_at s.views i) =
+    let same : stepped_view s.parents s.words r.kind r.tier (view_at s.views i)
+    ≡ stepped_view s.parents s.words kind t (view_at s.views i) =
     ap (λ k. stepped_view s.parents s.words k r.tier (view_at s.views i)) kind_is
     ∙ ap (λ n. stepped_view s.parents s.words kind n (view_at s.views i)) tier_is in
     let own : view_at s'.views i ≡ stepped_view s.parents s.words r.kind r.tier (view_at s.views i) =
@@ -65,7 +67,8 @@ makes_due s i c past t passage kind r core is may going z kind_is tier_is owes =
     ∙ (ap (λ n. word_at (words_after s.words kind n (view_at s.views i)) 0) tier_is
     ∙ (ap (λ n. word_at (words_after s.words kind t (view_at s.views i)) n) (sym z)
     ∙ (get_or-set_same s.words t (word_after kind t (word_at s.words t) (view_at s.views i)) blank is.within ∙ is.word))) in
-    let ended : (word_at s'.words 0).ended ≡ false = ap (λ (x : Fields). x.ended) root ∙ (ended_passed t passage (word_at s.words t) ∙ going) in
+    let ended : (word_at s'.words 0).ended ≡ false =
+    ap (λ (x : Fields). x.ended) root ∙ (ended_passed t passage (word_at s.words t) ∙ going) in
     let phase : (word_at s'.words 0).phase ≡ (view_at s.views i).phase = ap (λ (x : Fields). x.phase) root
     ∙ (phase_passed t passage (word_at s.words t) ∙ (ap (λ n. (word_at s.words n).phase) z ∙ sym is.current)) in
     let ready = owing_is_ready s' i core' known' errand ended in
@@ -78,7 +81,8 @@ makes_due s i c past t passage kind r core is may going z kind_is tier_is owes =
     }
 
 -- a party passes a tier, or the tier is refreshed first, or the tree has ended
-pub pass_tells : (s : State) (i : ℕ) (c : Call) (past : List Moment) (own : Passage) (t : ℕ) (passage : Passage) (kind : Kind) (here : Progress) (over : Played)
+pub pass_tells : (s : State) (i : ℕ) (c : Call) (past : List Moment) (own : Passage) (t : ℕ) (passage : Passage) (kind : Kind)
+    (here : Progress) (over : Played)
     → IsCore s → Passer s i c past t passage kind
     → ((word_at s.words t).ended ≡ true → (r : Turn) → MayPlay s i r → Tells i c (at i s r) past over)
     → ((m : Moment) → Remembers i c (m ∷ past) here (view_at s.views i)) → is_active here ≡ true
@@ -92,7 +96,11 @@ pass_tells s i c past own t passage kind here over core is past_end stays active
     (λ _ _ may. record { reported = record { tells = active; ends = λ x. no_last x }; keeps = stays (at i s (refresh_turn t here)) })
     (λ _ _ may. record { reported = record { tells = is.done (goes Rest) refl; ends = λ _. refl }; keeps = tt })
     (λ going z owes may. record {
-      reported = record { tells = (refl, makes_due s i c past t passage kind (goes Advancing) core is may going z refl refl owes); ends = λ x. no_last x };
+      reported =
+          record {
+            tells = (refl, makes_due s i c past t passage kind (goes Advancing) core is may going z refl refl owes);
+            ends = λ x. no_last x;
+          };
       keeps = subst (λ (n : ℕ). IsDoneIn i c n (at i s (goes Advancing) ∷ past)) (sym is.phase) (is.done (goes Advancing) refl);
     })
     (λ _ j _ _ may. record {
@@ -109,7 +117,8 @@ own_done s i past Arrival r current e =
 own_done s i past Departure r current e =
     any_here (IsCounted i call.Leave (view_at s.views i).phase) (at i s r) past record { label = ap (label i) e; phase = sym current }
 
-pub own_passer : (s : State) (i : ℕ) (past : List Moment) (passage : Passage) → i < length s.views → (view_at s.views i).tier < length s.words
+pub own_passer : (s : State) (i : ℕ) (past : List Moment) (passage : Passage) → i < length s.views
+    → (view_at s.views i).tier < length s.words
     → (view_at s.views i).phase ≡ root_phase s.words → Passer s i (call_of passage) past (view_at s.views i).tier passage (own_kind passage)
 own_passer s i past Arrival h within current = record {
   known = h;
@@ -132,7 +141,8 @@ own_passer s i past Departure h within current = record {
 
 -- a step of a climb
 pub climb_passer : (s : State) (i : ℕ) (c : Call) (past : List Moment) (t : ℕ) (passage : Passage) → i < length s.views → t < length s.words
-    → (view_at s.views i).phase ≡ root_phase s.words → IsDoneIn i c (view_at s.views i).phase past → Passer s i c past t passage (Climb passage)
+    → (view_at s.views i).phase ≡ root_phase s.words → IsDoneIn i c (view_at s.views i).phase past
+    → Passer s i c past t passage (Climb passage)
 climb_passer s i c past t passage h within current done = record {
   known = h;
   within = within;

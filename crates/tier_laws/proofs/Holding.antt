@@ -26,11 +26,13 @@ use Rattle.tier_core.proofs.Runs.{due_advances}
 use Rattle.tier_laws.specs.Hold.{IsAwaited, AwaitedTokensHold, AdvancesAreAlone, MembersAreTheTokens, PartiesAreFew}
 
 -- the tally, split at a token
-pub split : (s : State) (i : ℕ) → IsCore s → i < length s.views → Tallies s.parents s.words (take i s.views ++ view_at s.views i ∷ drop (suc i) s.views)
+pub split : (s : State) (i : ℕ) → IsCore s → i < length s.views
+    → Tallies s.parents s.words (take i s.views ++ view_at s.views i ∷ drop (suc i) s.views)
 split s i core h = subst (λ (vs : List View). Tallies s.parents s.words vs) (around s.views i (new_view 0) h) core.tally
 
 -- what fits each view
-pub fits_at : (s : State) (i : ℕ) → IsCore s → i < length s.views → ViewFits s.parents (root_phase s.words) (word_at s.words 0).ended (view_at s.views i)
+pub fits_at : (s : State) (i : ℕ) → IsCore s → i < length s.views
+    → ViewFits s.parents (root_phase s.words) (word_at s.words 0).ended (view_at s.views i)
 fits_at s i core h = mine s.parents s.words (take i s.views) (drop (suc i) s.views) (view_at s.views i) (split s i core h)
 
 -- a share of one view is part of the sum
@@ -42,9 +44,11 @@ part s f i h = subst (λ (vs : List View). f (view_at s.views i) ≤ sum_by f vs
 pub held : (s : State) (i t : ℕ) → IsCore s → i < length s.views → (word_at s.words 0).ended ≡ false → t < length s.parents
     → 0 < late_share (root_phase s.words) s.parents t (view_at s.views i) → (word_at s.words 0).unarrived ≢ 0
 held s i t core h going k some =
-    unarrived_hold_the_root s.parents s.words (take i s.views) (view_at s.views i) (drop (suc i) s.views) t core.shape (split s i core h) going k some
+    unarrived_hold_the_root s.parents s.words (take i s.views) (view_at s.views i) (drop (suc i) s.views) t core.shape (split s i core h)
+    going k some
 
-pub nobody_advances : (s : State) (j : ℕ) → IsCore s → (word_at s.words 0).ended ≡ false → (word_at s.words 0).unarrived ≢ 0 → j < length s.views
+pub nobody_advances : (s : State) (j : ℕ) → IsCore s → (word_at s.words 0).ended ≡ false → (word_at s.words 0).unarrived ≢ 0
+    → j < length s.views
     → (view_at s.views j).errand ≢ Advancing
 nobody_advances s j core going some h e =
     some (zero_field (word_at s.words 0).unarrived
@@ -67,7 +71,8 @@ awaited_late s i core is =
 pub is_awaited : (s : State) (i : ℕ) → IsCore s → i < length s.views → (view_at s.views i).errand ≡ Rest
     → (view_at s.views i).arrived < (view_at s.views i).size → IsAwaited s i
 is_awaited s i core h rests some =
-    let current = unarrived_is_current s.parents (root_phase s.words) (word_at s.words 0).ended (view_at s.views i) (fits_at s i core h) some in
+    let current =
+    unarrived_is_current s.parents (root_phase s.words) (word_at s.words 0).ended (view_at s.views i) (fits_at s i core h) some in
     let b = absent_current (root_phase s.words) (view_at s.views i) current in
     record { known = h; rests = rests; some = omega arith }
 
@@ -83,11 +88,14 @@ awaited_tokens_hold s i j core going is h =
     let nobody = nobody_advances s j core going (awaited_field s i core going is) h in
     record {
       errand = nobody;
-      call = not_due (is_due (call_at s.calls j)) (λ e. nobody (due_advances s.parents (call_at s.calls j) (view_at s.views j) e (core.calls j h)));
+      call =
+          not_due (is_due (call_at s.calls j))
+          (λ e. nobody (due_advances s.parents (call_at s.calls j) (view_at s.views j) e (core.calls j h)));
     }
 
 -- while a token advances, every token has done what it can
-pub each_done : (s : State) (i : ℕ) → IsCore s → (word_at s.words 0).ended ≡ false → i < length s.views → (view_at s.views i).errand ≡ Advancing
+pub each_done : (s : State) (i : ℕ) → IsCore s → (word_at s.words 0).ended ≡ false → i < length s.views
+    → (view_at s.views i).errand ≡ Advancing
     → AllByRecursion (λ x. ViewFits s.parents (root_phase s.words) (word_at s.words 0).ended x × IsDone (root_phase s.words) x) s.views
 each_done s i core going h e =
     let due : (word_at s.words 0).unarrived ≡ 0 = zero_field (word_at s.words 0).unarrived
@@ -110,7 +118,8 @@ within f (x ∷ xs) zero d h = let a = sum_by-cons f x xs in omega arith
 within f (x ∷ xs) (suc i) d h = let a = sum_by-cons f x xs in let b = within f xs i d (omega arith) in omega arith
 
 -- two places of a list count apart
-apart : {X : Type 0} (f : X → ℕ) (xs : List X) (i j : ℕ) (d : X) → i < length xs → j < length xs → i ≢ j → f (get_or xs i d) + f (get_or xs j d) ≤ sum_by f xs
+apart : {X : Type 0} (f : X → ℕ) (xs : List X) (i j : ℕ) (d : X) → i < length xs → j < length xs → i ≢ j
+    → f (get_or xs i d) + f (get_or xs j d) ≤ sum_by f xs
 apart f [] i j d h k n = absurd (omega arith)
 apart f (x ∷ xs) zero zero d h k n = absurd (n refl)
 apart f (x ∷ xs) zero (suc j) d h k n =
@@ -137,7 +146,8 @@ advances_are_alone s i j core going h e k n =
     let v : View = view_at s.views j in
     let all : AllByRecursion (λ x. ViewFits s.parents (root_phase s.words) (word_at s.words 0).ended x × IsDone (root_phase s.words) x)
     (take j s.views ++ view_at s.views j ∷ drop (suc j) s.views) =
-    subst (λ (vs : List View). AllByRecursion (λ x. ViewFits s.parents (root_phase s.words) (word_at s.words 0).ended x × IsDone (root_phase s.words) x) vs)
+    subst
+    (λ (vs : List View). AllByRecursion (λ x. ViewFits s.parents (root_phase s.words) (word_at s.words 0).ended x × IsDone (root_phase s.words) x) vs)
     (around s.views j (new_view 0) k) (each_done s i core going h e) in
     let done = all_here (λ x. ViewFits s.parents (root_phase s.words) (word_at s.words 0).ended x × IsDone (root_phase s.words) x)
     (take j s.views) (drop (suc j) s.views) (view_at s.views j) all in

@@ -51,7 +51,8 @@ use Rattle.tier_laws.proofs.Searching.{by_search}
 use Rattle.tier_laws.proofs.Passing.{by_passing}
 
 -- no tier has ended while the root goes on
-pub still_going : (s : State) (t : ℕ) → IsCore s → (word_at s.words 0).ended ≡ false → t < length s.words → (word_at s.words t).ended ≡ false
+pub still_going : (s : State) (t : ℕ) → IsCore s → (word_at s.words 0).ended ≡ false → t < length s.words
+    → (word_at s.words t).ended ≡ false
 still_going s t core going h = ⊎_elim
     (λ (z : t ≡ 0). ap (λ n. (word_at s.words n).ended) z ∙ going)
     (λ (n : t ≢ 0). core.tally.ends t (omega arith) h)
@@ -91,7 +92,9 @@ look_by s i passage core going is now =
     let look = awaited_look s i core going is in
     let make : Progress → Played → Turn = λ next answer. record { kind = Look; tier = 0; next = next; answer = answer } in
     by_test (λ b. Gone s i (make (cond b Idle (cond (eqb (looked w v).arrived v.size) Idle (Passing passage)))
-    (cond b (end_shown w) (cond (eqb (looked w v).arrived v.size) (AlreadyArrived (looked w v).phase) GoesOn))) → IsLookStep s i (Passing passage)) w.ended
+    (cond b (end_shown w) (cond (eqb (looked w v).arrived v.size) (AlreadyArrived (looked w v).phase) GoesOn)))
+    → IsLookStep s i (Passing passage))
+    w.ended
     (λ q. not_both w.ended q going)
     (λ _. by_test (λ b. Gone s i (make (cond b Idle (Passing passage)) (cond b (AlreadyArrived (looked w v).phase) GoesOn)) → IsLookStep s i (Passing passage))
     (eqb (looked w v).arrived v.size)
@@ -109,8 +112,10 @@ look_by s i passage core going is now =
     }))
 
 pub passes_begin_with_a_look : PassesBeginWithALook
-passes_begin_with_a_look s i Arrival core going is now e = look_by s i Arrival core going is now (gone s i (Begun call.Arrive) core is.known e refl)
-passes_begin_with_a_look s i Departure core going is now e = look_by s i Departure core going is now (gone s i (Begun call.Leave) core is.known e refl)
+passes_begin_with_a_look s i Arrival core going is now e =
+    look_by s i Arrival core going is now (gone s i (Begun call.Arrive) core is.known e refl)
+passes_begin_with_a_look s i Departure core going is now e =
+    look_by s i Departure core going is now (gone s i (Begun call.Leave) core is.known e refl)
 
 -- the step at the token's tier
 pub counted : (s : State) (i : ℕ) (passage : Passage) → (view_at s.views i).arrived < (view_at s.views i).size
@@ -146,7 +151,8 @@ passes_count s i passage core h going e home =
     (gone s i (Passing passage) core h e refl)
 
 -- a climb that finds the root ended
-climb_over : (s : State) (i : ℕ) (own : Passage) (t : ℕ) (passage : Passage) → IsCore s → t < length s.words → (word_at s.words t).ended ≡ true
+climb_over : (s : State) (i : ℕ) (own : Passage) (t : ℕ) (passage : Passage) → IsCore s → t < length s.words
+    → (word_at s.words t).ended ≡ true
     → (view_at s.views i).errand ≡ Climbing t passage → Gone s i (last_look (Done (view_at s.views i).phase)) → IsClimbStep s i own
 climb_over s i own t passage core within ended owes g =
     let v : View = view_at s.views i in
@@ -173,7 +179,8 @@ climbs_keep_members s i own core h e =
     let w : Fields = word_at s.words fits.0 in
     let r : Turn = pass_turn s.parents own fits.0 fits.1 (Climb fits.1) (Owing own) (Done v.phase) (word_at s.words fits.0) v in
     let g : Gone s i r =
-    subst (λ (x : Errand). Gone s i (climb_turn s.parents own (word_at s.words (errand_place s.parents x)) v x)) fits.2 (gone s i (Owing own) core h e refl) in
+    subst (λ (x : Errand). Gone s i (climb_turn s.parents own (word_at s.words (errand_place s.parents x)) v x)) fits.2
+    (gone s i (Owing own) core h e refl) in
     ⊎_elim
     (λ (ended : (word_at s.words fits.0).ended ≡ true). climb_over s i own fits.0 fits.1 core within ended fits.2
     (subst (λ (x : Turn). Gone s i x) (by_turn (λ x. x ≡ last_look (Done v.phase)) (word_at s.words fits.0).ended (last_look (Done v.phase))
@@ -212,8 +219,10 @@ finished : (s : State) (i : ℕ) (kind : Kind) → (view_at s.views i).errand �
     × ((stepped_view s.parents s.words kind 0 (view_at s.views i)).errand ≡ Rest)
 finished s i kind owes which = ⊎_elim
     (λ look. subst (λ (k : Kind). IsSame (view_at s.views i) (stepped_view s.parents s.words k 0 (view_at s.views i))
-    × ((stepped_view s.parents s.words k 0 (view_at s.views i)).errand ≡ Rest)) (sym look.0)
-    (looked_same (word_at s.words 0) (view_at s.views i) look.1, looked_ended (word_at s.words 0) (view_at s.views i) look.1 ∙ ap dropped owes))
+    × ((stepped_view s.parents s.words k 0 (view_at s.views i)).errand ≡ Rest)) (sym look.0) (
+      looked_same (word_at s.words 0) (view_at s.views i) look.1,
+      looked_ended (word_at s.words 0) (view_at s.views i) look.1 ∙ ap dropped owes,
+    ))
     (λ step. subst (λ (k : Kind). IsSame (view_at s.views i) (stepped_view s.parents s.words k 0 (view_at s.views i))
     × ((stepped_view s.parents s.words k 0 (view_at s.views i)).errand ≡ Rest)) (sym step.1)
     (record { tier = refl; size = refl; phase = refl; arrived = refl }, refl))
@@ -223,7 +232,8 @@ pub advances_keep_members : AdvancesKeepMembers
 advances_keep_members s i own core h e =
     let r : Turn = finish_at s i (plan_ends s) in
     let may : may_finish s i ≡ true = ap (λ b. b && is_due (call_at s.calls i)) (lt-ltb i (length s.views) h) ∙ ap is_due e in
-    let here : after s (Finish i) ≡ played s i (finish_at s i (plan_ends s)) = ap (λ b. cond b (played s i (finish_at s i (plan_ends s))) s) may in
+    let here : after s (Finish i) ≡ played s i (finish_at s i (plan_ends s)) =
+    ap (λ b. cond b (played s i (finish_at s i (plan_ends s))) s) may in
     let which : ((r.kind ≡ Look) × ((word_at s.words 0).ended ≡ true)) ⊎ ((ends : Bool) × (r.kind ≡ Advance ends)) = ⊎_elim
     (λ (ended : (word_at s.words 0).ended ≡ true). inl (ap (λ b. cond b Look (Advance (plan_ends s))) ended, ended))
     (λ (going : (word_at s.words 0).ended ≡ false). inr (plan_ends s, ap (λ b. cond b Look (Advance (plan_ends s))) going))
@@ -247,7 +257,8 @@ joins_begin_with_a_look s i tier size core h going e =
     let fits = fitting s i (Begun (call.Join tier size)) core h e in
     let all : v.arrived ≡ v.size = (let a = (fits_at s i core h).within in let b = fits.1.none in omega arith) in
     let make : Kind → Progress → Played → Turn = λ kind next answer. record { kind = kind; tier = 0; next = next; answer = answer } in
-    by_test (λ x. Gone s i (make (cond x Look (cond (eqb tier 0 && is_refusing size w) (Refuse 0 0 size) Look)) (cond x Idle (ToSeek tier size))
+    by_test
+    (λ x. Gone s i (make (cond x Look (cond (eqb tier 0 && is_refusing size w) (Refuse 0 0 size) Look)) (cond x Idle (ToSeek tier size))
     (cond x (end_shown w) GoesOn)) → IsJoinLook s i tier size) w.ended
     (λ q. not_both w.ended q going)
     (λ _. by_test (λ x. Gone s i (make (cond x (Refuse 0 0 size) Look) (ToSeek tier size) GoesOn) → IsJoinLook s i tier size) (eqb tier 0 && is_refusing size w)
@@ -348,7 +359,8 @@ open_tiers_admit s i tier size core h going e rests some waits capacity =
     }) g
 
 -- what follows the join changes the errand alone
-kept_by : (s : State) (i : ℕ) (e : Errand) → view_then s i ≡ record (view_at s.views i) { errand = e } → IsSame (view_at s.views i) (view_then s i)
+kept_by : (s : State) (i : ℕ) (e : Errand) → view_then s i ≡ record (view_at s.views i) { errand = e }
+    → IsSame (view_at s.views i) (view_then s i)
 kept_by s i e view = record {
   tier = ap (λ (x : View). x.tier) view;
   size = ap (λ (x : View). x.size) view;

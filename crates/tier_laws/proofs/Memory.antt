@@ -109,7 +109,8 @@ refusal_tells i c m past (Ended number) d = d
 refusal_tells i c m past (MustAdvance phase parties) d = absurd d
 
 -- a turn that answers a refusal, or keeps it until the claimed tiers are given back
-pub refused_good : (s : State) (i : ℕ) (c : Call) (past : List Moment) (r : Turn) (claimed : ℕ) (a : Played) → r.next ≡ giving_back claimed a
+pub refused_good : (s : State) (i : ℕ) (c : Call) (past : List Moment) (r : Turn) (claimed : ℕ) (a : Played)
+    → r.next ≡ giving_back claimed a
     → r.answer ≡ unless_claimed claimed a → RefusalTells i c (at i s r ∷ past) a → Good s i c past r
 refused_good s i c past r zero a next answer d =
     let v : View = stepped_view s.parents s.words r.kind r.tier (view_at s.views i) in
@@ -118,14 +119,18 @@ refused_good s i c past r zero a next answer d =
         tells = subst (λ (x : Played). Tells i c (at i s r) past x) (sym answer) (refusal_tells i c (at i s r) past a d);
         ends = λ _. next;
       };
-      keeps = subst (λ (x : Progress). Remembers i c (at i s r ∷ past) x (stepped_view s.parents s.words r.kind r.tier (view_at s.views i))) (sym next) tt;
+      keeps =
+          subst (λ (x : Progress). Remembers i c (at i s r ∷ past) x (stepped_view s.parents s.words r.kind r.tier (view_at s.views i)))
+          (sym next) tt;
     }
 refused_good s i c past r (suc claimed) a next answer d = record {
   reported = record {
     tells = subst (λ (x : Played). Tells i c (at i s r) past x) (sym answer) (ap is_active next);
     ends = λ e. no_last (ap is_last (sym answer) ∙ e);
   };
-  keeps = subst (λ (x : Progress). Remembers i c (at i s r ∷ past) x (stepped_view s.parents s.words r.kind r.tier (view_at s.views i))) (sym next) d;
+  keeps =
+      subst (λ (x : Progress). Remembers i c (at i s r ∷ past) x (stepped_view s.parents s.words r.kind r.tier (view_at s.views i)))
+      (sym next) d;
 }
 
 -- a turn that answers that a join is done, or keeps it until the claimed tiers are settled
@@ -134,18 +139,23 @@ pub joined_good : (s : State) (i : ℕ) (c : Call) (past : List Moment) (r : Tur
     → IsDoneIn i c p (at i s r ∷ past) → Good s i c past r
 joined_good s i c past r zero p next answer phase d = record {
   reported = record { tells = subst (λ (x : Played). Tells i c (at i s r) past x) (sym answer) d; ends = λ _. next };
-  keeps = subst (λ (x : Progress). Remembers i c (at i s r ∷ past) x (stepped_view s.parents s.words r.kind r.tier (view_at s.views i))) (sym next) tt;
+  keeps =
+      subst (λ (x : Progress). Remembers i c (at i s r ∷ past) x (stepped_view s.parents s.words r.kind r.tier (view_at s.views i)))
+      (sym next) tt;
 }
 joined_good s i c past r (suc claimed) p next answer phase d = record {
   reported = record {
     tells = subst (λ (x : Played). Tells i c (at i s r) past x) (sym answer) (ap is_active next);
     ends = λ e. no_last (ap is_last (sym answer) ∙ e);
   };
-  keeps = subst (λ (x : Progress). Remembers i c (at i s r ∷ past) x (stepped_view s.parents s.words r.kind r.tier (view_at s.views i))) (sym next)
+  keeps =
+      subst (λ (x : Progress). Remembers i c (at i s r ∷ past) x (stepped_view s.parents s.words r.kind r.tier (view_at s.views i)))
+      (sym next)
       (subst (λ (n : ℕ). IsDoneIn i c n (at i s r ∷ past)) (sym phase) d);
 }
 
 -- a poll's answer
-pub polled_tells : (i : ℕ) (m : Moment) (past : List Moment) (b : Bool) (p : ℕ) → PollTells i b p (m ∷ past) → Tells i call.Poll m past (polled b p)
+pub polled_tells : (i : ℕ) (m : Moment) (past : List Moment) (b : Bool) (p : ℕ) → PollTells i b p (m ∷ past)
+    → Tells i call.Poll m past (polled b p)
 polled_tells i m past true p d = d
 polled_tells i m past false p d = d

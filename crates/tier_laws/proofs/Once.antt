@@ -73,12 +73,14 @@ record Fits (s : State) (i : ℕ) (c : Call) (past : List Moment) (r : Turn) : T
   keeps : Keeps c (at i s r ∷ past) r.next (stepped_view s.parents s.words r.kind r.tier (view_at s.views i))
 
 -- the count after one more moment
-same_count : (i : ℕ) (s : State) (past : List Moment) (r : Turn) (n : ℕ) → is_counting r.kind ≡ false → times_counted past ≡ n → times_counted (at i s r ∷ past) ≡ n
+same_count : (i : ℕ) (s : State) (past : List Moment) (r : Turn) (n : ℕ) → is_counting r.kind ≡ false → times_counted past ≡ n
+    → times_counted (at i s r ∷ past) ≡ n
 same_count i s past r n quiet e =
     let a = count_cons (λ (m : Moment). is_counting m.turn.kind) (at i s r) past in
     let b : cond {A = ℕ} (is_counting r.kind) 1 0 ≡ 0 = ap (λ x. cond {A = ℕ} x 1 0) quiet in omega arith
 
-one_count : (i : ℕ) (s : State) (past : List Moment) (r : Turn) → is_counting r.kind ≡ true → times_counted past ≡ 0 → times_counted (at i s r ∷ past) ≡ 1
+one_count : (i : ℕ) (s : State) (past : List Moment) (r : Turn) → is_counting r.kind ≡ true → times_counted past ≡ 0
+    → times_counted (at i s r ∷ past) ≡ 1
 one_count i s past r counts e =
     let a = count_cons (λ (m : Moment). is_counting m.turn.kind) (at i s r) past in
     let b : cond {A = ℕ} (is_counting r.kind) 1 0 ≡ 1 = ap (λ x. cond {A = ℕ} x 1 0) counts in omega arith
@@ -111,12 +113,16 @@ refused_fits : (s : State) (i : ℕ) (c : Call) (past : List Moment) (r : Turn) 
     → (stepped_view s.parents s.words r.kind r.tier (view_at s.views i)).size ≡ 0
     → NotesAs a (stepped_view s.parents s.words r.kind r.tier (view_at s.views i)) (at i s r ∷ past) → Fits s i c past r
 refused_fits s i c past r zero a is next answer none size notes = record {
-  says = subst (λ (x : Played). Says c x (stepped_view s.parents s.words r.kind r.tier (view_at s.views i)) (at i s r ∷ past)) (sym answer) (record {
-    counts = refuses_nothing a is;
-    places = places_no c a (stepped_view s.parents s.words r.kind r.tier (view_at s.views i)) (λ tier many. refuses_all a is tier many);
-    notes = notes;
-  });
-  keeps = subst (λ (x : Progress). Keeps c (at i s r ∷ past) x (stepped_view s.parents s.words r.kind r.tier (view_at s.views i))) (sym next) tt;
+  says =
+      subst (λ (x : Played). Says c x (stepped_view s.parents s.words r.kind r.tier (view_at s.views i)) (at i s r ∷ past)) (sym answer)
+      (record {
+        counts = refuses_nothing a is;
+        places = places_no c a (stepped_view s.parents s.words r.kind r.tier (view_at s.views i)) (λ tier many. refuses_all a is tier many);
+        notes = notes;
+      });
+  keeps =
+      subst (λ (x : Progress). Keeps c (at i s r ∷ past) x (stepped_view s.parents s.words r.kind r.tier (view_at s.views i))) (sym next)
+      tt;
 }
   where
     refuses_nothing : (b : Played) → is_refusal b ≡ true → CountsAs c b (times_counted (at i s r ∷ past))
@@ -130,7 +136,8 @@ refused_fits s i c past r zero a is next answer none size notes = record {
     refuses_nothing (Ended number) e = none
     refuses_nothing (MustAdvance phase parties) e = not_both false e refl
 
-    refuses_all : (b : Played) → is_refusal b ≡ true → (tier many : ℕ) → PlacesAs tier many b (stepped_view s.parents s.words r.kind r.tier (view_at s.views i))
+    refuses_all : (b : Played) → is_refusal b ≡ true → (tier many : ℕ)
+        → PlacesAs tier many b (stepped_view s.parents s.words r.kind r.tier (view_at s.views i))
     refuses_all GoesOn e tier many = not_both false e refl
     refuses_all (Done phase) e tier many = not_both false e refl
     refuses_all (Passed phase) e tier many = not_both false e refl
@@ -142,7 +149,8 @@ refused_fits s i c past r zero a is next answer none size notes = record {
     refuses_all (MustAdvance phase parties) e tier many = not_both false e refl
 refused_fits s i c past r (suc claimed) a is next answer none size notes = record {
   says = goes_on_once s i c past r answer (omega arith);
-  keeps = subst (λ (x : Progress). Keeps c (at i s r ∷ past) x (stepped_view s.parents s.words r.kind r.tier (view_at s.views i))) (sym next)
+  keeps =
+      subst (λ (x : Progress). Keeps c (at i s r ∷ past) x (stepped_view s.parents s.words r.kind r.tier (view_at s.views i))) (sym next)
       (none, size, notes);
 }
 
@@ -151,14 +159,21 @@ joined_fits : (s : State) (i : ℕ) (past : List Moment) (tier size : ℕ) (r : 
     → r.answer ≡ unless_claimed claimed (Done phase) → times_counted (at i s r ∷ past) ≡ 1
     → IsPlaced tier size phase (stepped_view s.parents s.words r.kind r.tier (view_at s.views i)) → Fits s i (call.Join tier size) past r
 joined_fits s i past tier size r zero phase next answer one placed = record {
-  says = subst (λ (x : Played). Says (call.Join tier size) x (stepped_view s.parents s.words r.kind r.tier (view_at s.views i)) (at i s r ∷ past)) (sym answer)
+  says =
+      subst
+      (λ (x : Played). Says (call.Join tier size) x (stepped_view s.parents s.words r.kind r.tier (view_at s.views i)) (at i s r ∷ past))
+      (sym answer)
       (record { counts = one; places = placed; notes = tt });
-  keeps = subst (λ (x : Progress). Keeps (call.Join tier size) (at i s r ∷ past) x (stepped_view s.parents s.words r.kind r.tier (view_at s.views i)))
+  keeps =
+      subst
+      (λ (x : Progress). Keeps (call.Join tier size) (at i s r ∷ past) x (stepped_view s.parents s.words r.kind r.tier (view_at s.views i)))
       (sym next) tt;
 }
 joined_fits s i past tier size r (suc claimed) phase next answer one placed = record {
   says = goes_on_once s i (call.Join tier size) past r answer (omega arith);
-  keeps = subst (λ (x : Progress). Keeps (call.Join tier size) (at i s r ∷ past) x (stepped_view s.parents s.words r.kind r.tier (view_at s.views i)))
+  keeps =
+      subst
+      (λ (x : Progress). Keeps (call.Join tier size) (at i s r ∷ past) x (stepped_view s.parents s.words r.kind r.tier (view_at s.views i)))
       (sym next) (one, (tier, size, refl, record { tier = placed.tier; size = placed.size; phase = refl; arrived = placed.arrived }));
 }
 
@@ -234,9 +249,11 @@ seek_fits s i past tier size k t none before =
     (record { tier = refl; size = refl; phase = refl; arrived = refl }))
 
 -- the first step of each call
-over_fits : (s : State) (i : ℕ) (c : Call) (past : List Moment) (kind : Kind) (t : ℕ) (a : Played) → is_counting kind ≡ false → times_counted past ≡ 0
+over_fits : (s : State) (i : ℕ) (c : Call) (past : List Moment) (kind : Kind) (t : ℕ) (a : Played) → is_counting kind ≡ false
+    → times_counted past ≡ 0
     → ((times : ℕ) → times ≡ 0 → CountsAs c a times) → Places c a (stepped_view s.parents s.words kind t (view_at s.views i))
-    → NotesAs a (stepped_view s.parents s.words kind t (view_at s.views i)) (at i s (record { kind = kind; tier = t; next = Idle; answer = a }) ∷ past)
+    → NotesAs a (stepped_view s.parents s.words kind t (view_at s.views i))
+    (at i s (record { kind = kind; tier = t; next = Idle; answer = a }) ∷ past)
     → Fits s i c past (record { kind = kind; tier = t; next = Idle; answer = a })
 over_fits s i c past kind t a quiet before counts places notes =
     let r : Turn = record { kind = kind; tier = t; next = Idle; answer = a } in
@@ -327,10 +344,12 @@ first_fits s i past (call.Join tier size) before fits = join_first_fits s i past
 first_fits s i past call.Arrive before fits = pass_first_fits s i past Arrival before
 first_fits s i past call.Leave before fits = pass_first_fits s i past Departure before
 first_fits s i past call.Poll before fits = poll_first_fits s i past before
-first_fits s i past call.Force before fits = over_fits s i call.Force past Force 0 (end_shown (word_at s.words 0)) refl before (λ _ e. e) tt tt
+first_fits s i past call.Force before fits =
+    over_fits s i call.Force past Force 0 (end_shown (word_at s.words 0)) refl before (λ _ e. e) tt tt
 
 -- a party passes a tier: the step at the token's tier counts, and a step of a climb has counted
-pass_fits : (s : State) (i : ℕ) (c : Call) (past : List Moment) (own : Passage) (t : ℕ) (passage : Passage) (kind : Kind) (here : Progress) (over : Played)
+pass_fits : (s : State) (i : ℕ) (c : Call) (past : List Moment) (own : Passage) (t : ℕ) (passage : Passage) (kind : Kind) (here : Progress)
+    (over : Played)
     → (known : (j : Passage) × (c ≡ call_of j))
     → Fits s i c past (last_look over)
     → Fits s i c past (record { kind = Refresh; tier = t; next = here; answer = GoesOn })
@@ -354,7 +373,9 @@ pass_fits s i c past own t passage kind here over known at_end waits once =
     (λ _ _ _. record {
       says = record {
         counts = once (Due own) (MustAdvance v.phase parties);
-        places = subst (λ (x : Call). Places x (MustAdvance v.phase parties) v') (sym known.1) (places_pass known.0 (MustAdvance v.phase parties) v');
+        places =
+            subst (λ (x : Call). Places x (MustAdvance v.phase parties) v') (sym known.1)
+            (places_pass known.0 (MustAdvance v.phase parties) v');
         notes = tt;
       };
       keeps = (known, once (Due own) (MustAdvance v.phase parties));
@@ -369,12 +390,14 @@ own_counts Arrival = refl
 own_counts Departure = refl
 
 -- each step of a call
-turn_fits : (s : State) (i : ℕ) (c : Call) (past : List Moment) (p : Progress) → is_active p ≡ true → CallFits s.parents p (view_at s.views i)
+turn_fits : (s : State) (i : ℕ) (c : Call) (past : List Moment) (p : Progress) → is_active p ≡ true
+    → CallFits s.parents p (view_at s.views i)
     → Keeps c past p (view_at s.views i) → Fits s i c past (turn s.parents s.words p (view_at s.views i))
 turn_fits s i c past Idle active fits keeps = not_both false active refl
 turn_fits s i c past (Due own) active fits keeps = not_both false active refl
 turn_fits s i c past (Begun d) active fits keeps =
-    subst (λ (x : Call). Fits s i x past (first_turn d (word_at s.words 0) (word_at s.words (view_at s.views i).tier) (view_at s.views i))) keeps.0
+    subst (λ (x : Call). Fits s i x past (first_turn d (word_at s.words 0) (word_at s.words (view_at s.views i).tier) (view_at s.views i)))
+    keeps.0
     (first_fits s i past d keeps.1 fits.1)
 turn_fits s i c past (ToSeek tier size) active fits keeps =
     subst (λ (x : Call). Fits s i x past (turn s.parents s.words (ToSeek tier size) (view_at s.views i))) (sym keeps.0)
@@ -401,7 +424,8 @@ turn_fits s i c past (Passing passage) active fits keeps =
     let a : Played = end_shown (word_at s.words v.tier) in
     pass_fits s i c past passage v.tier passage (own_kind passage) (Passing passage) (end_shown (word_at s.words v.tier)) (passage, keeps.0)
     (over_fits s i c past Look 0 (end_shown (word_at s.words v.tier)) refl keeps.1 (λ _ e. e)
-    (subst (λ (x : Call). Places x a (looked (word_at s.words 0) v)) (sym keeps.0) (places_pass passage a (looked (word_at s.words 0) v))) tt)
+    (subst (λ (x : Call). Places x a (looked (word_at s.words 0) v)) (sym keeps.0) (places_pass passage a (looked (word_at s.words 0) v)))
+    tt)
     (record { says = goes_on_once s i c past wait refl (omega arith); keeps = (keeps.0, n) })
     (λ next b. one_count i s past (record { kind = own_kind passage; tier = v.tier; next = next; answer = b }) (own_counts passage) keeps.1)
 turn_fits s i c past (Owing own) active fits keeps =
@@ -439,7 +463,8 @@ finish_quiet ends true = refl
 finish_quiet ends false = refl
 
 -- and the last step of a call that has to advance the root
-last_fits : (s : State) (i : ℕ) (c : Call) (past : List Moment) (ends : Bool) (p : Progress) → is_due p ≡ true → Keeps c past p (view_at s.views i)
+last_fits : (s : State) (i : ℕ) (c : Call) (past : List Moment) (ends : Bool) (p : Progress) → is_due p ≡ true
+    → Keeps c past p (view_at s.views i)
     → Fits s i c past (finish_at s i ends)
 last_fits s i c past ends Idle due keeps = not_both false due refl
 last_fits s i c past ends (Begun d) due keeps = not_both false due refl
@@ -486,7 +511,8 @@ stories i c = of_token i (Story i c)
     (λ s past core h due may here.
     reported_after s i c past (finish_at s i (plan_ends s)) h (last_fits s i c past (plan_ends s) (call_at s.calls i) due here.0))
 
-says : (s : State) (i : ℕ) (c : Call) (events : List Event) → IsCore s → IsCall c → may_begin s i c ≡ true → AreEvents events → AreOfCall i events
+says : (s : State) (i : ℕ) (c : Call) (events : List Event) → IsCore s → IsCall c → may_begin s i c ≡ true → AreEvents events
+    → AreOfCall i events
     → LatestSays i c (imaged i events (begun s i c) [])
 says s i c events core is may are own = (along_call i c (Story i c) (stories i c) events s core is may ((refl, refl), tt) are own).holds.1
 
@@ -497,7 +523,8 @@ latest_counts i c (m ∷ past) h = h.counts
 -- beside the flat phasers that the labels reach
 images : (s : State) (i : ℕ) (c : Call) (events : List Event) → IsCore s → IsCall c → may_begin s i c ≡ true → AreEvents events
     → Alikes (moments i events (begun s i c) (flat_of s) []) (imaged i events (begun s i c) [])
-images s i c events core is may are = reached i events (begun s i c) (flat_of s) [] [] (begun_core s i c core is may) are (alike_itself (flat_of s)) tt
+images s i c events core is may are =
+    reached i events (begun s i c) (flat_of s) [] [] (begun_core s i c core is may) are (alike_itself (flat_of s)) tt
 
 times_alike : (ms ns : List Moment) → Alikes ms ns → times_counted ms ≡ times_counted ns
 times_alike [] [] h = refl
@@ -532,7 +559,8 @@ latest_places i tier size (m ∷ ms) (n ∷ ns) h t =
 
 pub joins_place_where_asked : JoinsPlaceWhereAsked
 joins_place_where_asked s i tier size events core is may are own =
-    latest_places i tier size (moments i events (begun s i (call.Join tier size)) (flat_of s) []) (imaged i events (begun s i (call.Join tier size)) [])
+    latest_places i tier size (moments i events (begun s i (call.Join tier size)) (flat_of s) [])
+    (imaged i events (begun s i (call.Join tier size)) [])
     (images s i (call.Join tier size) events core is may are) (says s i (call.Join tier size) events core is may are own)
 
 noted : (v : View) → Tells_ (IsNotedAt v) (IsNotedAt v)
@@ -559,5 +587,6 @@ latest_notes i c (m ∷ ms) (n ∷ ns) h t =
 
 pub refusals_are_noted : RefusalsAreNoted
 refusals_are_noted s i c events core is may are own =
-    latest_notes i c (moments i events (begun s i c) (flat_of s) []) (imaged i events (begun s i c) []) (images s i c events core is may are)
+    latest_notes i c (moments i events (begun s i c) (flat_of s) []) (imaged i events (begun s i c) [])
+    (images s i c events core is may are)
     (says s i c events core is may are own)

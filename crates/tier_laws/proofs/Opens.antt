@@ -57,7 +57,8 @@ all_from : {X : Type 0} (P : X → Type 0) (d : X) (xs : List X) → ((i : ℕ) 
 all_from P d [] h = tt
 all_from P d (x ∷ xs) h = (h 0 (omega arith), all_from P d xs (λ i k. h (suc i) (omega arith)))
 
-sum_set : {X : Type 0} (f : X → ℕ) (xs : List X) (i : ℕ) (x d : X) → i < length xs → sum_by f (set xs i x) + f (get_or xs i d) ≡ sum_by f xs + f x
+sum_set : {X : Type 0} (f : X → ℕ) (xs : List X) (i : ℕ) (x d : X) → i < length xs
+    → sum_by f (set xs i x) + f (get_or xs i d) ≡ sum_by f xs + f x
 sum_set f [] i x d h = absurd (omega arith)
 sum_set f (y ∷ ys) zero x d h = let a = sum_by-cons f x ys in let b = sum_by-cons f y ys in omega arith
 sum_set f (y ∷ ys) (suc i) x d h =
@@ -109,7 +110,8 @@ Stands tier size now ms (Due own) v = ⊥
 Stands tier size now ms (Refreshing has_moved) v = ⊥
 
 -- a token that has its members settles the tiers that are left, or is done
-placed_by : (k tier size now : ℕ) (ms : List Moment) (v : View) {p : ℕ} → IsPlaced tier size now v → last_answer ms ≡ Some (unless_claimed k (Done p)) → p ≡ now
+placed_by : (k tier size now : ℕ) (ms : List Moment) (v : View) {p : ℕ} → IsPlaced tier size now v
+    → last_answer ms ≡ Some (unless_claimed k (Done p)) → p ≡ now
     → Stands tier size now ms (settling k) v
 placed_by zero tier size now ms v placed answer here = (placed, answer ∙ ap (λ n. Some (Done n)) here)
 placed_by (suc k) tier size now ms v placed answer here = placed
@@ -137,7 +139,8 @@ record Joining (old s : State) (i tier size : ℕ) (ms : List Moment) : Type 0 w
 goes : (old s : State) (i tier size : ℕ) (ms : List Moment) (r : Turn) → Joining old s i tier size ms → Gone s i r
     → moves_root (label i r.kind) ≡ false
     → NearlyFresh (root_phase old.words) (word_after r.kind r.tier (word_at s.words r.tier) (view_at s.views i))
-    → Stands tier size (root_phase old.words) (own_imaged i s (Go i) ++ ms) r.next (stepped_view s.parents s.words r.kind r.tier (view_at s.views i))
+    → Stands tier size (root_phase old.words) (own_imaged i s (Go i) ++ ms) r.next
+    (stepped_view s.parents s.words r.kind r.tier (view_at s.views i))
     → Joining old (after s (Go i)) i tier size (own_imaged i s (Go i) ++ ms)
 goes old s i tier size ms r is g quiet word stands =
     let s' : State = after s (Go i) in
@@ -165,7 +168,8 @@ goes old s i tier size ms r is g quiet word stands =
       others = λ j n. (others_stay s (Go i) j n).view ∙ is.others j n;
       tokens = tokens ∙ is.tokens;
       sizes = (let a = sum_set (λ (x : View). x.size) s.views i v' (new_view 0) is.known in
-          let b : sum_by (λ (x : View). x.size) s'.views ≡ sum_by (λ (x : View). x.size) (set s.views i v') = ap (sum_by (λ (x : View). x.size)) g.views in
+          let b : sum_by (λ (x : View). x.size) s'.views ≡ sum_by (λ (x : View). x.size) (set s.views i v') =
+          ap (sum_by (λ (x : View). x.size)) g.views in
           let c : (view_at s'.views i).size ≡ v'.size = ap (λ (x : View). x.size) g.view in
           let d = is.sizes in omega arith);
       capacity = subst (λ (ps : List ℕ). sum_by (λ v. v.size) old.views + size + length ps ≤ 65535) (sym g.parents) is.capacity;
@@ -197,7 +201,8 @@ not_opened old s i tier size k ms is errand place within =
     (λ (z : ancestor s.parents tier k ≡ 0). ap (λ n. is_being_opened (word_at s.words n)) z ∙ is.core.tally.root_claims)
     (λ (n : ancestor s.parents tier k ≢ 0).
     let none : claims_on s.parents tier k t ≡ 0 = unclaimed s.parents tier k k is.core.shape place (omega arith) (omega arith) in
-    let own : claim_share s.parents t (view_at s.views i) ≡ 0 = ap (errand_claims s.parents t) errand ∙ own_claims s.parents tier k size t none in
+    let own : claim_share s.parents t (view_at s.views i) ≡ 0 =
+    ap (errand_claims s.parents t) errand ∙ own_claims s.parents tier k size t none in
     let zero_sum : sum_by (claim_share s.parents t) s.views ≡ 0 = sum_zero (claim_share s.parents t) s.views
     (all_from (λ v. claim_share s.parents t v ≡ 0) (new_view 0) s.views (λ j h. ⊎_elim
     (λ (q : j ≡ i). ap (λ m. claim_share s.parents t (view_at s.views m)) q ∙ own)
@@ -234,7 +239,8 @@ empty_admits : (w : Fields) (more : ℕ) → w.parties ≡ 0 → w.unarrived ≡
 empty_admits w more none one capacity =
     let a : has_no_room more w ≡ false = not_yet 65535 (w.parties + more) capacity in
     let b : eqb w.unarrived 0 ≡ false = ne_eqb w.unarrived 0 (omega arith) in
-    let c : is_being_opened w ≡ false = ap (λ x. cond x (eqb w.unarrived 2) false) (eq-eqb w.parties 0 none) ∙ ne_eqb w.unarrived 2 (omega arith) in
+    let c : is_being_opened w ≡ false =
+    ap (λ x. cond x (eqb w.unarrived 2) false) (eq-eqb w.parties 0 none) ∙ ne_eqb w.unarrived 2 (omega arith) in
     ap (λ x. x || ((eqb w.unarrived 0) || is_being_opened w)) a ∙ (ap (λ x. x || is_being_opened w) b ∙ c)
 
 -- it refuses nothing if it is fresh and has room
@@ -256,10 +262,12 @@ seek_goes old s i tier size k ms is e q =
     let now : ℕ = root_phase old.words in
     let fits = fitting s i (ToSeek tier size) is.core is.known e in
     let errand : (view_at s.views i).errand ≡ opening tier k Seeking size = fits.0 ∙ ap (λ n. opening tier n Seeking size) (sym q) in
-    let within : t < length s.words = subst (λ (n : ℕ). t < n) (sym is.core.tally.long) (ancestor_within s.parents tier k is.core.shape fits.1.place) in
+    let within : t < length s.words =
+    subst (λ (n : ℕ). t < n) (sym is.core.tally.long) (ancestor_within s.parents tier k is.core.shape fits.1.place) in
     let plain = not_opened old s i tier size k ms is errand fits.1.place within in
     let capacity = room_at old s i tier size k t ms is errand fits.1.none within in
-    let fresh : IsFreshWord now w = ⊎_elim (λ (f : IsFreshWord now w). f) (λ (o : is_being_opened w ≡ true). not_both (is_being_opened w) o plain)
+    let fresh : IsFreshWord now w =
+    ⊎_elim (λ (f : IsFreshWord now w). f) (λ (o : is_being_opened w ≡ true). not_both (is_being_opened w) o plain)
     (is.words t within) in
     let claim : Turn = claim_turn tier k size t in
     let join : Turn = join_turn tier k size t w in
@@ -294,7 +302,8 @@ settle_goes old s i tier size there k many ms is q placed g =
     (answer_is s i ms (settle_turn s.parents (view_at s.views i) (Opening there (suc k) Joined many)) g) placed.phase)
 
 -- the look
-look_goes : (old s : State) (i tier size : ℕ) (ms : List Moment) → Joining old s i tier size ms → call_at s.calls i ≡ Begun (call.Join tier size)
+look_goes : (old s : State) (i tier size : ℕ) (ms : List Moment) → Joining old s i tier size ms
+    → call_at s.calls i ≡ Begun (call.Join tier size)
     → Joining old (after s (Go i)) i tier size (own_imaged i s (Go i) ++ ms)
 look_goes old s i tier size ms is e =
     let w : Fields = word_at s.words 0 in
@@ -317,7 +326,8 @@ look_goes old s i tier size ms is e =
     (gone s i (Begun (call.Join tier size)) is.core is.known e refl)
 
 -- each step of the join
-step_goes : (old s : State) (i tier size : ℕ) (ms : List Moment) (p : Progress) → Joining old s i tier size ms → call_at s.calls i ≡ p → is_idle p ≡ false
+step_goes : (old s : State) (i tier size : ℕ) (ms : List Moment) (p : Progress) → Joining old s i tier size ms → call_at s.calls i ≡ p
+    → is_idle p ≡ false
     → Stands tier size (root_phase old.words) ms p (view_at s.views i)
     → (is_active p ≡ true) × Joining old (after s (Go i)) i tier size (own_imaged i s (Go i) ++ ms)
 step_goes old s i tier size ms Idle is e going stands = not_both true refl going
@@ -339,7 +349,8 @@ step_goes old s i tier size ms (Due own) is e going stands = absurd stands
 step_goes old s i tier size ms (Refreshing has_moved) is e going stands = absurd stands
 
 -- when the join is over the tree is fresh
-over : (old s : State) (i tier size : ℕ) (ms : List Moment) → Joining old s i tier size ms → call_at s.calls i ≡ Idle → IsJoined old s i tier size ms
+over : (old s : State) (i tier size : ℕ) (ms : List Moment) → Joining old s i tier size ms → call_at s.calls i ≡ Idle
+    → IsJoined old s i tier size ms
 over old s i tier size ms is e =
     let stands : Stands tier size (root_phase old.words) ms Idle (view_at s.views i) =
     subst (λ (p : Progress). Stands tier size (root_phase old.words) ms p (view_at s.views i)) e is.stands in
@@ -382,7 +393,9 @@ runs_out (suc n) old s i tier size ms is left = ⊎_elim
     ∙ ap (λ b. cond b (at i s (turn_at s i) ∷ []) []) may in
     let kept = runs_out n old s i tier size ms is
     (subst (λ (p : Progress). Within s.parents s.words p (view_at s.views i) n) (sym rest) tt) in
-    subst (λ (x : State). IsJoined old (run_of (replicate n (Takes (Go i))) x) i tier size (imaged i (replicate n (Takes (Go i))) x (own_imaged i s (Go i) ++ ms))) (sym here)
+    subst
+    (λ (x : State). IsJoined old (run_of (replicate n (Takes (Go i))) x) i tier size (imaged i (replicate n (Takes (Go i))) x (own_imaged i s (Go i) ++ ms)))
+    (sym here)
     (subst (λ (xs : List Moment). IsJoined old (run_of (replicate n (Takes (Go i))) s) i tier size (imaged i (replicate n (Takes (Go i))) s (xs ++ ms))) (sym none) kept))
     (λ (e : is_idle (call_at s.calls i) ≡ false).
     let next = step_goes old s i tier size ms (call_at s.calls i) is refl e is.stands in
@@ -399,10 +412,12 @@ runs_out (suc n) old s i tier size ms is left = ⊎_elim
     (either (is_idle (call_at s.calls i)))
 
 -- the join begins
-may_join : (s : State) (i tier size : ℕ) → i < length s.views → call_at s.calls i ≡ Idle → (view_at s.views i).size ≡ 0 → tier < length s.parents
+may_join : (s : State) (i tier size : ℕ) → i < length s.views → call_at s.calls i ≡ Idle → (view_at s.views i).size ≡ 0
+    → tier < length s.parents
     → may_begin s i (call.Join tier size) ≡ true
 may_join s i tier size h idle none place =
-    ap (λ b. b && (is_idle (call_at s.calls i) && (ltb tier (length s.parents) && eqb (view_at s.views i).size 0))) (lt-ltb i (length s.views) h)
+    ap (λ b. b && (is_idle (call_at s.calls i) && (ltb tier (length s.parents) && eqb (view_at s.views i).size 0)))
+    (lt-ltb i (length s.views) h)
     ∙ (ap (λ p. is_idle p && (ltb tier (length s.parents) && eqb (view_at s.views i).size 0)) idle
     ∙ (ap (λ b. b && eqb (view_at s.views i).size 0) (lt-ltb tier (length s.parents) place) ∙ eq-eqb (view_at s.views i).size 0 none))
 
@@ -416,7 +431,8 @@ last_alike [] (n ∷ ns) h = absurd h
 last_alike (m ∷ ms) [] h = absurd h
 last_alike (m ∷ ms) (n ∷ ns) h = ap (λ (x : Moment). Some x.turn.answer) h.0.is
 
-joined_alike : (old new : State) (i tier size : ℕ) (ms ns : List Moment) → Alikes ms ns → IsJoined old new i tier size ns → IsJoined old new i tier size ms
+joined_alike : (old new : State) (i tier size : ℕ) (ms ns : List Moment) → Alikes ms ns → IsJoined old new i tier size ns
+    → IsJoined old new i tier size ms
 joined_alike old new i tier size ms ns h is = record {
   answer = last_alike ms ns h ∙ is.answer;
   fresh = is.fresh;
@@ -432,7 +448,8 @@ pub joins_are_done_alone : JoinsAreDoneAlone
 joins_are_done_alone s i tier size tiers core fresh h none place some capacity =
     let c : Call = call.Join tier size in
     let may = may_join s i tier size h (fresh.idle i h) none place in
-    let here : after s (Begin i (call.Join tier size)) ≡ begun s i (call.Join tier size) = ap (λ b. cond b (begun s i (call.Join tier size)) s) may in
+    let here : after s (Begin i (call.Join tier size)) ≡ begun s i (call.Join tier size) =
+    ap (λ b. cond b (begun s i (call.Join tier size)) s) may in
     let call_is : call_at (begun s i (call.Join tier size)).calls i ≡ Begun (call.Join tier size) =
     get_or-set_same s.calls i (Begun (call.Join tier size)) Idle (let l = core.long in omega arith) in
     let start : Joining s (begun s i (call.Join tier size)) i tier size [] = record {
@@ -461,9 +478,11 @@ joins_are_done_alone s i tier size tiers core fresh h none place some capacity =
 pub new_trees_are_fresh : NewTreesAreFresh
 new_trees_are_fresh ps phase plan shape =
     let each : (t : ℕ) → t < length (empty_words ps phase) → word_at (empty_words ps phase) t ≡ empty_word phase =
-    λ t h. get_or-replicate (length ps) t (empty_word phase) blank (let a = length-replicate (length ps) (empty_word phase) in omega arith) in
+    λ t h. get_or-replicate (length ps) t (empty_word phase) blank
+    (let a = length-replicate (length ps) (empty_word phase) in omega arith) in
     let some = shape.some in
-    let first : word_at (empty_words ps phase) 0 ≡ empty_word phase = each 0 (let a = length-replicate (length ps) (empty_word phase) in omega arith) in
+    let first : word_at (empty_words ps phase) 0 ≡ empty_word phase =
+    each 0 (let a = length-replicate (length ps) (empty_word phase) in omega arith) in
     record {
       going = ap (λ (w : Fields). w.ended) first;
       words = λ t h. inl (ap (λ (w : Fields). w.parties) (each t h), ap (λ (w : Fields). w.unarrived) (each t h));

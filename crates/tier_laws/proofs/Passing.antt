@@ -23,10 +23,12 @@ refresh_turn t here = record { kind = Refresh; tier = t; next = here; answer = G
 
 -- the step itself, after which the token owes this
 abbrev pub passed_turn : Passage → ℕ → Passage → Kind → Fields → View → Errand → Turn
-passed_turn own t passage kind w v e = record { kind = kind; tier = t; next = goes_on own e; answer = reported v.phase (passed t passage w).parties e }
+passed_turn own t passage kind w v e =
+    record { kind = kind; tier = t; next = goes_on own e; answer = reported v.phase (passed t passage w).parties e }
 
 -- What holds of the look at an ended root, of the refresh, and of the step by what its token owes afterwards, holds of the turn.
-pub by_passing : (P : Turn → Type 0) (ps : List ℕ) (own : Passage) (t : ℕ) (passage : Passage) (kind : Kind) (here : Progress) (over : Played) (w : Fields) (v : View)
+pub by_passing : (P : Turn → Type 0) (ps : List ℕ) (own : Passage) (t : ℕ) (passage : Passage) (kind : Kind) (here : Progress)
+    (over : Played) (w : Fields) (v : View)
     → (w.ended ≡ true → P (last_look over))
     → (w.ended ≡ false → lags w v ≡ true → P (refresh_turn t here))
     → (w.ended ≡ false → owed (parent_of ps t) t passage w ≡ Rest → P (passed_turn own t passage kind w v Rest))

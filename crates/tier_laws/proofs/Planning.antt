@@ -36,15 +36,18 @@ use Rattle.tier_laws.specs.Plan.{flat_ends, IsPlanned, AdvancesArePlanned, TheLa
 use Rattle.tier_steps.proofs.Awaits.{quiet_trees_await_somebody as at_rest}
 
 -- what a token finds that may advance the root
-pub found : (s : State) (i : ℕ) (r : Turn) (ends : Bool) → IsCore s → i < length s.views → MayPlay s i r → r.kind ≡ Advance ends → IsReady s.words s.views
+pub found : (s : State) (i : ℕ) (r : Turn) (ends : Bool) → IsCore s → i < length s.views → MayPlay s i r → r.kind ≡ Advance ends
+    → IsReady s.words s.views
 found s i r ends core h may e =
     let step : IsStep s.parents s.words (take i s.views) (view_at s.views i) (drop (suc i) s.views) r.tier (Advance ends) =
-    subst (λ (k : Kind). IsStep s.parents s.words (take i s.views) (view_at s.views i) (drop (suc i) s.views) r.tier k) e (is_step s i r core h may) in
+    subst (λ (k : Kind). IsStep s.parents s.words (take i s.views) (view_at s.views i) (drop (suc i) s.views) r.tier k) e
+    (is_step s i r core h may) in
     subst (λ (vs : List View). IsReady s.words vs) (sym (around s.views i (new_view 0) h))
     (advances_are_due s.parents s.words (take i s.views) (view_at s.views i) (drop (suc i) s.views) r.tier ends step)
 
 -- who advances owes it
-pub advancing : (s : State) (i : ℕ) (r : Turn) (ends : Bool) → MayPlay s i r → r.kind ≡ Advance ends → (view_at s.views i).errand ≡ Advancing
+pub advancing : (s : State) (i : ℕ) (r : Turn) (ends : Bool) → MayPlay s i r → r.kind ≡ Advance ends
+    → (view_at s.views i).errand ≡ Advancing
 advancing s i r ends may e =
     let n : Needs s.parents (Advance ends) r.tier (word_at s.words r.tier) (view_at s.views i) =
     subst (λ (k : Kind). Needs s.parents k r.tier (word_at s.words r.tier) (view_at s.views i)) e may.needs in n.1.errand
@@ -62,7 +65,8 @@ active_owes ps Idle v e fits = not_both false e refl
 active_owes ps (Begun c) v e fits = rests v.errand fits.0
 active_owes ps (ToSeek tier size) v e fits = λ q. opens tier (claimed_by v.errand) size Seeking (sym fits.0 ∙ q)
 active_owes ps Settling v e fits = λ q. absurd (let a : Opening fits.0 (suc fits.1) Joined fits.2 ≡ Advancing = sym fits.3 ∙ q in cc)
-active_owes ps (ToGiveBack answer) v e fits = λ q. absurd (let a : Opening fits.0 (suc fits.1) GoingBack fits.2 ≡ Advancing = sym fits.3 ∙ q in cc)
+active_owes ps (ToGiveBack answer) v e fits =
+    λ q. absurd (let a : Opening fits.0 (suc fits.1) GoingBack fits.2 ≡ Advancing = sym fits.3 ∙ q in cc)
 active_owes ps (Passing passage) v e fits = rests v.errand fits.0
 active_owes ps (Owing own) v e fits = λ q. absurd (let a : Climbing fits.0 fits.1 ≡ Advancing = sym fits.2 ∙ q in cc)
 active_owes ps (Due own) v e fits = not_both false e refl
@@ -135,7 +139,9 @@ advances_are_planned s (Go i) ends core going e =
     (advancing s i (turn_at s i) ends (turn_may s i core a.0 a.1) (kind_of i (turn_at s i).kind ends q))))
     (λ _ q. no_label ends q) e
 advances_are_planned s (Finish i) ends core going e =
-    by_test (λ b. b ≡ may_finish s i → cond b (label i (finish_at s i (plan_ends s)).kind) None ≡ Some (flat.Advance ends) → IsPlanned s ends) (may_finish s i)
+    by_test
+    (λ b. b ≡ may_finish s i → cond b (label i (finish_at s i (plan_ends s)).kind) None ≡ Some (flat.Advance ends) → IsPlanned s ends)
+    (may_finish s i)
     (λ may _ q. let ready = ready_last s i core going may in
     let k : Advance (plan_ends s) ≡ Advance ends = sym (last_kind s i going) ∙ kind_of i (finish_at s i (plan_ends s)).kind ends q in
     let same : plan_ends s ≡ ends = ap (λ x. ends_of (label i x) true) k in

@@ -141,7 +141,8 @@ shallow ps tier tiers h =
     let some = path.some in (
       length (path_of ps tier) - 1,
       omega arith,
-      sym (ancestors_are_on_the_path ps tier (path_of ps tier) path.first path.parent (length (path_of ps tier) - 1) (omega arith)) ∙ path.last,
+      sym (ancestors_are_on_the_path ps tier (path_of ps tier) path.first path.parent (length (path_of ps tier) - 1) (omega arith))
+          ∙ path.last,
     )
 
 some_step : (c : Call) → 0 < most_steps c
@@ -152,7 +153,8 @@ some_step call.Poll = omega arith
 some_step call.Force = omega arith
 
 -- a call that isn't over has a step left
-pub some_left : (ps : List ℕ) (ws : List Fields) (p : Progress) (v : View) (n : ℕ) → is_idle p ≡ false → CallFits ps p v → Within ps ws p v n → 0 < n
+pub some_left : (ps : List ℕ) (ws : List Fields) (p : Progress) (v : View) (n : ℕ) → is_idle p ≡ false → CallFits ps p v
+    → Within ps ws p v n → 0 < n
 some_left ps ws Idle v n going fits left = not_both true refl going
 some_left ps ws (Begun c) v n going fits left = let a = some_step c in omega arith
 some_left ps ws (ToSeek tier size) v n going fits left = let a = left.left in let b = left.reached in omega arith
@@ -168,7 +170,8 @@ some_left ps ws (Refreshing has_moved) v n going fits left = omega arith
 -- what is left after a turn of the token
 abbrev pub Lowers : State → ℕ → ℕ → Turn → Type 0
 Lowers s i n r = MayPlay s i r
-    → Within s.parents (words_after s.words r.kind r.tier (view_at s.views i)) r.next (stepped_view s.parents s.words r.kind r.tier (view_at s.views i)) (n - 1)
+    → Within s.parents (words_after s.words r.kind r.tier (view_at s.views i)) r.next
+    (stepped_view s.parents s.words r.kind r.tier (view_at s.views i)) (n - 1)
 
 claims_kept : (tier k size : ℕ) (stage : OpeningStage) → claimed_by (opening tier k stage size) ≡ k
 claims_kept tier zero size stage = refl
@@ -186,7 +189,8 @@ refused_errand : (t : ℕ) (w : Fields) (v : View) → w.ended ≡ false → (re
 refused_errand zero w v going = ap given_up (looked_open w v going)
 refused_errand (suc t) w v going = refl
 
-backs : (ps : List ℕ) (ws : List Fields) (k n : ℕ) (a : Played) (v : View) → claimed_by v.errand ≡ k → k ≤ n → Within ps ws (giving_back k a) v n
+backs : (ps : List ℕ) (ws : List Fields) (k n : ℕ) (a : Played) (v : View) → claimed_by v.errand ≡ k → k ≤ n
+    → Within ps ws (giving_back k a) v n
 backs ps ws zero n a v e h = tt
 backs ps ws (suc k) n a v e h = omega arith
 
@@ -205,7 +209,8 @@ seek_lowers s i n tier k size t core within due left =
     by_search (Lowers s i n) tier k size t w v
     (λ e _. let z = ended_root s t core within e in
     backs s.parents (words_after s.words Look 0 v) k (n - 1) (end_shown w) (looked (word_at s.words 0) v)
-    (ap claimed_by (looked_ended (word_at s.words 0) v (ap (λ m. (word_at s.words m).ended) (sym z) ∙ e) ∙ ap dropped due.errand) ∙ claims_dropped tier k size)
+    (ap claimed_by (looked_ended (word_at s.words 0) v (ap (λ m. (word_at s.words m).ended) (sym z) ∙ e) ∙ ap dropped due.errand)
+    ∙ claims_dropped tier k size)
     most)
     (λ going _ _. backs s.parents (words_after s.words (Refuse tier k size) t v) k (n - 1) (refusal t (added k size) p w) (refused t w v)
     (ap claimed_by (refused_errand t w v going ∙ ap given_up due.errand) ∙ claims_given_up tier k size) most)
@@ -223,7 +228,8 @@ seek_lowers s i n tier k size t core within due left =
     (claims_kept tier k size Joined) most)
 
 -- a step that settles a claimed tier, or gives it back
-settle_lowers : (s : State) (i n tier k size : ℕ) → (view_at s.views i).errand ≡ Opening tier (suc k) Joined size → claimed_by (view_at s.views i).errand ≤ n
+settle_lowers : (s : State) (i n tier k size : ℕ) → (view_at s.views i).errand ≡ Opening tier (suc k) Joined size
+    → claimed_by (view_at s.views i).errand ≤ n
     → Lowers s i n (settle_turn s.parents (view_at s.views i) (view_at s.views i).errand)
 settle_lowers s i n tier k size q left =
     let v : View = view_at s.views i in
@@ -239,7 +245,8 @@ give_back_lowers s i n tier k size a q left =
     let b : claimed_by (view_at s.views i).errand ≡ suc k = ap claimed_by q in
     subst (λ (e : Errand). Lowers s i n (give_back_turn s.parents a e)) (sym q)
     (λ _. backs s.parents (words_after s.words (SettleBack tier k size) (ancestor s.parents tier k) v) k (n - 1) a
-    (stepped_view s.parents s.words (SettleBack tier k size) (ancestor s.parents tier k) v) (claims_kept tier k size GoingBack) (omega arith))
+    (stepped_view s.parents s.words (SettleBack tier k size) (ancestor s.parents tier k) v) (claims_kept tier k size GoingBack)
+    (omega arith))
 
 -- The step that passes a tier: it leaves the phases of all tiers and the token's, and what the token owes by the word before.
 pub record Steps (s : State) (i t : ℕ) (passage : Passage) (kind : Kind) : Type 0 where
@@ -247,9 +254,11 @@ pub record Steps (s : State) (i t : ℕ) (passage : Passage) (kind : Kind) : Typ
   pub current : (view_at s.views i).phase ≡ root_phase s.words
   pub word : (word_after kind t (word_at s.words t) (view_at s.views i)).phase ≡ (word_at s.words t).phase
   pub phase : (stepped_view s.parents s.words kind t (view_at s.views i)).phase ≡ (view_at s.views i).phase
-  pub errand : (stepped_view s.parents s.words kind t (view_at s.views i)).errand ≡ owed (parent_of s.parents t) t passage (word_at s.words t)
+  pub errand : (stepped_view s.parents s.words kind t (view_at s.views i)).errand
+      ≡ owed (parent_of s.parents t) t passage (word_at s.words t)
 
-kept_phases : (ws : List Fields) (t : ℕ) (w : Fields) (phase : ℕ) → t < length ws → w.phase ≡ (word_at ws t).phase → NoneFallsBehind phase ws (set ws t w)
+kept_phases : (ws : List Fields) (t : ℕ) (w : Fields) (phase : ℕ) → t < length ws → w.phase ≡ (word_at ws t).phase
+    → NoneFallsBehind phase ws (set ws t w)
 kept_phases ws t w phase h e u k = ⊎_elim
     (λ (q : u ≡ t). ap (λ n. (word_at (set ws t w) n).phase) q
     ∙ (ap (λ (x : Fields). x.phase) (get_or-set_same ws t w blank h) ∙ (e ∙ (ap (λ n. (word_at ws n).phase) (sym q) ∙ k))))
@@ -263,9 +272,11 @@ above_it ps ws phase t n zero below root left = absurd (omega arith)
 above_it ps ws phase t n (suc levels) below root left = (levels, root, left)
 
 -- a party passes a tier, or the tier is refreshed first, or the tree has ended
-pass_lowers : (s : State) (i n : ℕ) (own : Passage) (t : ℕ) (passage : Passage) (kind : Kind) (here : Progress) (over : Played) → Steps s i t passage kind
+pass_lowers : (s : State) (i n : ℕ) (own : Passage) (t : ℕ) (passage : Passage) (kind : Kind) (here : Progress) (over : Played)
+    → Steps s i t passage kind
     → ClimbsWithin s.parents s.words (view_at s.views i).phase t n
-    → ((ws : List Fields) (m : ℕ) → ClimbsWithin s.parents ws (view_at s.views i).phase t m → Within s.parents ws here (view_at s.views i) m)
+    → ((ws : List Fields) (m : ℕ) → ClimbsWithin s.parents ws (view_at s.views i).phase t m
+    → Within s.parents ws here (view_at s.views i) m)
     → Lowers s i n (pass_turn s.parents own t passage kind here over (word_at s.words t) (view_at s.views i))
 pass_lowers s i n own t passage kind here over is left stays =
     let w : Fields = word_at s.words t in
@@ -298,7 +309,8 @@ pass_lowers s i n own t passage kind here over is left stays =
       left = (let a = up.2 in omega arith);
     }))
 
-own_steps : (s : State) (i : ℕ) (passage : Passage) → (view_at s.views i).tier < length s.words → (view_at s.views i).phase ≡ root_phase s.words
+own_steps : (s : State) (i : ℕ) (passage : Passage) → (view_at s.views i).tier < length s.words
+    → (view_at s.views i).phase ≡ root_phase s.words
     → Steps s i (view_at s.views i).tier passage (own_kind passage)
 own_steps s i Arrival within current = record {
   within = within;
@@ -316,7 +328,8 @@ own_steps s i Departure within current = record {
 }
 
 -- the first step of a call
-first_pass : (s : State) (i n : ℕ) (passage : Passage) (answer : Played) (b c : Bool) → IsTiers s.parents → (view_at s.views i).tier < length s.parents → 15 ≤ n
+first_pass : (s : State) (i n : ℕ) (passage : Passage) (answer : Played) (b c : Bool) → IsTiers s.parents
+    → (view_at s.views i).tier < length s.parents → 15 ≤ n
     → Lowers s i n record { kind = Look; tier = 0; next = cond b Idle (cond c Idle (Passing passage)); answer = answer }
 first_pass s i n passage answer true c tiers place left = λ _. tt
 first_pass s i n passage answer false true tiers place left = λ _. tt
@@ -337,7 +350,8 @@ first_poll s i n answer false true d e left = λ _. tt
 first_poll s i n answer false false true e left = λ _. (let a = left in omega arith)
 first_poll s i n answer false false false e left = λ _. tt
 
-seeks_first : (ps : List ℕ) (tier n : ℕ) (e : Errand) → IsTiers ps → tier < length ps → 14 ≤ n → e ≡ Rest → SeeksWithin ps tier (claimed_by e) (n - 1)
+seeks_first : (ps : List ℕ) (tier n : ℕ) (e : Errand) → IsTiers ps → tier < length ps → 14 ≤ n → e ≡ Rest
+    → SeeksWithin ps tier (claimed_by e) (n - 1)
 seeks_first ps tier n e tiers place left q =
     let deep = shallow ps tier tiers place in
     let none : claimed_by e ≡ 0 = ap claimed_by q in
@@ -345,7 +359,8 @@ seeks_first ps tier n e tiers place left q =
 
 first_join : (s : State) (i n tier size : ℕ) (answer : Played) (b c : Bool) → IsTiers s.parents → tier < length s.parents
     → (view_at s.views i).errand ≡ Rest → 14 ≤ n
-    → Lowers s i n record { kind = cond b Look (cond c (Refuse 0 0 size) Look); tier = 0; next = cond b Idle (ToSeek tier size); answer = answer }
+    → Lowers s i n
+    record { kind = cond b Look (cond c (Refuse 0 0 size) Look); tier = 0; next = cond b Idle (ToSeek tier size); answer = answer }
 first_join s i n tier size answer true c tiers place rest left = λ _. tt
 first_join s i n tier size answer false true tiers place rest left = λ _.
     seeks_first s.parents tier n (refused 0 (word_at s.words 0) (view_at s.views i)).errand tiers place left
@@ -392,7 +407,8 @@ turn_lowers s i n (Passing passage) tiers core h active fits left =
     let some : (view_at s.views i).arrived < (view_at s.views i).size = fits.1 in
     let current = unarrived_is_current s.parents (root_phase s.words) (word_at s.words 0).ended (view_at s.views i) fit fits.1 in
     let within : v.tier < length s.words = subst (λ (m : ℕ). v.tier < m) (sym core.tally.long) (fit.placed (omega arith)) in
-    pass_lowers s i n passage v.tier passage (own_kind passage) (Passing passage) (end_shown (word_at s.words v.tier)) (own_steps s i passage within current) left
+    pass_lowers s i n passage v.tier passage (own_kind passage) (Passing passage) (end_shown (word_at s.words v.tier))
+    (own_steps s i passage within current) left
     (λ ws m is. is)
 turn_lowers s i n (Owing own) tiers core h active fits left =
     let v : View = view_at s.views i in
@@ -465,7 +481,8 @@ left_stays s i j n Settling r core h k may fits left = left
 left_stays s i j n (ToGiveBack answer) r core h k may fits left = left
 left_stays s i j n (Passing passage) r core h k may fits left =
     let v : View = view_at s.views i in
-    let current = unarrived_is_current s.parents (root_phase s.words) (word_at s.words 0).ended (view_at s.views i) (fits_at s i core h) fits.1 in
+    let current =
+    unarrived_is_current s.parents (root_phase s.words) (word_at s.words 0).ended (view_at s.views i) (fits_at s i core h) fits.1 in
     climbs_still s.parents s.words (words_after s.words r.kind r.tier (view_at s.views j)) v.phase v.tier n
     (others_keep s j r v.phase core k may current
     (λ going. awaited_field s i core going (is_awaited s i core h fits.0 fits.1))) left
@@ -474,7 +491,9 @@ left_stays s i j n (Owing own) r core h k may fits left =
     let fit : ErrandFits s.parents (root_phase s.words) (view_at s.views i) (Climbing fits.0 fits.1) =
     subst (λ (x : Errand). ErrandFits s.parents (root_phase s.words) (view_at s.views i) x) fits.2 (fits_at s i core h).errand in
     let late : 0 < late_share (root_phase s.words) s.parents fits.0 (view_at s.views i) =
-    (let a = climbing_late (root_phase s.words) s.parents fits.0 fits.1 fits.0 (view_at s.views i) fits.2 in let b = only_here fits.0 1 in omega arith) in
+    (let a = climbing_late (root_phase s.words) s.parents fits.0 fits.1 fits.0 (view_at s.views i) fits.2 in
+    let b = only_here fits.0 1 in
+    omega arith) in
     climbs_still s.parents s.words (words_after s.words r.kind r.tier (view_at s.views j)) v.phase (climbs_to v.errand) n
     (others_keep s j r v.phase core k may fit.0 (λ going. held s i fits.0 core h going fit.1 late)) left
 left_stays s i j n (Due own) r core h k may fits left = left

@@ -80,7 +80,8 @@ own_alike i s f (Finish j) core alike =
     (λ e. let a = known_due s j e in
     turn_alike s f j (finish_at s j (plan_ends s)) core alike a.0 (finish_may s j (plan_ends s) core a.0 a.1))
 
-pub reached : (i : ℕ) (events : List Event) (s : State) (f : Flat) (past past' : List Moment) → IsCore s → AreEvents events → LooksAlike f (flat_of s)
+pub reached : (i : ℕ) (events : List Event) (s : State) (f : Flat) (past past' : List Moment) → IsCore s → AreEvents events
+    → LooksAlike f (flat_of s)
     → Alikes past past' → Alikes (moments i events s f past) (imaged i events s past')
 reached i [] s f past past' core are alike h = h
 reached i (Takes x ∷ events) s f past past' core are alike h =
@@ -95,7 +96,8 @@ reached i (Enters ∷ events) s f past past' core are alike h =
 pub carried : (P : Moment → Type 0) (m n : Moment) → (a : Alike m n) → P (beside n a.before_ a.after_) → P m
 carried P m n a h = subst P (sym a.is) h
 
-any_cases : {X : Type 0} (P : X → Type 0) (x : X) (xs : List X) (k : ℕ) (y : X) → k < length (x ∷ xs) → get_or (x ∷ xs) k y ≡ y → P y → P x ⊎ Any P xs
+any_cases : {X : Type 0} (P : X → Type 0) (x : X) (xs : List X) (k : ℕ) (y : X) → k < length (x ∷ xs) → get_or (x ∷ xs) k y ≡ y → P y
+    → P x ⊎ Any P xs
 any_cases P x xs zero y h e p = inl (subst P (sym e) p)
 any_cases P x xs (suc k) y h e p = inr (k, y, (omega arith), e, p)
 
@@ -116,7 +118,8 @@ counted : (token : ℕ) (c : Call) (now : ℕ) → Tells_ (IsCounted token c now
 counted token c now n f g before afterwards is = record { label = is.label; phase = before.phase ∙ is.phase }
 
 first_look : (token : ℕ) (c : Call) (now : ℕ) → Tells_ (IsFirstLook token c now) (IsFirstLook token c now)
-first_look token c now n f g before afterwards is = record { first = is.first; going = before.ended ∙ is.going; phase = before.phase ∙ is.phase }
+first_look token c now n f g before afterwards is =
+    record { first = is.first; going = before.ended ∙ is.going; phase = before.phase ∙ is.phase }
 
 -- the members of a token, in the phase of both
 same_members : (token : ℕ) (f g : Flat) → LooksAlike f g → g.ended ≡ false → members_of token f.members ≡ members_of token g.members
@@ -138,7 +141,9 @@ awaiting token now n f g before afterwards is =
 all_here : (token : ℕ) (c : Call) (now : ℕ) → Tells_ (AreAllHere token c now) (AreAllHere token c now)
 all_here token c now n f g before afterwards is = record {
   look = first_look token c now n f g before afterwards is.look;
-  all = same_arrived token now f n.before before is.look.going is.look.phase ∙ (is.all ∙ sym (same_members token f n.before before is.look.going));
+  all =
+      same_arrived token now f n.before before is.look.going is.look.phase
+      ∙ (is.all ∙ sym (same_members token f n.before before is.look.going));
 }
 
 waiting : (token : ℕ) (c : Call) → Tells_ (λ n. AreAllHere token c n.before.phase n) (λ n. AreAllHere token c n.before.phase n)
@@ -218,7 +223,8 @@ seen_alike (m ∷ ms) (n ∷ ns) h =
 
 done_alike : (token : ℕ) (c : Call) (now : ℕ) (ms ns : List Moment) → Alikes ms ns → IsDoneIn token c now ns → IsDoneIn token c now ms
 done_alike token (call.Join tier size) now ms ns h d =
-    any_alike (IsCounted token (call.Join tier size) now) (IsCounted token (call.Join tier size) now) (counted token (call.Join tier size) now) ms ns h d
+    any_alike (IsCounted token (call.Join tier size) now) (IsCounted token (call.Join tier size) now)
+    (counted token (call.Join tier size) now) ms ns h d
 done_alike token call.Arrive now ms ns h d =
     any_alike (IsCounted token call.Arrive now) (IsCounted token call.Arrive now) (counted token call.Arrive now) ms ns h d
 done_alike token call.Leave now ms ns h d =
@@ -233,7 +239,8 @@ tells_alike token c m n past past' (Done phase) one h t = done_alike token c pha
 tells_alike token c m n past past' (Passed phase) one h t =
     any_alike (HasPassed token phase) (HasPassed token phase) (has_passed token phase) (m ∷ past) (n ∷ past') (one, h) t
 tells_alike token c m n past past' Waiting one h t =
-    any_alike (λ x. AreAllHere token c x.before.phase x) (λ x. AreAllHere token c x.before.phase x) (waiting token c) (m ∷ past) (n ∷ past') (one, h) t
+    any_alike (λ x. AreAllHere token c x.before.phase x) (λ x. AreAllHere token c x.before.phase x) (waiting token c) (m ∷ past) (n ∷ past')
+    (one, h) t
 tells_alike token c m n past past' (Held phase why) one h t = (
   t.0 ∙ sym (seen_alike (m ∷ past) (n ∷ past') (one, h)),
   any_alike (IsHeldBy token c phase why) (IsHeldBy token c phase why) (held_by token c phase why) (m ∷ past) (n ∷ past') (one, h) t.1,
@@ -290,7 +297,8 @@ own_like i s f (Finish j) core alike = one_like i j (may_finish s j) (moment_of 
     (λ e. let a = known_due s j e in
     turn_like s f j (finish_at s j (plan_ends s)) core alike a.0 (finish_may s j (plan_ends s) core a.0 a.1))
 
-all_like : (i : ℕ) (events : List Event) (s : State) (f : Flat) (past : List Moment) → IsCore s → AreEvents events → LooksAlike f (flat_of s)
+all_like : (i : ℕ) (events : List Event) (s : State) (f : Flat) (past : List Moment) → IsCore s → AreEvents events
+    → LooksAlike f (flat_of s)
     → AllLike i past → AllLike i (moments i events s f past)
 all_like i [] s f past core are alike h = h
 all_like i (Takes x ∷ events) s f past core are alike h =

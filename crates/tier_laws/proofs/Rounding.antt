@@ -49,7 +49,8 @@ going_step f step going = ap (λ b. cond b f (taken step f)) going
 -- a token whose members have all arrived in one phase is awaited in another
 absent_next : (root next : ℕ) (v : View) → IsDone root v → root ≢ next → 0 < v.size → 0 < absent next v
 absent_next root next v done other some =
-    let a : absent next v ≡ v.size = ap (λ b. cond b (v.size - v.arrived) v.size) (ne_eqb v.phase next (λ e. other (sym (done.phase some) ∙ e))) in
+    let a : absent next v ≡ v.size =
+    ap (λ b. cond b (v.size - v.arrived) v.size) (ne_eqb v.phase next (λ e. other (sym (done.phase some) ∙ e))) in
     omega arith
 
 pub advances_begin_the_phase : AdvancesBeginThePhase
@@ -67,7 +68,8 @@ advances_begin_the_phase s i core going may =
     let phase : (flat_of (after s (Finish i))).phase ≡ next_phase_of (root_phase s.words) = sym alike.phase in
     let differs : root_phase s.words ≢ next_phase_of (root_phase s.words) =
     λ e. next_differs (root_phase s.words) (core.tally.legal 0 core.tally.some).phase (sym e) in
-    let here : after s (Finish i) ≡ played s i (finish_at s i (plan_ends s)) = ap (λ b. cond b (played s i (finish_at s i (plan_ends s))) s) may in
+    let here : after s (Finish i) ≡ played s i (finish_at s i (plan_ends s)) =
+    ap (λ b. cond b (played s i (finish_at s i (plan_ends s))) s) may in
     let own : view_at (after s (Finish i)).views i ≡ stepped_view s.parents s.words (Advance (flat_ends s)) 0 (view_at s.views i) =
     ap (λ (x : State). view_at x.views i) here
     ∙ (get_or-set_same s.views i (stepped_view s.parents s.words r.kind r.tier (view_at s.views i)) (new_view 0) a.0
@@ -97,7 +99,8 @@ not_everyone : (s : State) (i : ℕ) → IsCore s → (word_at s.words 0).ended 
 not_everyone s i core going is due =
     let v : View = view_at s.views i in
     let root : ℕ = root_phase s.words in
-    let everyone = both_true (everyone_arrived root (all_members 0 s.views)) (some_climbing s.views) (sym (due_is s.words s.views going) ∙ due) in
+    let everyone =
+    both_true (everyone_arrived root (all_members 0 s.views)) (some_climbing s.views) (sym (due_is s.words s.views going) ∙ due) in
     let all = everyone_each root (all_members 0 s.views) everyone.0 i in
     let a = arrived_owned s i root core is.known in
     let b = members_owned s i core is.known in

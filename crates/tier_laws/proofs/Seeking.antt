@@ -74,10 +74,12 @@ elsewhere f (v ∷ vs) (suc i) h k =
     (cases_eq (f v) 0)
 
 -- the ancestors of a tier come earlier, the higher they are
-strictly : (ps : List ℕ) (tier n k : ℕ) → IsShape ps → tier < length ps → n < k → 0 < ancestor ps tier k → ancestor ps tier k < ancestor ps tier n
+strictly : (ps : List ℕ) (tier n k : ℕ) → IsShape ps → tier < length ps → n < k → 0 < ancestor ps tier k
+    → ancestor ps tier k < ancestor ps tier n
 strictly ps tier n zero shape h le some = absurd (omega arith)
 strictly ps tier n (suc k) shape h le some =
-    let here : ancestor ps tier k ≢ 0 = λ z. absurd (let a : parent_of ps (ancestor ps tier k) ≡ 0 = ap (parent_of ps) z ∙ shape.root in omega arith) in
+    let here : ancestor ps tier k ≢ 0 =
+    λ z. absurd (let a : parent_of ps (ancestor ps tier k) ≡ 0 = ap (parent_of ps) z ∙ shape.root in omega arith) in
     let one : parent_of ps (ancestor ps tier k) < ancestor ps tier k =
     shape.earlier (ancestor ps tier k) (omega arith) (ancestor_within ps tier k shape h) in
     ⊎_elim
@@ -106,13 +108,15 @@ opened_by s i tier k size t core h due within e =
     let one : sum_by (claim_share s.parents t) s.views ≡ 1 = sym (core.tally.claims t within) ∙ ap bit e in
     let none : claims_on s.parents tier k t ≡ 0 = subst (λ (n : ℕ). claims_on s.parents tier k n ≡ 0) (sym due.here)
     (unclaimed s.parents tier k k core.shape due.place (omega arith) (subst (λ (n : ℕ). 0 < n) due.here (omega arith))) in
-    let own : claim_share s.parents t (view_at s.views i) ≡ 0 = ap (errand_claims s.parents t) due.errand ∙ own_claims s.parents tier k size t none in
+    let own : claim_share s.parents t (view_at s.views i) ≡ 0 =
+    ap (errand_claims s.parents t) due.errand ∙ own_claims s.parents tier k size t none in
     let other = elsewhere (claim_share s.parents t) s.views i h (omega arith) in
     record { other = other.0; another = other.1; known = other.2; claims = other.3 }
 
 -- the phase at the last look, after a refusal
 seen_now : (s : State) (i tier k size t : ℕ) (past : List Moment) (r : Turn) → r.kind ≡ Refuse tier k size → r.tier ≡ t
-    → (view_at s.views i).arrived ≡ (view_at s.views i).size → (word_at s.words t).ended ≡ false → (view_at s.views i).phase ≡ last_seen past
+    → (view_at s.views i).arrived ≡ (view_at s.views i).size → (word_at s.words t).ended ≡ false
+    → (view_at s.views i).phase ≡ last_seen past
     → (refused t (word_at s.words t) (view_at s.views i)).phase ≡ last_seen (at i s r ∷ past)
 seen_now s i tier k size zero past r kind here all going seen =
     looked_empty (word_at s.words 0) (view_at s.views i) going all
@@ -134,7 +138,8 @@ refuses s i past tier k size t r a core h due why within seen kind here next e =
     let v : View = view_at s.views i in
     let p : ℕ = (refused t (word_at s.words t) (view_at s.views i)).phase in
     let word : refusing (at i s r) ≡ word_at s.words t = ap (word_at s.words) here in
-    let all : (view_at s.views i).arrived ≡ (view_at s.views i).size = (let b = (fits_at s i core h).within in let d = due.none in omega arith) in
+    let all : (view_at s.views i).arrived ≡ (view_at s.views i).size =
+    (let b = (fits_at s i core h).within in let d = due.none in omega arith) in
     let now = seen_now s i tier k size t past r kind here all why.0 seen in
     let heldby : has_no_room (added k size) w ≡ false → (c : Cause) → a ≡ Held p c → IsCause i p (at i s r) c
     → RefusalTells i (call.Join tier size) (at i s r ∷ past) a =
@@ -198,7 +203,8 @@ refuses s i past tier k size t r a core h due why within seen kind here next e =
     (either (has_no_room (added k size) w))
 
 -- a tier that admits members is in the root's phase
-pub joined_phase : (s : State) (t n : ℕ) → IsCore s → t < length s.words → Admits t n (word_at s.words t) → (word_at s.words t).phase ≡ root_phase s.words
+pub joined_phase : (s : State) (t n : ℕ) → IsCore s → t < length s.words → Admits t n (word_at s.words t)
+    → (word_at s.words t).phase ≡ root_phase s.words
 joined_phase s t n core h can = ⊎_elim
     (λ (z : (word_at s.words t).parties ≡ 0). ap (λ k. (word_at s.words k).phase) (can.empty z).0)
     (λ (some : (word_at s.words t).parties ≢ 0). ⊎_elim (λ e. e)
@@ -234,7 +240,8 @@ settle_tells s i c past tier k size q done =
     let v : View = view_at s.views i in
     subst (λ (e : Errand). Goal s i c past (settle_turn s.parents (view_at s.views i) e)) (sym q)
     (λ may. let r : Turn = settle_turn s.parents v (Opening tier (suc k) Joined size) in
-    joined_good s i c past (settle_turn s.parents v (Opening tier (suc k) Joined size)) k v.phase refl refl refl (done_later i c v.phase (at i s r) past done))
+    joined_good s i c past (settle_turn s.parents v (Opening tier (suc k) Joined size)) k v.phase refl refl refl
+    (done_later i c v.phase (at i s r) past done))
 
 -- a step that gives one back
 pub give_back_tells : (s : State) (i : ℕ) (c : Call) (past : List Moment) (tier k size : ℕ) (a : Played)
@@ -243,4 +250,5 @@ pub give_back_tells : (s : State) (i : ℕ) (c : Call) (past : List Moment) (tie
 give_back_tells s i c past tier k size a q reported =
     subst (λ (e : Errand). Goal s i c past (give_back_turn s.parents a e)) (sym q)
     (λ may. let r : Turn = give_back_turn s.parents a (Opening tier (suc k) GoingBack size) in
-    refused_good s i c past (give_back_turn s.parents a (Opening tier (suc k) GoingBack size)) k a refl refl (refusal_later i c (at i s r) past a refl reported))
+    refused_good s i c past (give_back_turn s.parents a (Opening tier (suc k) GoingBack size)) k a refl refl
+    (refusal_later i c (at i s r) past a refl reported))

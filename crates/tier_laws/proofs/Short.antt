@@ -67,14 +67,16 @@ either_goes (Due own) b e going = ap (λ x. (x && false) || (x && true)) e
 either_goes (Refreshing has_moved) b e going = ap (λ x. (x && true) || (x && false)) e
 
 -- what is known of a call and its view is known of those of the state that holds them
-pub moved_left : (s s' : State) (i n : ℕ) (p : Progress) (v : View) → call_at s'.calls i ≡ p → view_at s'.views i ≡ v → s'.parents ≡ s.parents
+pub moved_left : (s s' : State) (i n : ℕ) (p : Progress) (v : View) → call_at s'.calls i ≡ p → view_at s'.views i ≡ v
+    → s'.parents ≡ s.parents
     → Within s.parents s'.words p v n → Within s'.parents s'.words (call_at s'.calls i) (view_at s'.views i) n
 moved_left s s' i n p v call view same left =
     subst (λ (ps : List ℕ). Within ps s'.words (call_at s'.calls i) (view_at s'.views i) n) (sym same)
     (subst (λ (q : Progress). Within s.parents s'.words q (view_at s'.views i) n) (sym call)
     (subst (λ (x : View). Within s.parents s'.words p x n) (sym view) left))
 
-course_goes : (s : State) (i : ℕ) (c : Call) (past : List Moment) (r : Turn) → IsCore s → i < length s.views → (course : ShortCourse i c s past)
+course_goes : (s : State) (i : ℕ) (c : Call) (past : List Moment) (r : Turn) → IsCore s → i < length s.views
+    → (course : ShortCourse i c s past)
     → MayPlay s i r → is_idle (call_at s.calls i) ≡ false → Lowers s i course.rest r → ShortCourse i c (played s i r) (at i s r ∷ past)
 course_goes s i c past r core h course may going lowers =
     let some = some_left s.parents s.words (call_at s.calls i) (view_at s.views i) course.rest going (core.calls i h) course.left in
@@ -104,14 +106,18 @@ courses i c = record {
   begins = λ s past j d core h n course. record {
     tiers = course.tiers;
     rest = course.rest;
-    left = moved_left s (begun s j d) i course.rest (call_at s.calls i) (view_at s.views i) (get_or-set_other s.calls j i (Begun d) Idle n) refl refl
+    left =
+        moved_left s (begun s j d) i course.rest (call_at s.calls i) (view_at s.views i) (get_or-set_other s.calls j i (Begun d) Idle n)
+        refl refl
         course.left;
     count = course.count;
   };
   enters = λ s past core h course. record {
     tiers = course.tiers;
     rest = course.rest;
-    left = moved_left s (with_token s) i course.rest (call_at s.calls i) (view_at s.views i) (call_stays s i core h) (view_stays s i h) refl course.left;
+    left =
+        moved_left s (with_token s) i course.rest (call_at s.calls i) (view_at s.views i) (call_stays s i core h) (view_stays s i h) refl
+        course.left;
     count = course.count;
   };
 }

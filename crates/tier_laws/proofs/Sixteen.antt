@@ -112,22 +112,28 @@ seek_further tier k size t w v =
     (λ _ _. backs_further k a (refusal_is t (added k size) (refused t w v).phase w))
     (λ _ _ _ _. refl) (λ _ _ _. settles_further k w.phase)
 
-pass_further : (ps : List ℕ) (own : Passage) (t : ℕ) (passage : Passage) (kind : Kind) (here : Progress) (over : Played) (w : Fields) (v : View)
+pass_further : (ps : List ℕ) (own : Passage) (t : ℕ) (passage : Passage) (kind : Kind) (here : Progress) (over : Played) (w : Fields)
+    (v : View)
     → is_last over ≡ true → is_idle here ≡ false → TurnFurther (pass_turn ps own t passage kind here over w v)
 pass_further ps own t passage kind here over w v last going =
     by_passing TurnFurther ps own t passage kind here over w v (λ _. answers Idle over last) (λ _ _ _. going)
     (λ _ _. answers Idle (Done v.phase) refl) (λ _ _ _ _. refl) (λ _ _ _ _ _. refl)
 
-goes_further : (ps : List ℕ) (ws : List Fields) (p : Progress) (v : View) → is_active p ≡ true → CallFits ps p v → TurnFurther (turn ps ws p v)
+goes_further : (ps : List ℕ) (ws : List Fields) (p : Progress) (v : View) → is_active p ≡ true → CallFits ps p v
+    → TurnFurther (turn ps ws p v)
 goes_further ps ws Idle v active fits = not_both false active refl
 goes_further ps ws (Due own) v active fits = not_both false active refl
 goes_further ps ws (Begun c) v active fits = first_further c (word_at ws 0) (word_at ws v.tier) v
 goes_further ps ws (ToSeek tier size) v active fits =
-    seek_further tier (claimed_by v.errand) size (ancestor ps tier (claimed_by v.errand)) (word_at ws (ancestor ps tier (claimed_by v.errand))) v
-goes_further ps ws Settling v active fits = subst (λ (e : Errand). TurnFurther (settle_turn ps v e)) (sym fits.3) (settles_further fits.1 v.phase)
-goes_further ps ws (ToGiveBack a) v active fits = subst (λ (e : Errand). TurnFurther (give_back_turn ps a e)) (sym fits.3) (backs_further fits.1 a fits.4)
+    seek_further tier (claimed_by v.errand) size (ancestor ps tier (claimed_by v.errand))
+    (word_at ws (ancestor ps tier (claimed_by v.errand))) v
+goes_further ps ws Settling v active fits =
+    subst (λ (e : Errand). TurnFurther (settle_turn ps v e)) (sym fits.3) (settles_further fits.1 v.phase)
+goes_further ps ws (ToGiveBack a) v active fits =
+    subst (λ (e : Errand). TurnFurther (give_back_turn ps a e)) (sym fits.3) (backs_further fits.1 a fits.4)
 goes_further ps ws (Passing passage) v active fits =
-    pass_further ps passage v.tier passage (own_kind passage) (Passing passage) (end_shown (word_at ws v.tier)) (word_at ws v.tier) v refl refl
+    pass_further ps passage v.tier passage (own_kind passage) (Passing passage) (end_shown (word_at ws v.tier)) (word_at ws v.tier) v refl
+    refl
 goes_further ps ws (Owing own) v active fits =
     subst (λ (e : Errand). TurnFurther (climb_turn ps own (word_at ws (errand_place ps e)) v e)) (sym fits.2)
     (pass_further ps own fits.0 fits.1 (Climb fits.1) (Owing own) (Done v.phase) (word_at ws fits.0) v refl refl)
@@ -163,7 +169,8 @@ few_sought s i tier zero size levels core h owes root = omega arith
 few_sought s i tier (suc k) size levels core h owes root = few_claims s i tier (suc k) size levels Seeking core h owes root
 
 -- however far a call has come it has few steps to go
-within_sixteen : (s : State) (i : ℕ) (p : Progress) → IsTiers s.parents → IsCore s → i < length s.views → CallFits s.parents p (view_at s.views i)
+within_sixteen : (s : State) (i : ℕ) (p : Progress) → IsTiers s.parents → IsCore s → i < length s.views
+    → CallFits s.parents p (view_at s.views i)
     → Within s.parents s.words p (view_at s.views i) 16
 within_sixteen s i Idle tiers core h fits = tt
 within_sixteen s i (Begun c) tiers core h fits = most c
@@ -241,7 +248,8 @@ ends_within (suc n) s i tiers core h going left = ⊎_elim
     (λ (no_due : (is_due (call_at s.calls i) ≡ false) × (is_active (call_at s.calls i) ≡ true)).
     let r : Turn = turn_at s i in
     let stays : may_finish s i ≡ false = ap (λ b. ltb i (length s.views) && b) no_due.0 ∙ and_no (ltb i (length s.views)) in
-    let may : may_go s i ≡ true = and_from (ltb i (length s.views)) (is_active (call_at s.calls i)) (lt-ltb i (length s.views) h) no_due.1 in
+    let may : may_go s i ≡ true =
+    and_from (ltb i (length s.views)) (is_active (call_at s.calls i)) (lt-ltb i (length s.views) h) no_due.1 in
     let step : going_on s i ≡ Go i = ap (λ b. cond b (Finish i) (Go i)) stays in
     ⊎_elim
     (λ (last : is_last (turn_at s i).answer ≡ true). inl (record {

@@ -75,7 +75,9 @@ gone_at s i core h active =
       views = ap (λ (x : State). x.views) here;
       parents = ap (λ (x : State). x.parents) here;
       label = ap (λ b. cond b (label i (turn_at s i).kind) None) may;
-      moment = ap (λ b. cond b (cond (may_go s i) (at i s (turn_at s i) ∷ []) []) []) (eq-eqb i i refl) ∙ ap (λ b. cond b (at i s (turn_at s i) ∷ []) []) may;
+      moment =
+          ap (λ b. cond b (cond (may_go s i) (at i s (turn_at s i) ∷ []) []) []) (eq-eqb i i refl)
+          ∙ ap (λ b. cond b (at i s (turn_at s i) ∷ []) []) may;
     }
 
 -- by how far the call has come
@@ -85,11 +87,13 @@ gone s i p core h e active =
     subst (λ (q : Progress). Gone s i (turn s.parents s.words q (view_at s.views i))) e (gone_at s i core h (ap is_active e ∙ active))
 
 -- what fits a call
-pub fitting : (s : State) (i : ℕ) (p : Progress) → IsCore s → i < length s.views → call_at s.calls i ≡ p → CallFits s.parents p (view_at s.views i)
+pub fitting : (s : State) (i : ℕ) (p : Progress) → IsCore s → i < length s.views → call_at s.calls i ≡ p
+    → CallFits s.parents p (view_at s.views i)
 fitting s i p core h e = subst (λ (q : Progress). CallFits s.parents q (view_at s.views i)) e (core.calls i h)
 
 -- only advances and the end by force move the root
-root_of_label : (l : Option FlatStep) (f : Flat) → moves_root l ≡ false → ((labelled l f).phase ≡ f.phase) × ((labelled l f).ended ≡ f.ended)
+root_of_label : (l : Option FlatStep) (f : Flat) → moves_root l ≡ false
+    → ((labelled l f).phase ≡ f.phase) × ((labelled l f).ended ≡ f.ended)
 root_of_label None f e = (refl, refl)
 root_of_label (Some (flat.Join owner n)) f e = by_test (λ b. ((cond b f (taken (flat.Join owner n) f)).phase ≡ f.phase) ×
     ((cond b f (taken (flat.Join owner n) f)).ended ≡ f.ended)) f.ended (λ _. (refl, refl)) (λ _. (refl, refl))
@@ -116,7 +120,8 @@ no_advance i (Climb passage) e = refl
 no_advance i Refresh e = refl
 
 abbrev TiersStay : State → State → Type 0
-TiersStay s s' = (t : ℕ) → t < length s.words → (word_at s.words t).phase ≡ (flat_of s).phase → (word_at s'.words t).phase ≡ (flat_of s).phase
+TiersStay s s' =
+    (t : ℕ) → t < length s.words → (word_at s.words t).phase ≡ (flat_of s).phase → (word_at s'.words t).phase ≡ (flat_of s).phase
 
 played_tiers : (s : State) (i : ℕ) (r : Turn) → IsCore s → i < length s.views → MayPlay s i r → moves_root (label i r.kind) ≡ false
     → TiersStay s (played s i r)
@@ -125,15 +130,19 @@ played_tiers s i r core h may e t k here =
     (no_advance i r.kind e) k here
 
 step_tiers : (s : State) (x : Step) → IsCore s → moves_root (step_label s x) ≡ false → TiersStay s (after s x)
-step_tiers s (Begin i c) core e = by_test (λ b. TiersStay s (cond b (begun s i c) s)) (may_begin s i c) (λ _ t k here. here) (λ _ t k here. here)
+step_tiers s (Begin i c) core e =
+    by_test (λ b. TiersStay s (cond b (begun s i c) s)) (may_begin s i c) (λ _ t k here. here) (λ _ t k here. here)
 step_tiers s (Go i) core e =
-    by_test (λ b. b ≡ may_go s i → moves_root (cond b (label i (turn_at s i).kind) None) ≡ false → TiersStay s (cond b (played s i (turn_at s i)) s))
+    by_test
+    (λ b. b ≡ may_go s i → moves_root (cond b (label i (turn_at s i).kind) None) ≡ false
+    → TiersStay s (cond b (played s i (turn_at s i)) s))
     (may_go s i)
     (λ may _ q. let a = known_active s i may in played_tiers s i (turn_at s i) core a.0 (turn_may s i core a.0 a.1) q)
     (λ _ _ _ t k here. here) refl e
 step_tiers s (Finish i) core e =
     let r : Turn = finish_at s i (plan_ends s) in
-    by_test (λ b. b ≡ may_finish s i → moves_root (cond b (label i r.kind) None) ≡ false → TiersStay s (cond b (played s i r) s)) (may_finish s i)
+    by_test (λ b. b ≡ may_finish s i → moves_root (cond b (label i r.kind) None) ≡ false → TiersStay s (cond b (played s i r) s))
+    (may_finish s i)
     (λ may _ q. let a = known_due s i may in
     played_tiers s i (finish_at s i (plan_ends s)) core a.0 (finish_may s i (plan_ends s) core a.0 a.1) q)
     (λ _ _ _ t k here. here) refl e
@@ -150,7 +159,9 @@ only_advances_move s x core is e =
 
 -- an awaited token after a look
 absent_cases : (root : ℕ) (v : View) → 0 < absent root v → v.phase ≡ root → v.arrived < v.size
-absent_cases root v h e = let a : absent root v ≡ v.size - v.arrived = ap (λ b. cond b (v.size - v.arrived) v.size) (eq-eqb v.phase root e) in omega arith
+absent_cases root v h e =
+    let a : absent root v ≡ v.size - v.arrived = ap (λ b. cond b (v.size - v.arrived) v.size) (eq-eqb v.phase root e) in
+    omega arith
 
 absent_some : (root : ℕ) (v : View) → 0 < absent root v → 0 < v.size
 absent_some root v h = grind arith
@@ -227,14 +238,16 @@ answered s i b p now e = ⊎_elim
     (λ (q : polled b p ≡ Done p). inr (e ∙ (q ∙ ap Done now)))
     (polled_is b p)
 
-words_then : (s : State) (i : ℕ) (r : Turn) (t : ℕ) (w : Fields) → Gone s i r → word_at (words_after s.words r.kind r.tier (view_at s.views i)) t ≡ w
+words_then : (s : State) (i : ℕ) (r : Turn) (t : ℕ) (w : Fields) → Gone s i r
+    → word_at (words_after s.words r.kind r.tier (view_at s.views i)) t ≡ w
     → word_at (after s (Go i)).words t ≡ w
 words_then s i r t w g e = ap (λ ws. word_at ws t) g.words ∙ e
 
 unchanged : (ws : List Fields) (u t : ℕ) → (word_at (set ws u (word_at ws u)) t).phase ≡ (word_at ws t).phase
 unchanged ws u t = ap (λ xs. (word_at xs t).phase) (set-get_or ws u blank)
 
-poll_looks : (s : State) (i : ℕ) → IsCore s → (word_at s.words 0).ended ≡ false → IsAwaited s i → call_at s.calls i ≡ Begun call.Poll → PollGoesOn s i
+poll_looks : (s : State) (i : ℕ) → IsCore s → (word_at s.words 0).ended ≡ false → IsAwaited s i → call_at s.calls i ≡ Begun call.Poll
+    → PollGoesOn s i
 poll_looks s i core going is e =
     let w : Fields = word_at s.words 0 in
     let v : View = view_at s.views i in
@@ -288,10 +301,13 @@ still_there : (s : State) (i : ℕ) (has_moved : Bool) → Gone s i (turn s.pare
     → view_then s i ≡ view_at s.views i
 still_there s i has_moved g =
     let v : View = view_at s.views i in
-    g.view ∙ by_test (λ b. stepped_view s.parents s.words (cond b Refresh Glance) v.tier v ≡ v) (lags (word_at s.words v.tier) v) (λ _. refl) (λ _. refl)
+    g.view
+    ∙ by_test (λ b. stepped_view s.parents s.words (cond b Refresh Glance) v.tier v ≡ v) (lags (word_at s.words v.tier) v) (λ _. refl)
+    (λ _. refl)
 
 -- a poll from its look, and from its second step
-poll_begun : (s : State) (i : ℕ) → IsCore s → (word_at s.words 0).ended ≡ false → IsAwaited s i → call_at s.calls i ≡ Begun call.Poll → IsPollStep s i
+poll_begun : (s : State) (i : ℕ) → IsCore s → (word_at s.words 0).ended ≡ false → IsAwaited s i → call_at s.calls i ≡ Begun call.Poll
+    → IsPollStep s i
 poll_begun s i core going is e =
     let w : Fields = word_at s.words 0 in
     let v : View = view_at s.views i in
@@ -329,7 +345,8 @@ poll_second s i has_moved core going is e =
       goes_on = poll_refreshes s i has_moved core going is e now;
     }
 
-poll_by : (s : State) (i : ℕ) (p : Progress) → IsCore s → (word_at s.words 0).ended ≡ false → IsAwaited s i → call_at s.calls i ≡ p → is_poll p ≡ true
+poll_by : (s : State) (i : ℕ) (p : Progress) → IsCore s → (word_at s.words 0).ended ≡ false → IsAwaited s i → call_at s.calls i ≡ p
+    → is_poll p ≡ true
     → IsPollStep s i
 poll_by s i Idle core going is e q = not_both false q refl
 poll_by s i (Begun (call.Join tier size)) core going is e q = not_both false q refl

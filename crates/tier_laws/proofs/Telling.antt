@@ -79,7 +79,8 @@ poll_seen s i past r core h is going some e =
     (eqb-false (looked w v).arrived v.size e)
 
 -- the first step of an arrival and of a departure
-pass_first : (s : State) (i : ℕ) (past : List Moment) (passage : Passage) → IsCore s → i < length s.views → call_at s.calls i ≡ Begun (call_of passage)
+pass_first : (s : State) (i : ℕ) (past : List Moment) (passage : Passage) → IsCore s → i < length s.views
+    → call_at s.calls i ≡ Begun (call_of passage)
     → 0 < (view_at s.views i).size
     → Goal s i (call_of passage) past record {
       kind = Look;
@@ -99,7 +100,9 @@ pass_first s i past passage core h is some =
     (cond b (end_shown w) (cond (eqb (looked w v).arrived v.size) (AlreadyArrived (looked w v).phase) GoesOn)))) w.ended
     (λ e may. record {
       reported = record {
-        tells = any_here (HasEnded i (shown_of w.phase true)) (at i s (make Idle (end_shown w))) past (ended_stays s i (make Idle (end_shown w)) core h may e);
+        tells =
+            any_here (HasEnded i (shown_of w.phase true)) (at i s (make Idle (end_shown w))) past
+            (ended_stays s i (make Idle (end_shown w)) core h may e);
         ends = λ _. refl;
       };
       keeps = tt;
@@ -134,7 +137,9 @@ poll_first s i past core h is some =
     (cond b (end_shown w) (cond (eqb (looked w v).arrived v.size) Waiting (cond lag GoesOn (polled f p)))))) w.ended
     (λ e may. record {
       reported = record {
-        tells = any_here (HasEnded i (shown_of w.phase true)) (at i s (make Idle (end_shown w))) past (ended_stays s i (make Idle (end_shown w)) core h may e);
+        tells =
+            any_here (HasEnded i (shown_of w.phase true)) (at i s (make Idle (end_shown w))) past
+            (ended_stays s i (make Idle (end_shown w)) core h may e);
         ends = λ _. refl;
       };
       keeps = tt;
@@ -159,7 +164,8 @@ poll_first s i past core h is some =
     })
     (λ _ may. record {
       reported = record {
-        tells = polled_tells i (at i s (make Idle (polled f p))) past f p (poll_seen s i past (make Idle (polled f p)) core h is going some e);
+        tells =
+            polled_tells i (at i s (make Idle (polled f p))) past f p (poll_seen s i past (make Idle (polled f p)) core h is going some e);
         ends = λ _. refl;
       };
       keeps = tt;
@@ -182,7 +188,11 @@ join_first s i past tier size core h none =
       answer = cond x (end_shown w) GoesOn;
     }) w.ended
     (λ e may. record {
-      reported = record { tells = any_here (HasEnded i (shown_of w.phase true)) (at i s over) past (ended_stays s i over core h may e); ends = λ _. refl };
+      reported =
+          record {
+            tells = any_here (HasEnded i (shown_of w.phase true)) (at i s over) past (ended_stays s i over core h may e);
+            ends = λ _. refl;
+          };
       keeps = tt;
     })
     (λ going. by_test (λ x. Goal s i c past record { kind = cond x (Refuse 0 0 size) Look; tier = 0; next = ToSeek tier size; answer = GoesOn }) b
@@ -200,7 +210,8 @@ first_tells s i past call.Force core h is fits = λ may.
     let w : Fields = word_at s.words 0 in
     let r : Turn = record { kind = Force; tier = 0; next = Idle; answer = end_shown w } in
     record {
-      reported = record { tells = any_here (HasEnded i (shown_of w.phase true)) (at i s r) past (forced s i r core h may refl); ends = λ _. refl };
+      reported =
+          record { tells = any_here (HasEnded i (shown_of w.phase true)) (at i s r) past (forced s i r core h may refl); ends = λ _. refl };
       keeps = tt;
     }
 
@@ -211,7 +222,8 @@ pub turn_tells : (s : State) (i : ℕ) (c : Call) (past : List Moment) (p : Prog
 turn_tells s i c past Idle core h is active fits knows = not_both false active refl
 turn_tells s i c past (Due own) core h is active fits knows = not_both false active refl
 turn_tells s i c past (Begun d) core h is active fits knows =
-    subst (λ (x : Call). Goal s i x past (first_turn d (word_at s.words 0) (word_at s.words (view_at s.views i).tier) (view_at s.views i))) knows
+    subst (λ (x : Call). Goal s i x past (first_turn d (word_at s.words 0) (word_at s.words (view_at s.views i).tier) (view_at s.views i)))
+    knows
     (first_tells s i past d core h is fits.1)
 turn_tells s i c past (ToSeek tier size) core h is active fits knows =
     let v : View = view_at s.views i in
@@ -250,7 +262,9 @@ turn_tells s i c past (Refreshing has_moved) core h is active fits knows =
     let r : Turn = turn s.parents s.words (Refreshing has_moved) v in
     λ may. record {
       reported = record {
-        tells = subst (λ (x : Call). Tells i x (at i s (turn s.parents s.words (Refreshing has_moved) (view_at s.views i))) past (polled has_moved v.phase))
+        tells =
+            subst
+            (λ (x : Call). Tells i x (at i s (turn s.parents s.words (Refreshing has_moved) (view_at s.views i))) past (polled has_moved v.phase))
             (sym knows.0)
             (polled_tells i (at i s (turn s.parents s.words (Refreshing has_moved) (view_at s.views i))) past has_moved v.phase
             (poll_later i has_moved v.phase (at i s (turn s.parents s.words (Refreshing has_moved) (view_at s.views i))) past knows.1));

@@ -41,7 +41,8 @@ use Rattle.tier_laws.proofs.Along.{Carries, OfToken, along, begun_known, call_st
 use Rattle.tier_laws.proofs.Telling.{Story, stories, begun_story}
 
 -- the root's field is 0 while a token has to advance it
-field_zero : (s : State) (i : ℕ) → IsCore s → i < length s.views → (view_at s.views i).errand ≡ Advancing → (word_at s.words 0).ended ≡ false
+field_zero : (s : State) (i : ℕ) → IsCore s → i < length s.views → (view_at s.views i).errand ≡ Advancing
+    → (word_at s.words 0).ended ≡ false
     → (word_at s.words 0).unarrived ≡ 0
 field_zero s i core h owes going =
     let one : advance_share (view_at s.views i) ≡ 1 = ap errand_advances owes in
@@ -49,7 +50,8 @@ field_zero s i core h owes going =
     (let a = part s advance_share i h in let b = core.tally.advances going in omega arith)
 
 -- nobody has claimed the root
-unclaimed_root : (s : State) (j : ℕ) (tier claimed size : ℕ) (stage : OpeningStage) → IsCore s → j < length s.views → 0 ≡ ancestor s.parents tier claimed
+unclaimed_root : (s : State) (j : ℕ) (tier claimed size : ℕ) (stage : OpeningStage) → IsCore s → j < length s.views
+    → 0 ≡ ancestor s.parents tier claimed
     → (view_at s.views j).errand ≡ Opening tier (suc claimed) stage size → {A : Type 0} → A
 unclaimed_root s j tier claimed size stage core h here owes = absurd (
     let a : claim_share s.parents 0 (view_at s.views j) ≡ claims_on s.parents tier (suc claimed) 0 = ap (errand_claims s.parents 0) owes in
@@ -73,7 +75,8 @@ never : (s : State) (i j : ℕ) → IsCore s → i < length s.views → (view_at
     → {A : Type 0} → (word_at s.words 0).ended ≡ false → (IsStill (root_phase s.words) (view_at s.views j) → ⊥) → A
 never s i j core h owes k n going wrong = absurd (wrong (advances_are_alone s i j core going h owes k n))
 
-by_kind : (s : State) (i j : ℕ) (kind : Kind) → IsCore s → i < length s.views → (view_at s.views i).errand ≡ Advancing → j < length s.views → j ≢ i
+by_kind : (s : State) (i j : ℕ) (kind : Kind) → IsCore s → i < length s.views → (view_at s.views i).errand ≡ Advancing → j < length s.views
+    → j ≢ i
     → Needs s.parents kind 0 (word_at s.words 0) (view_at s.views j)
     → KeepsRoot (word_at s.words 0) (word_after kind 0 (word_at s.words 0) (view_at s.views j))
 by_kind s i j Look core h owes k n needs = same_root (word_at s.words 0)
@@ -86,7 +89,8 @@ by_kind s i j Arrive core h owes k n needs =
 by_kind s i j Leave core h owes k n needs =
     never s i j core h owes k n needs.going (λ still. let a = still.arrived in let b = needs.unarrived in let f : ⊥ = omega arith in f)
 by_kind s i j (Advance ends) core h owes k n needs =
-    never s i j core h owes k n needs.1.going (λ still. not_both (is_under_way (view_at s.views j).errand) (ap is_under_way needs.1.errand) still.errand)
+    never s i j core h owes k n needs.1.going
+    (λ still. not_both (is_under_way (view_at s.views j).errand) (ap is_under_way needs.1.errand) still.errand)
 by_kind s i j Force core h owes k n needs = record { phase = refl; parties = refl }
 by_kind s i j (Claim tier claimed size) core h owes k n needs = absurd (let a = needs.1.below in omega arith)
 by_kind s i j (Settle tier claimed size) core h owes k n needs = unclaimed_root s j tier claimed size Joined core k needs.0 needs.1
@@ -95,10 +99,13 @@ by_kind s i j (Climb passage) core h owes k n needs =
     never s i j core h owes k n needs.going
     (λ still. not_both (is_under_way (view_at s.views j).errand) (ap is_under_way needs.errand) still.errand)
 by_kind s i j Refresh core h owes k n needs =
-    let now = refresher s.parents (root_phase s.words) (word_at s.words 0).ended 0 (word_at s.words 0) (view_at s.views j) (fits_at s j core k) needs in
+    let now =
+    refresher s.parents (root_phase s.words) (word_at s.words 0).ended 0 (word_at s.words 0) (view_at s.views j) (fits_at s j core k)
+    needs in
     absurd (needs.behind (sym now))
 
-turn_keeps : (s : State) (i j : ℕ) (r : Turn) → IsCore s → i < length s.views → (view_at s.views i).errand ≡ Advancing → j < length s.views → j ≢ i
+turn_keeps : (s : State) (i j : ℕ) (r : Turn) → IsCore s → i < length s.views → (view_at s.views i).errand ≡ Advancing → j < length s.views
+    → j ≢ i
     → MayPlay s j r → KeepsRoot (word_at s.words 0) (word_at (played s j r).words 0)
 turn_keeps s i j r core h owes k n may =
     let w' : Fields = word_after r.kind r.tier (word_at s.words r.tier) (view_at s.views j) in
@@ -116,7 +123,8 @@ turn_keeps s i j r core h owes k n may =
     (same_root (word_at s.words 0)))
     (cases_eq r.tier 0)
 
-has_root : (s s' : State) (phase parties : ℕ) → KeepsRoot (word_at s.words 0) (word_at s'.words 0) → HasRoot s phase parties → HasRoot s' phase parties
+has_root : (s s' : State) (phase parties : ℕ) → KeepsRoot (word_at s.words 0) (word_at s'.words 0) → HasRoot s phase parties
+    → HasRoot s' phase parties
 has_root s s' phase parties kept is = record { phase = kept.phase ∙ is.phase; parties = kept.parties ∙ is.parties }
 
 owes_at : (s : State) (i : ℕ) → IsCore s → i < length s.views → is_due (call_at s.calls i) ≡ true → (view_at s.views i).errand ≡ Advancing
@@ -124,7 +132,8 @@ owes_at s i core h due = due_advances s.parents (call_at s.calls i) (view_at s.v
 
 pub the_root_waits : TheRootWaits
 the_root_waits s (Begin j c) i phase parties core is may n root =
-    after_either (λ x. HasRoot x phase parties) (may_begin s j c) s (begun s j c) (λ _. record { phase = root.phase; parties = root.parties }) root
+    after_either (λ x. HasRoot x phase parties) (may_begin s j c) s (begun s j c)
+    (λ _. record { phase = root.phase; parties = root.parties }) root
 the_root_waits s (Go j) i phase parties core is may n root =
     let a = known_due s i may in
     after_either (λ x. HasRoot x phase parties) (may_go s j) s (played s j (turn_at s j))
@@ -136,7 +145,9 @@ the_root_waits s (Finish j) i phase parties core is may n root =
     after_either (λ x. HasRoot x phase parties) (may_finish s j) s (played s j (finish_at s j (plan_ends s)))
     (λ e. let b = known_due s j e in
     has_root s (played s j (finish_at s j (plan_ends s))) phase parties
-    (turn_keeps s i j (finish_at s j (plan_ends s)) core a.0 (owes_at s i core a.0 a.1) b.0 (λ q. n (sym q)) (finish_may s j (plan_ends s) core b.0 b.1)) root) root
+    (turn_keeps s i j (finish_at s j (plan_ends s)) core a.0 (owes_at s i core a.0 a.1) b.0 (λ q. n (sym q)) (finish_may s j (plan_ends s) core b.0 b.1))
+    root)
+    root
 
 -- along a call
 record Kept (i : ℕ) (c : Call) (s : State) (past : List Moment) : Type 0 where
@@ -147,7 +158,8 @@ not_done : (phase now parties : ℕ) → {A : Type 0} → Done phase ≡ MustAdv
 not_done phase now parties e = absurd (let a : Done phase ≡ MustAdvance now parties = e in cc)
 
 latest_stays : (i : ℕ) (s s' : State) (past : List Moment)
-    → ((phase parties : ℕ) → IsAsReported s i phase parties → IsAsReported s' i phase parties) → LatestIsKept i s past → LatestIsKept i s' past
+    → ((phase parties : ℕ) → IsAsReported s i phase parties → IsAsReported s' i phase parties) → LatestIsKept i s past
+    → LatestIsKept i s' past
 latest_stays i s s' [] keeps h = tt
 latest_stays i s s' (m ∷ past) keeps h = λ phase parties e. keeps phase parties (h phase parties e)
 

@@ -31,10 +31,113 @@ tiers : IsTiers (0 ∷ 0 ∷ 0 ∷ [])
 tiers = tree_tiers (2 ∷ []) widths one_level three_tiers
 
 core : IsCore two_leaves
-core = (tokens_keep 3 (opened (0 ∷ 0 ∷ 0 ∷ []) 0 plan) (empty_in 0) (opened_core (0 ∷ 0 ∷ 0 ∷ []) 0 plan tiers.shape (grind arith) (grind arith)) refl).0
+core =
+    (tokens_keep 3 (opened (0 ∷ 0 ∷ 0 ∷ []) 0 plan) (empty_in 0) (opened_core (0 ∷ 0 ∷ 0 ∷ []) 0 plan tiers.shape (grind arith) (grind arith)) refl).0
 
 are_steps : AreSteps worked_steps
-are_steps = ((grind arith, grind arith), (tt, (tt, (tt, (tt, ((grind arith, grind arith), (tt, (tt, (tt, (tt, ((grind arith, grind arith), (tt, (tt, (tt, (tt, (tt, (tt, (tt, (tt, (tt, (tt, (tt, ((grind arith, grind arith), (tt, (tt, (tt, (tt, (tt, (tt, (tt, (tt, (tt, (tt, (tt, (tt, (tt, (tt, (tt, (tt, (tt, (tt, (tt, (tt, tt)))))))))))))))))))))))))))))))))))))))))))
+are_steps = (
+  (grind arith, grind arith),
+  (
+    tt,
+    (
+      tt,
+      (
+        tt,
+        (
+          tt,
+          (
+            (grind arith, grind arith),
+            (
+              tt,
+              (
+                tt,
+                (
+                  tt,
+                  (
+                    tt,
+                    (
+                      (grind arith, grind arith),
+                      (
+                        tt,
+                        (
+                          tt,
+                          (
+                            tt,
+                            (
+                              tt,
+                              (
+                                tt,
+                                (
+                                  tt,
+                                  (
+                                    tt,
+                                    (
+                                      tt,
+                                      (
+                                        tt,
+                                        (
+                                          tt,
+                                          (
+                                            tt,
+                                            (
+                                              (grind arith, grind arith),
+                                              (
+                                                tt,
+                                                (
+                                                  tt,
+                                                  (
+                                                    tt,
+                                                    (
+                                                      tt,
+                                                      (
+                                                        tt,
+                                                        (
+                                                          tt,
+                                                          (
+                                                            tt,
+                                                            (
+                                                              tt,
+                                                              (
+                                                                tt,
+                                                                (
+                                                                  tt,
+                                                                  (
+                                                                    tt,
+                                                                    (tt, (tt, (tt, (tt, (tt, (tt, (tt, (tt, (tt, tt))))))))),
+                                                                  ),
+                                                                ),
+                                                              ),
+                                                            ),
+                                                          ),
+                                                        ),
+                                                      ),
+                                                    ),
+                                                  ),
+                                                ),
+                                              ),
+                                            ),
+                                          ),
+                                        ),
+                                      ),
+                                    ),
+                                  ),
+                                ),
+                              ),
+                            ),
+                          ),
+                        ),
+                      ),
+                    ),
+                  ),
+                ),
+              ),
+            ),
+          ),
+        ),
+      ),
+    ),
+  ),
+)
 
 pub each_answer_is_given : EachAnswerIsGiven
 each_answer_is_given = record { tiers = tiers; core = core; steps = are_steps; answers = refl }

@@ -31,10 +31,12 @@ pub record RootStays (old new : State) : Type 0 where
   pub phase : (flat_of new).phase ≡ (flat_of old).phase
   pub ended : (flat_of new).ended ≡ (flat_of old).ended
   -- a tier in the root's phase stays there
-  pub tiers : (t : ℕ) → t < length old.words → (word_at old.words t).phase ≡ (flat_of old).phase → (word_at new.words t).phase ≡ (flat_of old).phase
+  pub tiers : (t : ℕ) → t < length old.words → (word_at old.words t).phase ≡ (flat_of old).phase
+      → (word_at new.words t).phase ≡ (flat_of old).phase
 
 abbrev pub OnlyAdvancesMove : Type 0
-OnlyAdvancesMove = (s : State) (step : Step) → IsCore s → IsStepOfCalls step → moves_root (step_label s step) ≡ false → RootStays s (after s step)
+OnlyAdvancesMove =
+    (s : State) (step : Step) → IsCore s → IsStepOfCalls step → moves_root (step_label s step) ≡ false → RootStays s (after s step)
 
 -- after a token's next step: what it knows, how far its call has come, and what the step answered
 abbrev pub view_then : State → ℕ → View
@@ -73,7 +75,8 @@ is_poll _ = false
 
 abbrev pub PollsFollowTheRoot : Type 0
 PollsFollowTheRoot =
-    (s : State) (token : ℕ) → IsCore s → (flat_of s).ended ≡ false → IsAwaited s token → is_poll (call_at s.calls token) ≡ true → IsPollStep s token
+    (s : State) (token : ℕ) → IsCore s → (flat_of s).ended ≡ false → IsAwaited s token → is_poll (call_at s.calls token) ≡ true
+    → IsPollStep s token
 
 -- If its token has an unarrived member in the root's phase, the first step of an arrival or a departure changes no members.
 abbrev pub call_by : Passage → Call
@@ -89,14 +92,16 @@ pub record IsLookStep (s : State) (token : ℕ) (next : Progress) : Type 0 where
 abbrev pub PassesBeginWithALook : Type 0
 PassesBeginWithALook =
     (s : State) (token : ℕ) (passage : Passage) → IsCore s → (flat_of s).ended ≡ false → IsAwaited s token
-    → (view_at s.views token).phase ≡ (flat_of s).phase → call_at s.calls token ≡ Begun (call_by passage) → IsLookStep s token (Passing passage)
+    → (view_at s.views token).phase ≡ (flat_of s).phase → call_at s.calls token ≡ Begun (call_by passage)
+    → IsLookStep s token (Passing passage)
 
 -- what a token owes after a party arrives at or leaves a tier, and how its call goes on: it is done, climbs, or must advance the root
 abbrev pub GoesAsOwed : State → ℕ → Passage → Type 0
 GoesAsOwed s token own =
     let phase : ℕ = (view_at s.views token).phase in
     ((answer_then s token ≡ Done phase) × ((view_then s token).errand ≡ Rest) × (call_then s token ≡ Idle))
-    ⊎ ((answer_then s token ≡ GoesOn) × ((t : ℕ) × (passage : Passage) × ((view_then s token).errand ≡ Climbing t passage)) × (call_then s token ≡ Owing own))
+    ⊎ ((answer_then s token ≡ GoesOn) × ((t : ℕ) × (passage : Passage) × ((view_then s token).errand ≡ Climbing t passage))
+    × (call_then s token ≡ Owing own))
     ⊎ (((parties : ℕ) × (answer_then s token ≡ MustAdvance phase parties)) × ((view_then s token).errand ≡ Advancing)
     × (call_then s token ≡ Due own))
 
@@ -112,7 +117,8 @@ pub record IsOwnStep (s : State) (token : ℕ) (passage : Passage) : Type 0 wher
 
 abbrev pub PassesCount : Type 0
 PassesCount =
-    (s : State) (token : ℕ) (passage : Passage) → IsCore s → token < length s.views → (flat_of s).ended ≡ false → call_at s.calls token ≡ Passing passage
+    (s : State) (token : ℕ) (passage : Passage) → IsCore s → token < length s.views → (flat_of s).ended ≡ false
+    → call_at s.calls token ≡ Passing passage
     → (word_at s.words (view_at s.views token).tier).phase ≡ (flat_of s).phase → IsOwnStep s token passage
 
 -- A step of a climb changes no members. It refreshes the tier, or passes on what the token owes. If the root has ended, the call is done in
@@ -123,7 +129,8 @@ pub record IsClimbStep (s : State) (token : ℕ) (own : Passage) : Type 0 where
 
 abbrev pub ClimbsKeepMembers : Type 0
 ClimbsKeepMembers =
-    (s : State) (token : ℕ) (own : Passage) → IsCore s → token < length s.views → call_at s.calls token ≡ Owing own → IsClimbStep s token own
+    (s : State) (token : ℕ) (own : Passage) → IsCore s → token < length s.views → call_at s.calls token ≡ Owing own
+    → IsClimbStep s token own
 
 -- The advance changes no members of its token, and neither does the look in its place if the root has ended.
 pub record IsAdvanceStep (s : State) (token : ℕ) : Type 0 where
@@ -172,7 +179,8 @@ pub record IsAdmitted (s : State) (token tier size : ℕ) : Type 0 where
 
 abbrev pub OpenTiersAdmit : Type 0
 OpenTiersAdmit =
-    (s : State) (token tier size : ℕ) → IsCore s → token < length s.views → (flat_of s).ended ≡ false → call_at s.calls token ≡ ToSeek tier size
+    (s : State) (token tier size : ℕ) → IsCore s → token < length s.views → (flat_of s).ended ≡ false
+    → call_at s.calls token ≡ ToSeek tier size
     → (view_at s.views token).errand ≡ Rest → 0 < (word_at s.words tier).parties → 0 < (word_at s.words tier).unarrived
     → (word_at s.words tier).parties + size ≤ 65535 → IsAdmitted s token tier size
 

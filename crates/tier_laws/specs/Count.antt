@@ -13,8 +13,8 @@ use Rattle.tier_laws.specs.Reports.{is_last}
 use Rattle.tier_laws.specs.Frame.{flat_of}
 use Rattle.tier_laws.specs.Moments.{Moment, Event, run_of, moments, AreEvents, AreOfCall}
 
--- The most steps of each call. On a path of 7 tiers, a join looks at the root, goes up 7 tiers, and settles or releases the 6 below the root.
--- An arrival or a departure looks at the root, refreshes each of these 6, passes all 7, and advances the root.
+-- The most steps of each call. On a path of 7 tiers, a join looks at the root, goes up 7 tiers, and settles or releases the 6 below the
+-- root. An arrival or a departure looks at the root, refreshes each of these 6, passes all 7, and advances the root.
 abbrev pub most_steps : Call → ℕ
 most_steps (call.Join tier size) = 14
 most_steps call.Arrive = 15
@@ -30,8 +30,8 @@ pub record IsShort (s : State) (token : ℕ) (c : Call) (ms : List Moment) : Typ
   pub goes_on : is_idle (call_at s.calls token) ≡ false → length ms < most_steps c
   pub may : is_idle (call_at s.calls token) ≡ false → (may_go s token || may_finish s token) ≡ true
 
--- Each call has its answer after at most `most_steps` steps of its token, whatever steps other tokens take between them, and whatever tokens
--- are added.
+-- Each call has its answer after at most `most_steps` steps of its token, whatever steps other tokens take between them, and whatever
+-- tokens are added.
 abbrev pub CallsAreShort : Type 0
 CallsAreShort =
     (s : State) (token : ℕ) (c : Call) (events : List Event) → IsTiers s.parents → IsCore s → IsCall c → may_begin s token c ≡ true

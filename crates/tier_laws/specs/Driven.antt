@@ -41,7 +41,8 @@ with_tokens (suc many) s = with_tokens many (with_token s)
 -- who is registered has arrived.
 abbrev pub NewTreesAdvanceWhenAllArrived : Type 0
 NewTreesAdvanceWhenAllArrived =
-    (parents : List ℕ) (phase : ℕ) (plan : EndPlan) (many : ℕ) (steps : List Step) → IsShape parents → length parents ≤ 65535 → phase ≤ 2147483647
+    (parents : List ℕ) (phase : ℕ) (plan : EndPlan) (many : ℕ) (steps : List Step) → IsShape parents → length parents ≤ 65535
+    → phase ≤ 2147483647
     → AreSteps steps
     → IsFlatRun (labels steps (with_tokens many (opened parents phase plan))) (empty_in phase)
     × IsSound (flat_run (labels steps (with_tokens many (opened parents phase plan))) (empty_in phase))

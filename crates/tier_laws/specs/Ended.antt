@@ -1,4 +1,5 @@
--- Who may begin a call, and what calls do on a tree that has ended (own; the end by force is that of Java SE 21, `Phaser.forceTermination`).
+-- Who may begin a call, and what calls do on a tree that has ended (own; the end by force is that of Java SE 21,
+-- `Phaser.forceTermination`).
 use Rattle.std.specs.Prelude.{◌≡◌, ◌↔◌, ℕ, ◌<◌, true, List, length}
 use Rattle.flat_phaser.specs.Flat.{shown}
 use Rattle.tier_steps.specs.declared.view.View.{View}

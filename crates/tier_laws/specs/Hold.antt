@@ -41,7 +41,8 @@ pub record IsStill (now : ℕ) (v : View) : Type 0 where
 -- While a token has to advance the root all others are still.
 abbrev pub AdvancesAreAlone : Type 0
 AdvancesAreAlone =
-    (s : State) (token other : ℕ) → IsCore s → (flat_of s).ended ≡ false → token < length s.views → (view_at s.views token).errand ≡ Advancing
+    (s : State) (token other : ℕ) → IsCore s → (flat_of s).ended ≡ false → token < length s.views
+    → (view_at s.views token).errand ≡ Advancing
     → other < length s.views → other ≢ token → IsStill (flat_of s).phase (view_at s.views other)
 
 -- The members of the flat phaser are as many as the tokens have.

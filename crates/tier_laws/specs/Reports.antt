@@ -168,8 +168,8 @@ abbrev pub LatestTells : ℕ → Call → List Moment → Type 0
 LatestTells token c [] = Unit {0}
 LatestTells token c (m ∷ past) = IsReported token c m past
 
--- Each answer of a call says what `Tells` says, of the flat phaser that the labels reach from any that looks like the tree before the call. It
--- holds whatever steps other tokens take between those of the call, and whatever tokens are added.
+-- Each answer of a call says what `Tells` says, of the flat phaser that the labels reach from any that looks like the tree before the call.
+-- It holds whatever steps other tokens take between those of the call, and whatever tokens are added.
 abbrev pub AnswersTell : Type 0
 AnswersTell =
     (s : State) (token : ℕ) (c : Call) (events : List Event) (f : Flat) → IsCore s → IsCall c → may_begin s token c ≡ true

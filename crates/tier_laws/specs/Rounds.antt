@@ -15,7 +15,8 @@ use Rattle.tier_laws.specs.Calls.{RootStays}
 pub record IsNextPhase (old new : State) : Type 0 where
   pub phase : (flat_of new).phase ≡ next_phase_of (flat_of old).phase
   pub ended : (flat_of new).ended ≡ flat_ends old
-  pub awaited : (token : ℕ) → token < length old.views → 0 < (view_at old.views token).size → 0 < absent (flat_of new).phase (view_at new.views token)
+  pub awaited : (token : ℕ) → token < length old.views → 0 < (view_at old.views token).size
+      → 0 < absent (flat_of new).phase (view_at new.views token)
 
 abbrev pub AdvancesBeginThePhase : Type 0
 AdvancesBeginThePhase =
@@ -28,5 +29,6 @@ pub record IsStillAwaited (s : State) (step : Step) (token : ℕ) : Type 0 where
 
 abbrev pub AwaitedTokensStay : Type 0
 AwaitedTokensStay =
-    (s : State) (step : Step) (token : ℕ) → IsCore s → IsStepOfCalls step → (flat_of (after s step)).ended ≡ false → (flat_of s).ended ≡ false
+    (s : State) (step : Step) (token : ℕ) → IsCore s → IsStepOfCalls step → (flat_of (after s step)).ended ≡ false
+    → (flat_of s).ended ≡ false
     → IsAwaited s token → token ≢ actor step → IsStillAwaited s step token

@@ -17,9 +17,9 @@ use Rattle.tier_laws.specs.Driven.{with_tokens}
 abbrev pub two_leaves : State
 two_leaves = with_tokens 3 (opened (0 ∷ 0 ∷ 0 ∷ []) 0 (record { when_empty = true; at = None }))
 
--- Token 0 joins the first leaf, token 1 the second, in which there is no room for 65535 more. Token 0 arrives, has then arrived already, and
--- waits; the first leaf is held while it has arrived. Token 1 arrives last, and advances the root. Token 0 finds the phase passed and then
--- itself awaited, and leaves; token 1 ends the tree by force, and finds it ended.
+-- Token 0 joins the first leaf, token 1 the second, in which there is no room for 65535 more. Token 0 arrives, has then arrived already,
+-- and waits; the first leaf is held while it has arrived. Token 1 arrives last, and advances the root. Token 0 finds the phase passed and
+-- then itself awaited, and leaves; token 1 ends the tree by force, and finds it ended.
 abbrev pub worked_steps : List Step
 worked_steps =
     Begin 0 (Join 1 1) ∷ Go 0 ∷ Go 0 ∷ Go 0 ∷ Go 0 ∷ Begin 1 (Join 2 1) ∷ Go 1 ∷ Go 1 ∷ Go 1 ∷ Go 1
@@ -43,7 +43,8 @@ abbrev pub worked_answers : List Answer
 worked_answers =
     begun ∷ goes_on ∷ goes_on ∷ goes_on ∷ answer.Played (Done 0) ∷ begun ∷ goes_on ∷ goes_on ∷ goes_on ∷ answer.Played (Done 0)
     ∷ begun ∷ goes_on ∷ answer.Played (Full 1) ∷ answer.NotNow
-    ∷ begun ∷ goes_on ∷ goes_on ∷ answer.Played (Done 0) ∷ begun ∷ answer.Played (AlreadyArrived 0) ∷ begun ∷ answer.Played Waiting ∷ begun ∷ goes_on ∷ answer.Played (Held 0 AllArrived)
+    ∷ begun ∷ goes_on ∷ goes_on ∷ answer.Played (Done 0) ∷ begun ∷ answer.Played (AlreadyArrived 0) ∷ begun ∷ answer.Played Waiting ∷ begun
+    ∷ goes_on ∷ answer.Played (Held 0 AllArrived)
     ∷ begun ∷ goes_on ∷ goes_on ∷ answer.Played (MustAdvance 0 2) ∷ answer.Played (Done 0)
     ∷ begun ∷ goes_on ∷ answer.Played (Passed 1) ∷ begun ∷ answer.Played (Done 1) ∷ begun ∷ goes_on ∷ goes_on ∷ answer.Played (Done 1)
     ∷ begun ∷ answer.Played (Ended shown_ended) ∷ begun ∷ answer.Played (Ended shown_ended) ∷ []

@@ -74,7 +74,8 @@ glances : (k : Key) (t : ℕ) (w : Fields) (v : View) → IsLook k t w v (glance
 glances k zero w v = record { stays = refl; needs = refl; says = tt }
 glances k (suc t) w v = record { stays = refl; needs = omega arith; says = tt }
 
-refusals : (k : Key) (t : ℕ) (w : Fields) (v : View) (tier claimed size : ℕ) → IsDue k.shape tier claimed size t v → IsLook k t w v (refusing t tier claimed size w)
+refusals : (k : Key) (t : ℕ) (w : Fields) (v : View) (tier claimed size : ℕ) → IsDue k.shape tier claimed size t v
+    → IsLook k t w v (refusing t tier claimed size w)
 refusals k t w v tier claimed size due = go (turns_away (added claimed size) w) refl
   where
     go : (b : Bool) → turns_away (added claimed size) w ≡ b → IsLook k t w v (cond b (Refuse tier claimed size) (glance t))
@@ -113,15 +114,25 @@ may_look ps (Climb passage) t w v n = tt
 may_look ps Refresh t w v n = tt
 
 -- what a step finds
-found_at : (k : Key) (ws : List Fields) (vs : List (List Sight)) (id t : ℕ) (w : Fields) (f : List Sight) (x : Sight) (b : List Sight) → Reached k ws vs → get_elem? vs id ≡ some (f ++ x ∷ b) → t < length ws → word_at ws t ≡ w → IsReached k t w x
-found_at k ws vs id t w f x b r at inside here = record { words = ws; seats = vs; reached = r; within = inside; word = here; stands = record { id = id; front = f; back = b; seat = at } }
+found_at : (k : Key) (ws : List Fields) (vs : List (List Sight)) (id t : ℕ) (w : Fields) (f : List Sight) (x : Sight) (b : List Sight)
+    → Reached k ws vs → get_elem? vs id ≡ some (f ++ x ∷ b) → t < length ws → word_at ws t ≡ w → IsReached k t w x
+found_at k ws vs id t w f x b r at inside here =
+    record {
+      words = ws;
+      seats = vs;
+      reached = r;
+      within = inside;
+      word = here;
+      stands = record { id = id; front = f; back = b; seat = at };
+    }
 
 -- a step of this kind at the tier t
 record Moves (s : St) (id t : ℕ) (kind : Kind) (w : Fields) (tries left : ℕ) (x : Sight) : Type 0 where
   kept : Kept x.key (stepped s t left id [] (after kind t w tries x ∷ []) keeps)
   step : Stepped kind t w tries x (after kind t w tries x)
 
-moves_here : (s : St) (id t tries left : ℕ) (x : Sight) (kind : Kind) (kept : Kept x.key s) → IsTried kind t (word_at kept.words t) tries x → get_elem? s.views id ≡ some (x ∷ []) → t < length x.key.shape
+moves_here : (s : St) (id t tries left : ℕ) (x : Sight) (kind : Kind) (kept : Kept x.key s) → IsTried kind t (word_at kept.words t) tries x
+    → get_elem? s.views id ≡ some (x ∷ []) → t < length x.key.shape
     → left ≡ packed (word_after kind t (word_at kept.words t) x.view)
     → Needs x.key.shape kind t (word_at kept.words t) x.view → PlanSays x.key kind (word_at kept.words t)
     → Moves s id t kind (word_at kept.words t) tries left x
@@ -134,7 +145,9 @@ moves_here s id t tries left x kind kept few at inside new needs says =
     let tally = reached_states_tally k ws s.views kept.reached in
     let long = tally.long in
     let within : t < length ws = omega arith in
-    let r : Reached k (words_after ws kind t x.view) (set s.views id (y ∷ [])) = steps ws s.views id t tries [] [] x y kind kept.reached at within needs says refl (record { key = refl; view = refl; tier = refl; word = refl; tried = refl; steps = refl; opened = refl }) few in
+    let r : Reached k (words_after ws kind t x.view) (set s.views id (y ∷ [])) =
+    steps ws s.views id t tries [] [] x y kind kept.reached at within needs says refl
+    (record { key = refl; view = refl; tier = refl; word = refl; tried = refl; steps = refl; opened = refl }) few in
     let same : length (words_after ws kind t x.view) ≡ length ws = length-set ws t (word_after kind t w x.view) in
     record {
       kept = record {
@@ -174,7 +187,8 @@ moves_here s id t tries left x kind kept few at inside new needs says =
       };
     }
 
-moves : (s : St) (id t tries left : ℕ) (x : Sight) (kind : Kind) (w : Fields) (kept : Kept x.key s) → IsTried kind t w tries x → get_elem? s.views id ≡ some (x ∷ []) → t < length x.key.shape
+moves : (s : St) (id t tries left : ℕ) (x : Sight) (kind : Kind) (w : Fields) (kept : Kept x.key s) → IsTried kind t w tries x
+    → get_elem? s.views id ≡ some (x ∷ []) → t < length x.key.shape
     → word_at kept.words t ≡ w → left ≡ packed (word_after kind t w x.view)
     → Needs x.key.shape kind t w x.view → PlanSays x.key kind w → Moves s id t kind w tries left x
 moves s id t tries left x kind w kept few at inside here new needs says =
@@ -211,10 +225,18 @@ looks_here slots id t x kind inside may s kept long at small =
     let f = found s x.key t kept inside in
     let look = is_look x.key kind t w x.view may in
     let y : Sight = after (looking kind t w) t w 0 x in
-    let m = moves s id t 0 (get_or s.words t 0) x (looking kind t w) w kept (record { few = omega arith; changes = λ c j. absurd (c look.stays) }) at inside refl (f.number ∙ ap packed (sym look.stays)) look.needs look.says in
-    (y ∷ [], keeps, tt, m.kept, λ x' is. (y, refl, w, f.legal, f.number, subst (λ (z : Sight). Stepped (looking kind t w) t w 0 z y) (same_sight x x' is) m.step))
+    let m =
+    moves s id t 0 (get_or s.words t 0) x (looking kind t w) w kept (record { few = omega arith; changes = λ c j. absurd (c look.stays) })
+    at inside refl (f.number ∙ ap packed (sym look.stays)) look.needs look.says in (
+      y ∷ [],
+      keeps,
+      tt,
+      m.kept,
+      λ x' is. (y, refl, w, f.legal, f.number, subst (λ (z : Sight). Stepped (looking kind t w) t w 0 z y) (same_sight x x' is) m.step),
+    )
 
-pub looks_allow : (k : Key) (slots id t : ℕ) (x : Sight) (kind : Kind) → x.key ≡ k → t < length x.key.shape → MayLook x.key.shape kind t x.view
+pub looks_allow : (k : Key) (slots id t : ℕ) (x : Sight) (kind : Kind) → x.key ≡ k → t < length x.key.shape
+    → MayLook x.key.shape kind t x.view
     → Allows (Kept k) slots id (x ∷ [], []) t (λ n. n) (Saw kind (step slots t 0 0 none) (x ∷ [], []))
 looks_allow k slots id t x kind own inside may =
     subst (λ (z : Key). Allows (Kept z) slots id (x ∷ [], []) t (λ n. n) (Saw kind (step slots t 0 0 none) (x ∷ [], []))) own
@@ -248,7 +270,9 @@ tries_here slots id old new t x kind inside legal is to needs says s kept long a
     (λ miss.
     let look = is_look x.key kind t w x.view (may_look x.key.shape kind t x.word x.view needs) in
     let y : Sight = after (looking kind t w) t w 1 x in
-    let m = moves s id t 1 n x (looking kind t w) w kept (record { few = omega arith; changes = λ c j. absurd (c look.stays) }) at inside refl (f.number ∙ ap packed (sym look.stays)) look.needs look.says in (
+    let m =
+    moves s id t 1 n x (looking kind t w) w kept (record { few = omega arith; changes = λ c j. absurd (c look.stays) }) at inside refl
+    (f.number ∙ ap packed (sym look.stays)) look.needs look.says in (
       y ∷ [],
       keeps,
       tt,
@@ -263,11 +287,14 @@ tries_here slots id old new t x kind inside legal is to needs says s kept long a
       ),
     ))
 
-pub tries_allow : (k : Key) (slots id old new t : ℕ) (x : Sight) (kind : Kind) → x.key ≡ k → t < length x.key.shape → IsLegal x.word → old ≡ packed x.word
+pub tries_allow : (k : Key) (slots id old new t : ℕ) (x : Sight) (kind : Kind) → x.key ≡ k → t < length x.key.shape → IsLegal x.word
+    → old ≡ packed x.word
     → new ≡ packed (word_after kind t x.word x.view) → Needs x.key.shape kind t x.word x.view → PlanSays x.key kind x.word
     → Allows (Kept k) slots id (x ∷ [], []) t (λ n. either (n == old) new n) (Tried (step slots t old new (some kind)) (x ∷ [], []))
 tries_allow k slots id old new t x kind own inside legal is to needs says =
-    subst (λ (z : Key). Allows (Kept z) slots id (x ∷ [], []) t (λ n. either (n == old) new n) (Tried (step slots t old new (some kind)) (x ∷ [], []))) own
+    subst
+    (λ (z : Key). Allows (Kept z) slots id (x ∷ [], []) t (λ n. either (n == old) new n) (Tried (step slots t old new (some kind)) (x ∷ [], [])))
+    own
     (tries_here slots id old new t x kind inside legal is to needs says)
 
 -- a number that is read stays
@@ -275,7 +302,8 @@ pub same_number : (ns : List ℕ) → set ns 0 (get_or ns 0 0) ≡ ns
 same_number [] = refl
 same_number (n ∷ ns) = refl
 
-pub sits_allow : (k : Key) (slots id : ℕ) → 0 < length k.shape → Allows (Kept k) slots id ([], []) 0 (λ n. n) (Sat k (step slots 0 0 0 none) ([], []))
+pub sits_allow : (k : Key) (slots id : ℕ) → 0 < length k.shape
+    → Allows (Kept k) slots id ([], []) 0 (λ n. n) (Sat k (step slots 0 0 0 none) ([], []))
 sits_allow k slots id inside s kept long at small =
     let w : Fields = word_at kept.words 0 in
     let f = found s k 0 kept inside in
@@ -310,34 +338,60 @@ record Looks (k : Key) (s : St) (id : ℕ) (w : Fields) (x y : Sight) : Type 0 w
   first : Stepped Look 0 w 0 x (after Look 0 w 0 x)
   second : Stepped Look 0 w 0 y (after Look 0 w 0 y)
 
-look_steps : (w : Fields) (x : Sight) → Beside x.key.shape 0 w x.view → Beside x.key.shape 0 w (after Look 0 w 0 x).view → IsReached x.key 0 w x → Stepped Look 0 w 0 x (after Look 0 w 0 x)
-look_steps w x b a f = record { key = refl; view = refl; tier = refl; word = refl; tried = refl; steps = refl; opened = refl; before = b; after = a; found = f }
+look_steps : (w : Fields) (x : Sight) → Beside x.key.shape 0 w x.view → Beside x.key.shape 0 w (after Look 0 w 0 x).view
+    → IsReached x.key 0 w x → Stepped Look 0 w 0 x (after Look 0 w 0 x)
+look_steps w x b a f =
+    record {
+      key = refl;
+      view = refl;
+      tier = refl;
+      word = refl;
+      tried = refl;
+      steps = refl;
+      opened = refl;
+      before = b;
+      after = a;
+      found = f;
+    }
 
-one_beside : (k : Key) (ws : List Fields) (front : List View) (u : View) (back : List View) → IsTiers k.shape → Tallies k.shape ws (front ++ u ∷ back) → Beside k.shape 0 (word_at ws 0) u
-one_beside k ws front u back shape t = record { words = ws; front = front; back = back; shape = shape; within = t.some; word = refl; tally = t }
+one_beside : (k : Key) (ws : List Fields) (front : List View) (u : View) (back : List View) → IsTiers k.shape
+    → Tallies k.shape ws (front ++ u ∷ back) → Beside k.shape 0 (word_at ws 0) u
+one_beside k ws front u back shape t =
+    record { words = ws; front = front; back = back; shape = shape; within = t.some; word = refl; tally = t }
 
-two_beside : (k : Key) (ws : List Fields) (front : List View) (u v : View) (back : List View) → IsTiers k.shape → Tallies k.shape ws (front ++ u ∷ v ∷ back) → Beside k.shape 0 (word_at ws 0) v
+two_beside : (k : Key) (ws : List Fields) (front : List View) (u v : View) (back : List View) → IsTiers k.shape
+    → Tallies k.shape ws (front ++ u ∷ v ∷ back) → Beside k.shape 0 (word_at ws 0) v
 two_beside k ws front u v back shape t =
-    one_beside k ws (front ++ u ∷ []) v back shape (subst (λ (vs : List View). Tallies k.shape ws vs) (sym (append_assoc front (u ∷ []) (v ∷ back))) t)
+    one_beside k ws (front ++ u ∷ []) v back shape
+    (subst (λ (vs : List View). Tallies k.shape ws vs) (sym (append_assoc front (u ∷ []) (v ∷ back))) t)
 
-looks_both : (k : Key) (s : St) (id : ℕ) (x y : Sight) (kept : Kept k s) → x.key ≡ k → y.key ≡ k → get_elem? s.views id ≡ some (x ∷ y ∷ []) → Looks k s id (word_at kept.words 0) x y
+looks_both : (k : Key) (s : St) (id : ℕ) (x y : Sight) (kept : Kept k s) → x.key ≡ k → y.key ≡ k → get_elem? s.views id ≡ some (x ∷ y ∷ [])
+    → Looks k s id (word_at kept.words 0) x y
 looks_both k s id x y kept own own' at =
     let ws : List Fields = kept.words in
     let w : Fields = word_at ws 0 in
     let x' : Sight = after Look 0 w 0 x in
     let y' : Sight = after Look 0 w 0 y in
     let tally = reached_states_tally k ws s.views kept.reached in
-    let r : Reached k ws (set s.views id (x' ∷ y' ∷ [])) = subst (λ (us : List Fields). Reached k us (set s.views id (x' ∷ y' ∷ []))) (same_words ws)
+    let r : Reached k ws (set s.views id (x' ∷ y' ∷ [])) =
+    subst (λ (us : List Fields). Reached k us (set s.views id (x' ∷ y' ∷ []))) (same_words ws)
     (goes_on k 0 w w (x ∷ y ∷ []) (x' ∷ y' ∷ []) (looks_go k 0 w 0 (omega arith) (x ∷ y ∷ []) (own, (own', tt))) [] ws s.views id kept.reached at tally.some refl) in
     let shape = shaped k ws s.views kept.reached in
     let a = around_new s.views id (x ∷ y ∷ []) at in
     let t0 = subst (λ (vs : List View). Tallies k.shape ws vs) a.is (reached_states_tally k ws s.views kept.reached) in
-    let t1 = subst (λ (vs : List View). Tallies k.shape ws vs) (a.after (x' ∷ y' ∷ [])) (reached_states_tally k ws (set s.views id (x' ∷ y' ∷ [])) r) in
+    let t1 =
+    subst (λ (vs : List View). Tallies k.shape ws vs) (a.after (x' ∷ y' ∷ []))
+    (reached_states_tally k ws (set s.views id (x' ∷ y' ∷ [])) r) in
     record {
       kept = record { words = ws; packed = same_number s.words ∙ kept.packed; reached = r };
-      first = look_steps w x (subst (λ (z : Key). Beside z.shape 0 w x.view) (sym own) (one_beside k ws a.front x.view (y.view ∷ a.back) shape t0)) (subst (λ (z : Key). Beside z.shape 0 w x'.view) (sym own) (one_beside k ws a.front x'.view (y'.view ∷ a.back) shape t1))
+      first =
+          look_steps w x
+          (subst (λ (z : Key). Beside z.shape 0 w x.view) (sym own) (one_beside k ws a.front x.view (y.view ∷ a.back) shape t0))
+          (subst (λ (z : Key). Beside z.shape 0 w x'.view) (sym own) (one_beside k ws a.front x'.view (y'.view ∷ a.back) shape t1))
           (subst (λ (z : Key). IsReached z 0 w x) (sym own) (found_at k ws s.views id 0 w [] x (y ∷ []) kept.reached at tally.some refl));
-      second = look_steps w y (subst (λ (z : Key). Beside z.shape 0 w y.view) (sym own') (two_beside k ws a.front x.view y.view a.back shape t0)) (subst (λ (z : Key). Beside z.shape 0 w y'.view) (sym own') (two_beside k ws a.front x'.view y'.view a.back shape t1))
+      second =
+          look_steps w y (subst (λ (z : Key). Beside z.shape 0 w y.view) (sym own') (two_beside k ws a.front x.view y.view a.back shape t0))
+          (subst (λ (z : Key). Beside z.shape 0 w y'.view) (sym own') (two_beside k ws a.front x'.view y'.view a.back shape t1))
           (subst (λ (z : Key). IsReached z 0 w y) (sym own') (found_at k ws s.views id 0 w (x ∷ []) y [] kept.reached at tally.some refl));
     }
 
@@ -366,14 +420,18 @@ both_allow k slots id x y own own' inside s kept long at small =
     )
 
 pub cuts_allow : (k : Key) (id : ℕ) (x : Sight) → Splits (Kept k) id (x ∷ []) (cut_once x ∷ []) []
-cuts_allow k id x s kept at = record { words = kept.words; packed = kept.packed; reached = cuts kept.words s.views id (x ∷ []) kept.reached at }
+cuts_allow k id x s kept at =
+    record { words = kept.words; packed = kept.packed; reached = cuts kept.words s.views id (x ∷ []) kept.reached at }
 
 pub parts_allow : (k : Key) (id : ℕ) (x y : Sight) → Splits (Kept k) id (x ∷ y ∷ []) (x ∷ []) (y ∷ [])
-parts_allow k id x y s kept at = record { words = kept.words; packed = kept.packed; reached = parts kept.words s.views id x [] y [] kept.reached at }
+parts_allow k id x y s kept at =
+    record { words = kept.words; packed = kept.packed; reached = parts kept.words s.views id x [] y [] kept.reached at }
 
 pub joins_allow : (k : Key) (id other : ℕ) (l m : List Sight) → Joins (Kept k) id l other m (l ++ m) []
 joins_allow k id other l m s kept at apart there =
     record { words = kept.words; packed = kept.packed; reached = joins kept.words s.views id other l m kept.reached at apart there }
 
-pub opens_allow : (k : Key) → IsTiers k.shape → k.phase ≤ 2147483647 → Kept k (opening (map packed (empty_words k.shape k.phase)) [] (first_sights k))
-opens_allow k shape small = record { words = empty_words k.shape k.phase; packed = refl; reached = opens (first_sight k (empty_word k.phase)) shape small refl }
+pub opens_allow : (k : Key) → IsTiers k.shape → k.phase ≤ 2147483647
+    → Kept k (opening (map packed (empty_words k.shape k.phase)) [] (first_sights k))
+opens_allow k shape small =
+    record { words = empty_words k.shape k.phase; packed = refl; reached = opens (first_sight k (empty_word k.phase)) shape small refl }

@@ -40,7 +40,8 @@ use Rattle.tier_rule.proofs.Groups.{step_amid, steps_are_flat}
 alike_sound : (f g : Flat) → IsAlike f g → IsSound f → IsSound g
 alike_sound f g a sound due =
     let s = same_counts f g a in
-    ap (λ (p : ℕ). everyone_arrived p g.members) (sym a.phase) ∙ (sym (same_everyone f.phase f.members g.members s.members s.arrived) ∙ sound (a.due ∙ due))
+    ap (λ (p : ℕ). everyone_arrived p g.members) (sym a.phase)
+    ∙ (sym (same_everyone f.phase f.members g.members s.members s.arrived) ∙ sound (a.due ∙ due))
 
 owners_sound : (f g : Flat) → IsSameButOwners f g → IsSound f → IsSound g
 owners_sound f g same sound due =
@@ -52,7 +53,8 @@ owners_sound f g same sound due =
 run_sound : (phase : ℕ) (f : Flat) → FlatRun phase f → f.ended ≡ false → IsSound f
 run_sound phase f begins going = empty_sound phase
 run_sound phase f (takes g step run on may) going = step_sound step g (run_sound phase g run on)
-run_sound phase f (seems g h run alike) going = let on : g.ended ≡ false = alike.ended ∙ going in alike_sound g f (alike.going on) (run_sound phase g run on)
+run_sound phase f (seems g h run alike) going = let on : g.ended ≡ false = alike.ended ∙ going in
+    alike_sound g f (alike.going on) (run_sound phase g run on)
 run_sound phase f (regroups g h run same) going = owners_sound g f same (run_sound phase g run (same.ended ∙ going))
 
 some_flat : (f g : Flat) → ◌≡◌ {A = Option Flat} (Some f) (Some g) → f ≡ g
@@ -61,18 +63,21 @@ some_flat f g e = cc
 no_flat : (g : Flat) → ◌≡◌ {A = Option Flat} None (Some g) → ⊥
 no_flat g e = absurd (cc)
 
-due_found : (phase : ℕ) (f : Flat) (run : FlatRun phase f) (step : FlatStep) (o : Option Flat) (found : Flat) → f.ended ≡ false → MayTake step f → (o ≡ Some found → IsDueAfter phase found)
+due_found : (phase : ℕ) (f : Flat) (run : FlatRun phase f) (step : FlatStep) (o : Option Flat) (found : Flat) → f.ended ≡ false
+    → MayTake step f → (o ≡ Some found → IsDueAfter phase found)
     → cond (flat_laws.is_advance step) (Some f) o ≡ Some found → IsDueAfter phase found
 due_found phase f run (flat.Join owner count) o found going may before is = before is
 due_found phase f run (flat.Arrive owner) o found going may before is = before is
 due_found phase f run (flat.Leave owner) o found going may before is = before is
 due_found phase f run (flat.Advance ends) o found going may before is =
-    subst (IsDueAfter phase) (some_flat f found is) (record { run = run; going = going; due = may; everyone = run_sound phase f run going may })
+    subst (IsDueAfter phase) (some_flat f found is)
+    (record { run = run; going = going; due = may; everyone = run_sound phase f run going may })
 due_found phase f run flat.Force o found going may before is = before is
 
 pub flat_runs_wait_for_all : FlatRunsWaitForAll
 flat_runs_wait_for_all phase f begins found is = absurd (no_flat found is)
-flat_runs_wait_for_all phase f (takes g step run going may) found is = due_found phase g run step (last_found run) found going may (flat_runs_wait_for_all phase g run found) is
+flat_runs_wait_for_all phase f (takes g step run going may) found is =
+    due_found phase g run step (last_found run) found going may (flat_runs_wait_for_all phase g run found) is
 flat_runs_wait_for_all phase f (seems g h run alike) found is = flat_runs_wait_for_all phase g run found is
 flat_runs_wait_for_all phase f (regroups g h run same) found is = flat_runs_wait_for_all phase g run found is
 
@@ -102,10 +107,13 @@ same_advance n (Climb passage) = refl
 same_advance n Refresh = refl
 
 -- a step's label goes on with a flat run, by whether the phaser has ended
-after_label : (phase : ℕ) (f g : Flat) (l : Option FlatStep) (ls : List FlatStep) (o : Option Flat) (b : Bool) → Leads phase f ls o → f.ended ≡ b → (b ≡ true → label_advances l ≡ false) → IsAllowedLabel l f → LooksAlike (labelled l f) g
+after_label : (phase : ℕ) (f g : Flat) (l : Option FlatStep) (ls : List FlatStep) (o : Option Flat) (b : Bool) → Leads phase f ls o
+    → f.ended ≡ b → (b ≡ true → label_advances l ≡ false) → IsAllowedLabel l f → LooksAlike (labelled l f) g
     → Leads phase g (cond b ls (with_label l ls)) (cond (label_advances l) (Some f) o)
-after_label phase f g None ls o true before e still may alike = record { run = seems f g before.run alike; taken = before.taken; last = before.last }
-after_label phase f g None ls o false before e still may alike = record { run = seems f g before.run alike; taken = before.taken; last = before.last }
+after_label phase f g None ls o true before e still may alike =
+    record { run = seems f g before.run alike; taken = before.taken; last = before.last }
+after_label phase f g None ls o false before e still may alike =
+    record { run = seems f g before.run alike; taken = before.taken; last = before.last }
 after_label phase f g (Some step) ls o true before e still may alike =
     record {
       run = seems f g before.run (subst (λ (h : Flat). LooksAlike h g) (ap (λ (c : Bool). cond c f (flat_taken step f)) e) alike);
@@ -120,14 +128,21 @@ after_label phase f g (Some step) ls o false before e still may alike =
     }
 
 looks_itself : (f : Flat) → LooksAlike f f
-looks_itself f = record { phase = refl; ended = refl; going = λ e. record { phase = refl; ended = refl; due = refl; members = λ owner. refl; arrived = λ owner. refl } }
+looks_itself f =
+    record {
+      phase = refl;
+      ended = refl;
+      going = λ e. record { phase = refl; ended = refl; due = refl; members = λ owner. refl; arrived = λ owner. refl };
+    }
 
 -- whoever advances finds that the root has not ended
 due_going : (b c : Bool) → cond b false c ≡ true → b ≡ true → ⊥
 due_going true c due e = absurd (let a : false ≡ true = due in cc)
 due_going false c due e = absurd (cc)
 
-pub never_ended : (k : Key) (ws : List Fields) (vs : List (List Sight)) (id t : ℕ) (f : List Sight) (x : Sight) (b : List Sight) (kind : Kind) → MayStep k ws vs id t f x b kind → (word_at ws 0).ended ≡ true → is_advance kind ≡ false
+pub never_ended : (k : Key) (ws : List Fields) (vs : List (List Sight)) (id t : ℕ) (f : List Sight) (x : Sight) (b : List Sight)
+    (kind : Kind)
+    → MayStep k ws vs id t f x b kind → (word_at ws 0).ended ≡ true → is_advance kind ≡ false
 never_ended k ws vs id t f x b Look m e = refl
 never_ended k ws vs id t f x b Glance m e = refl
 never_ended k ws vs id t f x b (Refuse tier claimed size) m e = refl
@@ -136,7 +151,8 @@ never_ended k ws vs id t f x b Arrive m e = refl
 never_ended k ws vs id t f x b Leave m e = refl
 never_ended k ws vs id t f x b (Advance ends) m e =
     let a = amid vs id f x b m.seat in
-    absurd (due_going (word_at ws 0).ended _ (advances_are_due k.shape ws a.front x.view a.back t ends (step_amid k ws vs id t f x b (Advance ends) m)).due e)
+    absurd
+    (due_going (word_at ws 0).ended _ (advances_are_due k.shape ws a.front x.view a.back t ends (step_amid k ws vs id t f x b (Advance ends) m)).due e)
 never_ended k ws vs id t f x b Force m e = refl
 never_ended k ws vs id t f x b (Claim tier claimed size) m e = refl
 never_ended k ws vs id t f x b (Settle tier claimed size) m e = refl
@@ -149,39 +165,67 @@ found_cond : (b : Bool) (m : Moment) (o : Option Moment) → cond b (Some (flat_
 found_cond true m o = refl
 found_cond false m o = refl
 
-after_step : (k : Key) (ws : List Fields) (vs : List (List Sight)) (id t : ℕ) (f : List Sight) (x y : Sight) (b : List Sight) (kind : Kind) (ls : List FlatStep) (o : Option Moment) → MayStep k ws vs id t f x b kind
+after_step : (k : Key) (ws : List Fields) (vs : List (List Sight)) (id t : ℕ) (f : List Sight) (x y : Sight) (b : List Sight) (kind : Kind)
+    (ls : List FlatStep) (o : Option Moment)
+    → MayStep k ws vs id t f x b kind
     → y.view ≡ stepped_view k.shape ws kind t x.view → Leads k.phase (image ws (views_of vs)) ls (flat_found o)
-    → Leads k.phase (image (words_after ws kind t x.view) (views_of (set vs id (f ++ y ∷ b)))) (cond (word_at ws 0).ended ls (with_label (label (number_of vs id f) kind) ls)) (flat_found (cond (is_advance kind) (Some (record { words = ws; seats = vs })) o))
+    → Leads k.phase (image (words_after ws kind t x.view) (views_of (set vs id (f ++ y ∷ b))))
+    (cond (word_at ws 0).ended ls (with_label (label (number_of vs id f) kind) ls))
+    (flat_found (cond (is_advance kind) (Some (record { words = ws; seats = vs })) o))
 after_step k ws vs id t f x y b kind ls o m is before =
     let here : Flat = image ws (views_of vs) in
     let n : ℕ = number_of vs id f in
     let flat = steps_are_flat k ws vs id t f x y b kind here m is (looks_itself here) in
-    let next = after_label k.phase here (image (words_after ws kind t x.view) (views_of (set vs id (f ++ y ∷ b)))) (label n kind) ls (flat_found o) (word_at ws 0).ended before refl
+    let next =
+    after_label k.phase here (image (words_after ws kind t x.view) (views_of (set vs id (f ++ y ∷ b)))) (label n kind) ls (flat_found o)
+    (word_at ws 0).ended before refl
     (λ e. same_advance n kind ∙ never_ended k ws vs id t f x b kind m e) flat.0 flat.1 in
-    record { run = next.run; taken = next.taken; last = next.last ∙ (ap (λ (c : Bool). cond c (Some here) (flat_found o)) (same_advance n kind) ∙ found_cond (is_advance kind) (record { words = ws; seats = vs }) o) }
+    record {
+      run = next.run;
+      taken = next.taken;
+      last =
+          next.last
+          ∙ (ap (λ (c : Bool). cond c (Some here) (flat_found o)) (same_advance n kind)
+          ∙ found_cond (is_advance kind) (record { words = ws; seats = vs }) o);
+    }
 
 -- seats that are grouped in another way
-regrouped : (phase : ℕ) (ws : List Fields) (xs ys : List View) (ls : List FlatStep) (o : Option Flat) → ((test : Option ℕ → Bool) → sum_by (marked_share test) xs ≡ sum_by (marked_share test) ys) → sum_by climb_share xs ≡ sum_by climb_share ys
+regrouped : (phase : ℕ) (ws : List Fields) (xs ys : List View) (ls : List FlatStep) (o : Option Flat)
+    → ((test : Option ℕ → Bool) → sum_by (marked_share test) xs ≡ sum_by (marked_share test) ys)
+    → sum_by climb_share xs ≡ sum_by climb_share ys
     → Leads phase (image ws xs) ls o → Leads phase (image ws ys) ls o
-regrouped phase ws xs ys ls o marks climbs before = record { run = regroups (image ws xs) (image ws ys) before.run (same_but_owners ws xs ys marks climbs); taken = before.taken; last = before.last }
+regrouped phase ws xs ys ls o marks climbs before =
+    record {
+      run = regroups (image ws xs) (image ws ys) before.run (same_but_owners ws xs ys marks climbs);
+      taken = before.taken;
+      last = before.last;
+    }
 
 unseen_sum : (f : View → ℕ) (n phase : ℕ) → f (new_view phase) ≡ 0 → sum_by f (replicate n (new_view phase)) ≡ 0
 unseen_sum f zero phase none = refl
-unseen_sum f (suc n) phase none = let a = sum_by-cons f (new_view phase) (replicate n (new_view phase)) in let b = unseen_sum f n phase none in omega arith
+unseen_sum f (suc n) phase none = let a = sum_by-cons f (new_view phase) (replicate n (new_view phase)) in
+    let b = unseen_sum f n phase none in
+    omega arith
 
-sat_sum : (f : View → ℕ) (k : Key) (ws : List Fields) (vs : List (List Sight)) (id n : ℕ) → get_elem? vs id ≡ some [] → f (new_view (word_at ws 0).phase) ≡ 0
+sat_sum : (f : View → ℕ) (k : Key) (ws : List Fields) (vs : List (List Sight)) (id n : ℕ) → get_elem? vs id ≡ some []
+    → f (new_view (word_at ws 0).phase) ≡ 0
     → sum_by f (views_of vs) ≡ sum_by f (views_of (set vs id (replicate n (sat_sight k (word_at ws 0)))))
 sat_sum f k ws vs id n at none =
     let a = reseated f vs id [] (replicate n (sat_sight k (word_at ws 0))) at in
-    let b : sum_by f (those (replicate n (sat_sight k (word_at ws 0)))) ≡ 0 = ap (sum_by f) (those-replicate n (sat_sight k (word_at ws 0))) ∙ unseen_sum f n (word_at ws 0).phase none in
+    let b : sum_by f (those (replicate n (sat_sight k (word_at ws 0)))) ≡ 0 =
+    ap (sum_by f) (those-replicate n (sat_sight k (word_at ws 0))) ∙ unseen_sum f n (word_at ws 0).phase none in
     omega arith
 
-cut_is : (ts : List (List Sight)) (id : ℕ) (l : List Sight) → get_elem? ts id ≡ some l → views_of ts ≡ views_of (set ts id (cut_off l) ++ [] ∷ [])
+cut_is : (ts : List (List Sight)) (id : ℕ) (l : List Sight) → get_elem? ts id ≡ some l
+    → views_of ts ≡ views_of (set ts id (cut_off l) ++ [] ∷ [])
 cut_is ts id l at =
     let a = beside ts id l at in
-    a.is ∙ (ap (λ (views : List View). a.front ++ (views ++ a.back)) (sym (cut_views l)) ∙ (sym (a.after (cut_off l)) ∙ (sym (append-nil (views_of (set ts id (cut_off l)))) ∙ sym (last_seat (set ts id (cut_off l)) []))))
+    a.is
+    ∙ (ap (λ (views : List View). a.front ++ (views ++ a.back)) (sym (cut_views l))
+    ∙ (sym (a.after (cut_off l)) ∙ (sym (append-nil (views_of (set ts id (cut_off l)))) ∙ sym (last_seat (set ts id (cut_off l)) []))))
 
-leads : (k : Key) (ws : List Fields) (vs : List (List Sight)) (r : Reached k ws vs) → Leads k.phase (image ws (views_of vs)) (labels_of r) (flat_found (last_advance r))
+leads : (k : Key) (ws : List Fields) (vs : List (List Sight)) (r : Reached k ws vs)
+    → Leads k.phase (image ws (views_of vs)) (labels_of r) (flat_found (last_advance r))
 leads k ws vs (opens x shape small is) =
     record {
       run =
@@ -191,21 +235,25 @@ leads k ws vs (opens x shape small is) =
       last = refl;
     }
 leads k ws vs (steps us ts id t tries f b x y kind r at within needs says own is few) =
-    after_step k us ts id t f x y b kind (labels_of r) (last_advance r) (record { reached = r; seat = at; within = within; needs = needs; says = says })
+    after_step k us ts id t f x y b kind (labels_of r) (last_advance r)
+    (record { reached = r; seat = at; within = within; needs = needs; says = says })
     (is.view ∙ ap (λ (z : Key). stepped_view z.shape us kind t x.view) own) (leads k us ts r)
 leads k ws vs (cuts us ts id l r at) =
     regrouped k.phase us (views_of ts) (views_of (set ts id (cut_off l) ++ [] ∷ [])) (labels_of r) (flat_found (last_advance r))
     (λ test. ap (sum_by (marked_share test)) (cut_is ts id l at)) (ap (sum_by climb_share) (cut_is ts id l at)) (leads k us ts r)
 leads k ws vs (sits us ts id n r at) =
-    regrouped k.phase us (views_of ts) (views_of (set ts id (replicate n (sat_sight k (word_at us 0))))) (labels_of r) (flat_found (last_advance r))
+    regrouped k.phase us (views_of ts) (views_of (set ts id (replicate n (sat_sight k (word_at us 0))))) (labels_of r)
+    (flat_found (last_advance r))
     (λ test. sat_sum (marked_share test) k us ts id n at (no_share (cond {A = ℕ} (test (Some (word_at us 0).phase)) 1 0) (cond {A = ℕ} (test None) 1 0)))
     (sat_sum climb_share k us ts id n at refl) (leads k us ts r)
 leads k ws vs (joins us ts id other l m r at apart there) =
     regrouped k.phase us (views_of ts) (views_of (set (set ts id (l ++ m)) other [])) (labels_of r) (flat_found (last_advance r))
-    (λ test. sym (joined_sum (marked_share test) ts id other l m at there)) (sym (joined_sum climb_share ts id other l m at there)) (leads k us ts r)
+    (λ test. sym (joined_sum (marked_share test) ts id other l m at there)) (sym (joined_sum climb_share ts id other l m at there))
+    (leads k us ts r)
 leads k ws vs (parts us ts id x l y m r at) =
     regrouped k.phase us (views_of ts) (views_of (set ts id (x ∷ l) ++ (y ∷ m) ∷ [])) (labels_of r) (flat_found (last_advance r))
-    (λ test. sym (parted_sum (marked_share test) ts id (x ∷ l) (y ∷ m) at)) (sym (parted_sum climb_share ts id (x ∷ l) (y ∷ m) at)) (leads k us ts r)
+    (λ test. sym (parted_sum (marked_share test) ts id (x ∷ l) (y ∷ m) at)) (sym (parted_sum climb_share ts id (x ∷ l) (y ∷ m) at))
+    (leads k us ts r)
 
 pub runs_are_flat : RunsAreFlat
 runs_are_flat k ws vs r = let a = leads k ws vs r in record { flat = a.run; taken = a.taken; last = a.last }

@@ -28,9 +28,11 @@ word_again : (ws : List Fields) (t : ℕ) (w : Fields) → word_at ws t ≡ w �
 word_again ws t w here = ap (set ws t) (sym here) ∙ set-get_or ws t blank
 
 -- two writes of a word and of a seat are one
-written_twice : (k : Key) (ws : List Fields) (vs : List (List Sight)) (id t : ℕ) (a u : Fields) (l m : List Sight) → Reached k (set (set ws t a) t u) (set (set vs id l) id m) → Reached k (set ws t u) (set vs id m)
+written_twice : (k : Key) (ws : List Fields) (vs : List (List Sight)) (id t : ℕ) (a u : Fields) (l m : List Sight)
+    → Reached k (set (set ws t a) t u) (set (set vs id l) id m) → Reached k (set ws t u) (set vs id m)
 written_twice k ws vs id t a u l m r =
-    subst (λ (us : List Fields). Reached k us (set vs id m)) (set_set ws t a u) (subst (λ (ns : List (List Sight)). Reached k (set (set ws t a) t u) ns) (set_set vs id l m) r)
+    subst (λ (us : List Fields). Reached k us (set vs id m)) (set_set ws t a u)
+    (subst (λ (ns : List (List Sight)). Reached k (set (set ws t a) t u) ns) (set_set vs id l m) r)
 
 pub still_inside : (ws : List Fields) (t : ℕ) (a : Fields) → t < length ws → t < length (set ws t a)
 still_inside ws t a h = subst (λ (n : ℕ). t < n) (sym (length-set ws t a)) h
@@ -59,7 +61,8 @@ one_step k ws vs id t tries f b x kind w r at inside here needs says own few =
     subst (λ (us : List Fields). Reached k us (set vs id (f ++ y ∷ b))) (ap (λ (z : Fields). set ws t (word_after kind t z x.view)) here) q
 
 -- the tokens behind those in `f` take their steps
-pub goes_on : (k : Key) (t : ℕ) (w u : Fields) (l m : List Sight) → Goes k t w l u m → (f : List Sight) (ws : List Fields) (vs : List (List Sight)) (id : ℕ)
+pub goes_on : (k : Key) (t : ℕ) (w u : Fields) (l m : List Sight) → Goes k t w l u m
+    → (f : List Sight) (ws : List Fields) (vs : List (List Sight)) (id : ℕ)
     → Reached k ws vs → get_elem? vs id ≡ some (f ++ l) → t < length ws → word_at ws t ≡ w → Reached k (set ws t u) (set vs id (f ++ m))
 goes_on k t w u l m (stays w' l') f ws vs id r at inside here =
     subst (λ (us : List Fields). Reached k us (set vs id (f ++ l'))) (sym (word_again ws t w' here))
@@ -93,7 +96,8 @@ glance_says k zero w = tt
 glance_says k (suc t) w = tt
 
 -- a look of all is such a run
-pub looks_go : (k : Key) (t : ℕ) (w : Fields) (tries : ℕ) → tries ≤ 1 → (l : List Sight) → AreOf k l → Goes k t w l w (looked_all t w tries l)
+pub looks_go : (k : Key) (t : ℕ) (w : Fields) (tries : ℕ) → tries ≤ 1 → (l : List Sight) → AreOf k l
+    → Goes k t w l w (looked_all t w tries l)
 looks_go k t w tries few [] own = stays w []
 looks_go k t w tries few (x ∷ xs) own =
     let y : Sight = stepped_sight (glance t) t w tries x in
@@ -103,7 +107,8 @@ looks_go k t w tries few (x ∷ xs) own =
     (passes w w y xs (looked_all t w tries xs) (looks_go k t w tries few xs own.1)))
 
 -- the views of a seat in a state that is reached
-pub among : (k : Key) (ws : List Fields) (vs : List (List Sight)) (id t : ℕ) (l : List Sight) (w : Fields) → Reached k ws vs → get_elem? vs id ≡ some l → t < length ws → word_at ws t ≡ w → Among k.shape t w (those l)
+pub among : (k : Key) (ws : List Fields) (vs : List (List Sight)) (id t : ℕ) (l : List Sight) (w : Fields) → Reached k ws vs
+    → get_elem? vs id ≡ some l → t < length ws → word_at ws t ≡ w → Among k.shape t w (those l)
 among k ws vs id t l w r at inside here = let a = beside vs id l at in record {
   words = ws;
   front = a.front;

@@ -32,6 +32,7 @@ here_arrived p v is some = ⊎_elim
     (λ (e : eqb v.phase p ≡ false). let z : v.size ≡ 0 = is ∙ ap (λ (b : Bool). cond {A = ℕ} b v.arrived 0) e in absurd (omega arith))
     (either (eqb v.phase p))
 
-pub all_arrived : (ps : List ℕ) (p : ℕ) (ended : Bool) (vs : List View) → AllByRecursion (ViewFits ps p ended) vs → AllByRecursion (IsHere p) vs → AllByRecursion (HasArrived p) vs
+pub all_arrived : (ps : List ℕ) (p : ℕ) (ended : Bool) (vs : List View) → AllByRecursion (ViewFits ps p ended) vs
+    → AllByRecursion (IsHere p) vs → AllByRecursion (HasArrived p) vs
 all_arrived ps p ended [] fits here = tt
 all_arrived ps p ended (v ∷ vs) fits here = (here_arrived p v (here.0 fits.0.within), all_arrived ps p ended vs fits.1 here.1)

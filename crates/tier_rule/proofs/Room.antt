@@ -98,22 +98,26 @@ settled_none tier zero size n t stage (inr below) = only_elsewhere t n 0 (λ e. 
 settled_none tier (suc claimed) size n t stage any = refl
 
 -- no token opens a path to the root
-no_root_opened : (ps : List ℕ) (ws : List Fields) (front back : List View) (v : View) → Tallies ps ws (front ++ v ∷ back) → claim_share ps 0 v ≡ 0
+no_root_opened : (ps : List ℕ) (ws : List Fields) (front back : List View) (v : View) → Tallies ps ws (front ++ v ∷ back)
+    → claim_share ps 0 v ≡ 0
 no_root_opened ps ws front back v tally =
     let a = tally.claims 0 tally.some in
     let b : bit (is_being_opened (word_at ws 0)) ≡ 0 = ap bit tally.root_claims in
     let c = sum_around (claim_share ps 0) front back v in
     omega arith
 
-opens_below : (ps : List ℕ) (ws : List Fields) (front back : List View) (v : View) (tier claimed size : ℕ) (stage : OpeningStage) → Tallies ps ws (front ++ v ∷ back) → v.errand ≡ Opening tier (suc claimed) stage size → tier ≢ 0
+opens_below : (ps : List ℕ) (ws : List Fields) (front back : List View) (v : View) (tier claimed size : ℕ) (stage : OpeningStage)
+    → Tallies ps ws (front ++ v ∷ back) → v.errand ≡ Opening tier (suc claimed) stage size → tier ≢ 0
 opens_below ps ws front back v tier claimed size stage tally e =
     opened_below ps tier claimed (sym (ap (errand_claims ps 0) e) ∙ no_root_opened ps ws front back v tally)
 
-joined_place : (ps : List ℕ) (ws : List Fields) (front back : List View) (v : View) (tier claimed size : ℕ) → Tallies ps ws (front ++ v ∷ back) → v.errand ≡ Opening tier (suc claimed) Joined size → v.tier ≡ tier
+joined_place : (ps : List ℕ) (ws : List Fields) (front back : List View) (v : View) (tier claimed size : ℕ)
+    → Tallies ps ws (front ++ v ∷ back) → v.errand ≡ Opening tier (suc claimed) Joined size → v.tier ≡ tier
 joined_place ps ws front back v tier claimed size tally e =
     (subst (ErrandFits ps (root_phase ws) v) e (mine ps ws front back v tally).errand).1.place
 
-going_back_none : (ps : List ℕ) (ws : List Fields) (front back : List View) (v : View) (tier claimed size : ℕ) → Tallies ps ws (front ++ v ∷ back) → v.errand ≡ Opening tier (suc claimed) GoingBack size → v.size ≡ 0
+going_back_none : (ps : List ℕ) (ws : List Fields) (front back : List View) (v : View) (tier claimed size : ℕ)
+    → Tallies ps ws (front ++ v ∷ back) → v.errand ≡ Opening tier (suc claimed) GoingBack size → v.size ≡ 0
 going_back_none ps ws front back v tier claimed size tally e =
     (subst (ErrandFits ps (root_phase ws) v) e (mine ps ws front back v tally).errand).1
 
@@ -123,30 +127,42 @@ joined_none tier zero size t below = only_elsewhere tier size 0 (λ e. below ref
 joined_none tier (suc claimed) size t below = refl
 
 -- a step leaves a token at most as many members at the root, but for a join there
-less : (ps : List ℕ) (ws : List Fields) (front back : List View) (v : View) (t : ℕ) (kind : Kind) → Tallies ps ws (front ++ v ∷ back) → Needs ps kind t (word_at ws t) v
-    → ((tier size : ℕ) → kind ≡ Join tier 0 size → tier ≢ 0) → members_at_root (view_after (parent_of ps t) kind t (word_at ws t) v) ≤ members_at_root v
+less : (ps : List ℕ) (ws : List Fields) (front back : List View) (v : View) (t : ℕ) (kind : Kind) → Tallies ps ws (front ++ v ∷ back)
+    → Needs ps kind t (word_at ws t) v
+    → ((tier size : ℕ) → kind ≡ Join tier 0 size → tier ≢ 0)
+    → members_at_root (view_after (parent_of ps t) kind t (word_at ws t) v) ≤ members_at_root v
 less ps ws front back v t Look tally needs below = let a = looked_same (word_at ws t) v in omega arith
 less ps ws front back v t Glance tally needs below = omega arith
 less ps ws front back v zero (Refuse tier claimed size) tally needs below =
     let u : View = looked (word_at ws 0) v in
-    let a : members_at_root (view_after (parent_of ps 0) (Refuse tier claimed size) 0 (word_at ws 0) v) ≡ members_at_root u = ap (λ (b : Bool). cond b 0 (only_at u.tier u.size 0)) (given_up_hidden u.errand) in
+    let a : members_at_root (view_after (parent_of ps 0) (Refuse tier claimed size) 0 (word_at ws 0) v) ≡ members_at_root u =
+    ap (λ (b : Bool). cond b 0 (only_at u.tier u.size 0)) (given_up_hidden u.errand) in
     let b = looked_same (word_at ws 0) v in omega arith
 less ps ws front back v (suc t) (Refuse tier claimed size) tally needs below =
-    let a : members_at_root (view_after (parent_of ps (suc t)) (Refuse tier claimed size) (suc t) (word_at ws (suc t)) v) ≡ members_at_root v = ap (λ (b : Bool). cond b 0 (only_at v.tier v.size 0)) (given_up_hidden v.errand) in omega arith
+    let a : members_at_root (view_after (parent_of ps (suc t)) (Refuse tier claimed size) (suc t) (word_at ws (suc t)) v)
+    ≡ members_at_root v =
+    ap (λ (b : Bool). cond b 0 (only_at v.tier v.size 0)) (given_up_hidden v.errand) in
+    omega arith
 less ps ws front back v t (Join tier claimed size) tally needs below =
     let a = joined_none tier claimed size t (λ z. below tier size (ap (λ (n : ℕ). Join tier n size) z)) in omega arith
 less ps ws front back v t Arrive tally needs below =
     shown v.errand (owed (parent_of ps t) t Arrival (word_at ws t)) v.tier v.size v.size (ap is_hidden needs.rest) (omega arith)
 less ps ws front back v t Leave tally needs below =
     shown v.errand (owed (parent_of ps t) t Departure (word_at ws t)) v.tier (v.size - 1) v.size (ap is_hidden needs.rest) (omega arith)
-less ps ws front back v t (Advance ends) tally needs below = shown v.errand Rest v.tier v.size v.size (ap is_hidden needs.1.errand) (omega arith)
+less ps ws front back v t (Advance ends) tally needs below =
+    shown v.errand Rest v.tier v.size v.size (ap is_hidden needs.1.errand) (omega arith)
 less ps ws front back v t Force tally needs below = omega arith
 less ps ws front back v t (Claim tier claimed size) tally needs below = omega arith
 less ps ws front back v t (Settle tier claimed size) tally needs below =
     let place = joined_place ps ws front back v tier claimed size tally needs.1 in
-    let a = settled_none tier claimed size v.size v.tier Joined (inr (λ z. opens_below ps ws front back v tier claimed size Joined tally needs.1 (sym place ∙ z))) in omega arith
+    let a =
+    settled_none tier claimed size v.size v.tier Joined
+    (inr (λ z. opens_below ps ws front back v tier claimed size Joined tally needs.1 (sym place ∙ z))) in
+    omega arith
 less ps ws front back v t (SettleBack tier claimed size) tally needs below =
-    let a = settled_none tier claimed size v.size v.tier GoingBack (inl (going_back_none ps ws front back v tier claimed size tally needs.1)) in omega arith
+    let a =
+    settled_none tier claimed size v.size v.tier GoingBack (inl (going_back_none ps ws front back v tier claimed size tally needs.1)) in
+    omega arith
 less ps ws front back v t (Climb passage) tally needs below =
     shown v.errand (owed (parent_of ps t) t passage (word_at ws t)) v.tier v.size v.size (ap is_hidden needs.errand) (omega arith)
 less ps ws front back v t Refresh tally needs below = omega arith
@@ -162,7 +178,8 @@ are_parties ps (v ∷ vs) =
     let c = are_parties ps vs in let d = is_party ps v in omega arith
 
 -- who joins at the root finds room there
-joins_root : (ps : List ℕ) (ws : List Fields) (front back : List View) (v : View) (t size : ℕ) → Tallies ps ws (front ++ v ∷ back) → Needs ps (Join 0 0 size) t (word_at ws t) v
+joins_root : (ps : List ℕ) (ws : List Fields) (front back : List View) (v : View) (t size : ℕ) → Tallies ps ws (front ++ v ∷ back)
+    → Needs ps (Join 0 0 size) t (word_at ws t) v
     → sum_by members_at_root front + size + sum_by members_at_root back ≤ 65535
 joins_root ps ws front back v t size tally needs =
     let admits : Admits 0 size (word_at ws 0) = subst (λ (n : ℕ). Admits n size (word_at ws n)) needs.0.here needs.1 in
@@ -196,8 +213,10 @@ root_or_not (SettleBack tier claimed size) = inr (λ n s e. absurd (cc))
 root_or_not (Climb passage) = inr (λ n s e. absurd (cc))
 root_or_not Refresh = inr (λ n s e. absurd (cc))
 
-room_after : (ps : List ℕ) (ws : List Fields) (front back : List View) (v : View) (t : ℕ) (kind : Kind) → Tallies ps ws (front ++ v ∷ back) → Needs ps kind t (word_at ws t) v
-    → sum_by members_at_root (front ++ v ∷ back) ≤ 65535 → sum_by members_at_root (front ++ view_after (parent_of ps t) kind t (word_at ws t) v ∷ back) ≤ 65535
+room_after : (ps : List ℕ) (ws : List Fields) (front back : List View) (v : View) (t : ℕ) (kind : Kind) → Tallies ps ws (front ++ v ∷ back)
+    → Needs ps kind t (word_at ws t) v
+    → sum_by members_at_root (front ++ v ∷ back) ≤ 65535
+    → sum_by members_at_root (front ++ view_after (parent_of ps t) kind t (word_at ws t) v ∷ back) ≤ 65535
 room_after ps ws front back v t kind tally needs capacity =
     let u : View = view_after (parent_of ps t) kind t (word_at ws t) v in
     let c = sum_around members_at_root front back v in
@@ -206,15 +225,19 @@ room_after ps ws front back v t kind tally needs capacity =
     (λ (j : (size : ℕ) × (kind ≡ Join 0 0 size)).
     let needs' : Needs ps (Join 0 0 j.0) t (word_at ws t) v = subst (λ (z : Kind). Needs ps z t (word_at ws t) v) j.1 needs in
     let n = joins_root ps ws front back v t j.0 tally needs' in
-    let e : members_at_root u ≡ only_at 0 j.0 0 = ap (λ (z : Kind). members_at_root (view_after (parent_of ps t) z t (word_at ws t) v)) j.1 in
+    let e : members_at_root u ≡ only_at 0 j.0 0 =
+    ap (λ (z : Kind). members_at_root (view_after (parent_of ps t) z t (word_at ws t) v)) j.1 in
     let f = only_here 0 j.0 in omega arith)
-    (λ (other : (tier size : ℕ) → kind ≡ Join tier 0 size → tier ≢ 0). let e = less ps ws front back v t kind tally needs other in omega arith)
+    (λ (other : (tier size : ℕ) → kind ≡ Join tier 0 size → tier ≢ 0). let e = less ps ws front back v t kind tally needs other in
+    omega arith)
     (root_or_not kind)
 
 sat_none : (k : Key) (w : Fields) (n : ℕ) → sum_by members_at_root (those (replicate n (sat_sight k w))) ≡ 0
 sat_none k w zero = refl
 sat_none k w (suc n) =
-    let a = sum_by-append members_at_root (new_view w.phase ∷ []) (those (replicate n (sat_sight k w))) in let b = sat_none k w n in omega arith
+    let a = sum_by-append members_at_root (new_view w.phase ∷ []) (those (replicate n (sat_sight k w))) in
+    let b = sat_none k w n in
+    omega arith
 
 pub roots_have_room : RootsHaveRoom
 roots_have_room k ws vs (opens x shape small is) =
@@ -229,8 +252,10 @@ roots_have_room k ws vs (steps us ts id t tries f b x y kind r at within needs s
 roots_have_room k ws vs (cuts us ts id l r at) =
     let a = reseated members_at_root ts id l (cut_off l) at in
     let b : sum_by members_at_root (those (cut_off l)) ≡ sum_by members_at_root (those l) = ap (sum_by members_at_root) (cut_views l) in
-    let c : sum_by members_at_root (views_of (set ts id (cut_off l) ++ [] ∷ [])) ≡ sum_by members_at_root (views_of (set ts id (cut_off l))) + 0 =
-    ap (sum_by members_at_root) (last_seat (set ts id (cut_off l)) []) ∙ sum_by-append members_at_root (views_of (set ts id (cut_off l))) [] in
+    let c : sum_by members_at_root (views_of (set ts id (cut_off l) ++ [] ∷ []))
+    ≡ sum_by members_at_root (views_of (set ts id (cut_off l))) + 0 =
+    ap (sum_by members_at_root) (last_seat (set ts id (cut_off l)) [])
+    ∙ sum_by-append members_at_root (views_of (set ts id (cut_off l))) [] in
     let d = roots_have_room k us ts r in omega arith
 roots_have_room k ws vs (sits us ts id n r at) =
     let a = reseated members_at_root ts id [] (replicate n (sat_sight k (word_at us 0))) at in

@@ -27,7 +27,8 @@ use Rattle.tier_rule.proofs.Seats.{amid}
 use Rattle.tier_rule.proofs.Groups.{step_amid}
 
 -- a step other than an advance or a force leaves the root's end
-word_end : (kind : Kind) (t : ℕ) (w : Fields) (v : View) → ((ends : Bool) → kind ≡ Advance ends → ⊥) → (kind ≡ Force → ⊥) → (word_after kind t w v).ended ≡ w.ended
+word_end : (kind : Kind) (t : ℕ) (w : Fields) (v : View) → ((ends : Bool) → kind ≡ Advance ends → ⊥) → (kind ≡ Force → ⊥)
+    → (word_after kind t w v).ended ≡ w.ended
 word_end Look t w v a f = refl
 word_end Glance t w v a f = refl
 word_end (Refuse tier claimed size) t w v a f = refl
@@ -42,7 +43,8 @@ word_end (SettleBack tier claimed size) t w v a f = refl
 word_end (Climb passage) t w v a f = ended_passed t passage w
 word_end Refresh t w v a f = refl
 
-root_end : (ws : List Fields) (kind : Kind) (t : ℕ) (v : View) → t < length ws → ((ends : Bool) → kind ≡ Advance ends → ⊥) → (kind ≡ Force → ⊥)
+root_end : (ws : List Fields) (kind : Kind) (t : ℕ) (v : View) → t < length ws → ((ends : Bool) → kind ≡ Advance ends → ⊥)
+    → (kind ≡ Force → ⊥)
     → (word_at (words_after ws kind t v) 0).ended ≡ (word_at ws 0).ended
 root_end ws kind t v h a f = ended_same ws t (word_after kind t (word_at ws t) v) h (word_end kind t (word_at ws t) v a f)
 
@@ -55,13 +57,16 @@ same_zero (suc m) (suc n) a b = ne_eqb (suc m) 0 (λ e. omega arith) ∙ sym (ne
 
 root_set : (ws : List Fields) (t : ℕ) (w : Fields) → t ≡ 0 → t < length ws → (word_at (set ws t w) 0).ended ≡ w.ended
 root_set ws t w z h =
-    ap (λ (n : ℕ). (word_at (set ws n w) 0).ended) z ∙ ap (λ (u : Fields). u.ended) (get_or-set_same ws 0 w blank (subst (λ (n : ℕ). n < length ws) z h))
+    ap (λ (n : ℕ). (word_at (set ws n w) 0).ended) z
+    ∙ ap (λ (u : Fields). u.ended) (get_or-set_same ws 0 w blank (subst (λ (n : ℕ). n < length ws) z h))
 
 pub ends_are_forced_or_planned : EndsAreForcedOrPlanned
 ends_are_forced_or_planned k ws vs id t f x b Look m = root_end ws Look t x.view m.within (λ e p. absurd (cc)) (λ p. absurd (cc))
 ends_are_forced_or_planned k ws vs id t f x b Glance m = root_end ws Glance t x.view m.within (λ e p. absurd (cc)) (λ p. absurd (cc))
-ends_are_forced_or_planned k ws vs id t f x b (Refuse tier claimed size) m = root_end ws (Refuse tier claimed size) t x.view m.within (λ e p. absurd (cc)) (λ p. absurd (cc))
-ends_are_forced_or_planned k ws vs id t f x b (Join tier claimed size) m = root_end ws (Join tier claimed size) t x.view m.within (λ e p. absurd (cc)) (λ p. absurd (cc))
+ends_are_forced_or_planned k ws vs id t f x b (Refuse tier claimed size) m =
+    root_end ws (Refuse tier claimed size) t x.view m.within (λ e p. absurd (cc)) (λ p. absurd (cc))
+ends_are_forced_or_planned k ws vs id t f x b (Join tier claimed size) m =
+    root_end ws (Join tier claimed size) t x.view m.within (λ e p. absurd (cc)) (λ p. absurd (cc))
 ends_are_forced_or_planned k ws vs id t f x b Arrive m = root_end ws Arrive t x.view m.within (λ e p. absurd (cc)) (λ p. absurd (cc))
 ends_are_forced_or_planned k ws vs id t f x b Leave m = root_end ws Leave t x.view m.within (λ e p. absurd (cc)) (λ p. absurd (cc))
 ends_are_forced_or_planned k ws vs id t f x b (Advance ends) m =
@@ -71,12 +76,17 @@ ends_are_forced_or_planned k ws vs id t f x b (Advance ends) m =
     let z : t ≡ 0 = m.needs.0 in
     root_set ws t (word_after (Advance ends) t (word_at ws t) x.view) z m.within
     ∙ (m.says ∙ (ap (λ (n : ℕ). end_ends k.plan (word_at ws n).phase ((word_at ws n).parties == 0)) z
-    ∙ (ap (λ (z : Bool). end_ends k.plan (word_at ws 0).phase z) none ∙ ap (λ (us : List View). end_ends k.plan (word_at ws 0).phase (registered (image ws us) == 0)) (sym a.is))))
+    ∙ (ap (λ (z : Bool). end_ends k.plan (word_at ws 0).phase z) none
+    ∙ ap (λ (us : List View). end_ends k.plan (word_at ws 0).phase (registered (image ws us) == 0)) (sym a.is))))
 ends_are_forced_or_planned k ws vs id t f x b Force m = root_set ws t (word_after Force t (word_at ws t) x.view) m.needs m.within
-ends_are_forced_or_planned k ws vs id t f x b (Claim tier claimed size) m = root_end ws (Claim tier claimed size) t x.view m.within (λ e p. absurd (cc)) (λ p. absurd (cc))
-ends_are_forced_or_planned k ws vs id t f x b (Settle tier claimed size) m = root_end ws (Settle tier claimed size) t x.view m.within (λ e p. absurd (cc)) (λ p. absurd (cc))
-ends_are_forced_or_planned k ws vs id t f x b (SettleBack tier claimed size) m = root_end ws (SettleBack tier claimed size) t x.view m.within (λ e p. absurd (cc)) (λ p. absurd (cc))
-ends_are_forced_or_planned k ws vs id t f x b (Climb passage) m = root_end ws (Climb passage) t x.view m.within (λ e p. absurd (cc)) (λ p. absurd (cc))
+ends_are_forced_or_planned k ws vs id t f x b (Claim tier claimed size) m =
+    root_end ws (Claim tier claimed size) t x.view m.within (λ e p. absurd (cc)) (λ p. absurd (cc))
+ends_are_forced_or_planned k ws vs id t f x b (Settle tier claimed size) m =
+    root_end ws (Settle tier claimed size) t x.view m.within (λ e p. absurd (cc)) (λ p. absurd (cc))
+ends_are_forced_or_planned k ws vs id t f x b (SettleBack tier claimed size) m =
+    root_end ws (SettleBack tier claimed size) t x.view m.within (λ e p. absurd (cc)) (λ p. absurd (cc))
+ends_are_forced_or_planned k ws vs id t f x b (Climb passage) m =
+    root_end ws (Climb passage) t x.view m.within (λ e p. absurd (cc)) (λ p. absurd (cc))
 ends_are_forced_or_planned k ws vs id t f x b Refresh m = root_end ws Refresh t x.view m.within (λ e p. absurd (cc)) (λ p. absurd (cc))
 
 -- the root of a new tree goes on
@@ -149,18 +159,22 @@ only_one : (x : Sight) (id : ℕ) (l : List Sight) → get_elem? ((x ∷ []) ∷
 only_one x zero l at = (refl, sym (some-injective (x ∷ []) l at))
 only_one x (suc id) l at = absurd (some-ne-none l (sym at))
 
-at_first : {k : Key} {ws : List Fields} {vs : List (List Sight)} → (f : IsFirst k ws vs) → (id : ℕ) (l : List Sight) → get_elem? vs id ≡ some l → (id ≡ 0) × (l ≡ f.sight ∷ [])
+at_first : {k : Key} {ws : List Fields} {vs : List (List Sight)} → (f : IsFirst k ws vs) → (id : ℕ) (l : List Sight)
+    → get_elem? vs id ≡ some l → (id ≡ 0) × (l ≡ f.sight ∷ [])
 at_first {k} {ws} {vs} f id l at = only_one f.sight id l (sym (ap (λ (us : List (List Sight)). get_elem? us id) f.alone) ∙ at)
 
 -- if a seat of a new tree becomes used, all are
-used_first : {k : Key} {ws : List Fields} {vs : List (List Sight)} → (f : IsFirst k ws vs) → (id : ℕ) (l m : List Sight) → get_elem? vs id ≡ some l → AreUsed m → AllByRecursion AreUsed (set vs id m)
+used_first : {k : Key} {ws : List Fields} {vs : List (List Sight)} → (f : IsFirst k ws vs) → (id : ℕ) (l m : List Sight)
+    → get_elem? vs id ≡ some l → AreUsed m → AllByRecursion AreUsed (set vs id m)
 used_first {k} {ws} {vs} f id l m at used =
     subst (λ (us : List (List Sight)). AllByRecursion AreUsed (set us id m)) (sym f.alone)
     (subst (λ (i : ℕ). AllByRecursion AreUsed (set ((f.sight ∷ []) ∷ []) i m)) (sym (at_first f id l at).0) (used, tt))
 
-used_now : {k : Key} {ws : List Fields} {vs : List (List Sight)} (id : ℕ) (l m : List Sight) → get_elem? vs id ≡ some l → AreUsed m → FirstOrUsed k ws vs → AllByRecursion AreUsed (set vs id m)
+used_now : {k : Key} {ws : List Fields} {vs : List (List Sight)} (id : ℕ) (l m : List Sight) → get_elem? vs id ≡ some l → AreUsed m
+    → FirstOrUsed k ws vs → AllByRecursion AreUsed (set vs id m)
 used_now {k} {ws} {vs} id l m at used before =
-    ⊎_elim (λ (f : IsFirst k ws vs). used_first f id l m at used) (λ (all : AllByRecursion AreUsed vs). all_put AreUsed vs id m used all) before
+    ⊎_elim (λ (f : IsFirst k ws vs). used_first f id l m at used) (λ (all : AllByRecursion AreUsed vs). all_put AreUsed vs id m used all)
+    before
 
 stepped_used : (kind : Kind) (x y : Sight) → y.steps ≡ kind ∷ x.steps → IsUsed y
 stepped_used kind x y e n z = let a : 0 ≡ suc (length x.steps) = ap length (sym n ∙ e) in omega arith
@@ -184,10 +198,16 @@ step_used (z ∷ f) b x y u all = (all.0, step_used f b x y u all.1)
 step_first : (f b : List Sight) (x y z : Sight) → IsUsed y → f ++ x ∷ b ≡ z ∷ [] → AreUsed (f ++ y ∷ b)
 step_first [] [] x y z u e = (u, tt)
 step_first [] (c ∷ b) x y z u e = absurd (let a = ap length e in omega arith)
-step_first (c ∷ f) b x y z u e = absurd (let a : suc (length (f ++ x ∷ b)) ≡ 1 = ap length e in let n : length (f ++ x ∷ b) ≡ length f + suc (length b) = length-append f (x ∷ b) in omega arith)
+step_first (c ∷ f) b x y z u e =
+    absurd
+    (let a : suc (length (f ++ x ∷ b)) ≡ 1 = ap length e in
+    let n : length (f ++ x ∷ b) ≡ length f + suc (length b) = length-append f (x ∷ b) in
+    omega arith)
 
 longer : (x : Sight) (l : List Sight) (y : Sight) (m : List Sight) (z : Sight) → x ∷ (l ++ y ∷ m) ≡ z ∷ [] → ⊥
-longer x l y m z e = let a : suc (length (l ++ y ∷ m)) ≡ 1 = ap length e in let n : length (l ++ y ∷ m) ≡ length l + suc (length m) = length-append l (y ∷ m) in omega arith
+longer x l y m z e = let a : suc (length (l ++ y ∷ m)) ≡ 1 = ap length e in
+    let n : length (l ++ y ∷ m) ≡ length l + suc (length m) = length-append l (y ∷ m) in
+    omega arith
 
 first_or_used : (k : Key) (ws : List Fields) (vs : List (List Sight)) → Reached k ws vs → FirstOrUsed k ws vs
 first_or_used k ws vs (opens x shape small is) = inl (record { sight = x; words = refl; alone = refl })

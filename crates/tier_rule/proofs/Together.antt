@@ -33,7 +33,8 @@ record Leaves (s : St) (k : Key) (id t left : ℕ) (w u : Fields) (l m : List Si
   after : Among k.shape t u (those m)
   found : AreReached k t w l
 
-leaves : (s : St) (k : Key) (id t left : ℕ) (w u : Fields) (l m : List Sight) (kept : Kept k s) → get_elem? s.views id ≡ some l → t < length k.shape → word_at kept.words t ≡ w → left ≡ packed u
+leaves : (s : St) (k : Key) (id t left : ℕ) (w u : Fields) (l m : List Sight) (kept : Kept k s) → get_elem? s.views id ≡ some l
+    → t < length k.shape → word_at kept.words t ≡ w → left ≡ packed u
     → Goes k t w l u m → Leaves s k id t left w u l m
 leaves s k id t left w u l m kept at inside here to g =
     let ws : List Fields = kept.words in
@@ -47,12 +48,15 @@ leaves s k id t left w u l m kept at inside here to g =
         reached = r;
       };
       before = among k ws s.views id t l w kept.reached at within here;
-      after = among k (set ws t u) (set s.views id m) id t m u r (set_here s.views id m (at_inside s.views id l at)) (still_inside ws t u within) (get_or-set_same ws t u blank within);
+      after =
+          among k (set ws t u) (set s.views id m) id t m u r (set_here s.views id m (at_inside s.views id l at))
+          (still_inside ws t u within) (get_or-set_same ws t u blank within);
       found = record { words = ws; seats = s.views; reached = kept.reached; within = within; word = here; id = id; seat = at };
     }
 
 -- all tokens of a seat look
-pub looks_all_allow : (k : Key) (slots id t : ℕ) (l : List Sight) → t < length k.shape → AreOf k l → Allows (Kept k) slots id (l, []) t (λ n. n) (SawAll k (step slots t 0 0 none) (l, []))
+pub looks_all_allow : (k : Key) (slots id t : ℕ) (l : List Sight) → t < length k.shape → AreOf k l
+    → Allows (Kept k) slots id (l, []) t (λ n. n) (SawAll k (step slots t 0 0 none) (l, []))
 looks_all_allow k slots id t l inside own s kept long at small =
     let w : Fields = word_at kept.words t in
     let f = found s k t kept inside in
@@ -61,7 +65,8 @@ looks_all_allow k slots id t l inside own s kept long at small =
     (m, keeps, tt, a.kept, (w, f.legal, f.number, m, refl, record { all = refl; before = a.before; after = a.after; found = a.found }))
 
 -- several steps by one exchange, or a look of all
-pub together_allow : (k : Key) (slots id old new t : ℕ) (w u : Fields) (l m : List Sight) → t < length k.shape → AreOf k l → IsLegal w → old ≡ packed w → new ≡ packed u → Goes k t w l u m
+pub together_allow : (k : Key) (slots id old new t : ℕ) (w u : Fields) (l m : List Sight) → t < length k.shape → AreOf k l → IsLegal w
+    → old ≡ packed w → new ≡ packed u → Goes k t w l u m
     → Allows (Kept k) slots id (l, []) t (λ n. either (n == old) new n) (WentOrLooked k w u m (step slots t old new none) (l, []))
 together_allow k slots id old new t w u l m inside own legal is to g s kept long at small =
     let n : ℕ = get_or s.words t 0 in
@@ -86,19 +91,30 @@ together_allow k slots id old new t w u l m inside own legal is to g s kept long
       subst (λ (b : Bool). Kept k (stepped s t (either b new n) id [] p keeps)) (sym (ne_eqb n old miss)) a.kept,
       record {
         won = λ h. absurd (miss h);
-        lost = λ h. (z, f.legal, f.number, (λ e. h (f.number ∙ (ap packed e ∙ sym is))), p, refl, record { all = refl; before = a.before; after = a.after; found = a.found });
+        lost =
+            λ h. (
+              z,
+              f.legal,
+              f.number,
+              (λ e. h (f.number ∙ (ap packed e ∙ sym is))),
+              p,
+              refl,
+              record { all = refl; before = a.before; after = a.after; found = a.found },
+            );
       },
     ))
 
 -- a new seat becomes that of several new tokens
-pub sits_all_allow : (k : Key) (slots id count : ℕ) → 0 < length k.shape → Allows (Kept k) slots id ([], []) 0 (λ n. n) (SatAll k count (step slots 0 0 0 none) ([], []))
+pub sits_all_allow : (k : Key) (slots id count : ℕ) → 0 < length k.shape
+    → Allows (Kept k) slots id ([], []) 0 (λ n. n) (SatAll k count (step slots 0 0 0 none) ([], []))
 sits_all_allow k slots id count inside s kept long at small =
     let w : Fields = word_at kept.words 0 in
     let f = found s k 0 kept inside in
     let m : List Sight = replicate count (sat_sight k w) in
     let r : Reached k kept.words (set s.views id m) = sits kept.words s.views id count kept.reached at in
     let tally = reached_states_tally k kept.words s.views kept.reached in
-    let b : Among k.shape 0 w (replicate count (new_view w.phase)) = subst (λ (us : List View). Among k.shape 0 w us) (those-replicate count (sat_sight k w))
+    let b : Among k.shape 0 w (replicate count (new_view w.phase)) =
+    subst (λ (us : List View). Among k.shape 0 w us) (those-replicate count (sat_sight k w))
     (among k kept.words (set s.views id m) id 0 m w r (set_here s.views id m (at_inside s.views id [] at)) tally.some refl) in (
       m,
       keeps,
@@ -112,8 +128,10 @@ pub cuts_any : (k : Key) (id : ℕ) (l : List Sight) → Splits (Kept k) id l (c
 cuts_any k id l s kept at = record { words = kept.words; packed = kept.packed; reached = cuts kept.words s.views id l kept.reached at }
 
 -- a seat parts with the last of its tokens
-pub parts_any : (k : Key) (id : ℕ) (x : Sight) (l : List Sight) (y : Sight) (m : List Sight) → Splits (Kept k) id (x ∷ (l ++ y ∷ m)) (x ∷ l) (y ∷ m)
-parts_any k id x l y m s kept at = record { words = kept.words; packed = kept.packed; reached = parts kept.words s.views id x l y m kept.reached at }
+pub parts_any : (k : Key) (id : ℕ) (x : Sight) (l : List Sight) (y : Sight) (m : List Sight)
+    → Splits (Kept k) id (x ∷ (l ++ y ∷ m)) (x ∷ l) (y ∷ m)
+parts_any k id x l y m s kept at =
+    record { words = kept.words; packed = kept.packed; reached = parts kept.words s.views id x l y m kept.reached at }
 
 parts_by : (k : Key) (id : ℕ) (f b : List Sight) → 0 < length f → 0 < length b → Splits (Kept k) id (f ++ b) f b
 parts_by k id [] b front_some back_some = absurd (omega arith)
@@ -121,10 +139,12 @@ parts_by k id (x ∷ l) [] front_some back_some = absurd (omega arith)
 parts_by k id (x ∷ l) (y ∷ m) front_some back_some = parts_any k id x l y m
 
 pub parts_at : (k : Key) (id : ℕ) (l f b : List Sight) → l ≡ f ++ b → 0 < length f → 0 < length b → Splits (Kept k) id l f b
-parts_at k id l f b is front_some back_some = subst (λ (n : List Sight). Splits (Kept k) id n f b) (sym is) (parts_by k id f b front_some back_some)
+parts_at k id l f b is front_some back_some =
+    subst (λ (n : List Sight). Splits (Kept k) id n f b) (sym is) (parts_by k id f b front_some back_some)
 
 -- each of some tokens with one view takes a step of one kind
-pub sweep : (k : Key) (kind : Kind) (tries t : ℕ) (v : View) (w : Fields) (l : List Sight) → tries ≤ 1 → (is_join kind ≡ false → tries ≡ 1) → AreAlike k v l
+pub sweep : (k : Key) (kind : Kind) (tries t : ℕ) (v : View) (w : Fields) (l : List Sight) → tries ≤ 1 → (is_join kind ≡ false → tries ≡ 1)
+    → AreAlike k v l
     → ((n : ℕ) → n < length l → Needs k.shape kind t (after_many kind t v w n) v × PlanSays k kind (after_many kind t v w n))
     → Goes k t w l (after_many kind t v w (length l)) (all_stepped kind tries t v w l)
 sweep k kind tries t v w [] few tried alike may = stays w []
@@ -145,9 +165,11 @@ sweep k kind tries t v w (x ∷ xs) few tried alike may =
 pub front_goes : (k : Key) (t : ℕ) (w u : Fields) (l m b : List Sight) → Goes k t w l u m → Goes k t w (l ++ b) u (m ++ b)
 front_goes k t w u l m b (stays w' l') = stays w' (l' ++ b)
 front_goes k t w u l m b (moves w' u' x c m' kind tries needs says own few rest) =
-    moves w' u' x (c ++ b) (m' ++ b) kind tries needs says own few (front_goes k t (word_after kind t w' x.view) u' (stepped_sight kind t w' tries x ∷ c) m' b rest)
+    moves w' u' x (c ++ b) (m' ++ b) kind tries needs says own few
+    (front_goes k t (word_after kind t w' x.view) u' (stepped_sight kind t w' tries x ∷ c) m' b rest)
 front_goes k t w u l m b (passes w' u' x c m' rest) = passes w' u' x (c ++ b) (m' ++ b) (front_goes k t w' u' c m' b rest)
-front_goes k t w u l m b (follows w' u' z l' m' n g h) = follows w' u' z (l' ++ b) (m' ++ b) (n ++ b) (front_goes k t w' u' l' m' b g) (front_goes k t u' z m' n b h)
+front_goes k t w u l m b (follows w' u' z l' m' n g h) =
+    follows w' u' z (l' ++ b) (m' ++ b) (n ++ b) (front_goes k t w' u' l' m' b g) (front_goes k t u' z m' n b h)
 
 pub back_goes : (k : Key) (t : ℕ) (w u : Fields) (f l m : List Sight) → Goes k t w l u m → Goes k t w (f ++ l) u (f ++ m)
 back_goes k t w u [] l m g = g

@@ -39,7 +39,8 @@ pub record Advances (k : Key) (ws : List Fields) (vs : List (List Sight)) (kind 
   pub next : root_phase (words_after ws kind t v) ≡ next_phase_of (root_phase ws)
   pub all : AllByRecursion (HasArrived (root_phase ws)) (views_of vs)
 
-pub advances : (k : Key) (ws : List Fields) (vs : List (List Sight)) (id t : ℕ) (f : List Sight) (x : Sight) (b : List Sight) (ends : Bool) → MayStep k ws vs id t f x b (Advance ends) → Advances k ws vs (Advance ends) t x.view
+pub advances : (k : Key) (ws : List Fields) (vs : List (List Sight)) (id t : ℕ) (f : List Sight) (x : Sight) (b : List Sight) (ends : Bool)
+    → MayStep k ws vs id t f x b (Advance ends) → Advances k ws vs (Advance ends) t x.view
 advances k ws vs id t f x b ends m =
     let a = amid vs id f x b m.seat in
     let step = step_amid k ws vs id t f x b (Advance ends) m in
@@ -48,14 +49,18 @@ advances k ws vs id t f x b ends m =
     let root : t ≡ 0 = m.needs.0 in
     record {
       next = ap (λ (n : ℕ). root_phase (set ws n (advanced (word_at ws n) ends))) root
-          ∙ ap (λ (w : Fields). w.phase) (get_or-set_same ws 0 (advanced (word_at ws 0) ends) blank (subst (λ (n : ℕ). n < length ws) root m.within));
+          ∙ ap (λ (w : Fields). w.phase)
+          (get_or-set_same ws 0 (advanced (word_at ws 0) ends) blank (subst (λ (n : ℕ). n < length ws) root m.within));
       all = subst (λ (us : List View). AllByRecursion (HasArrived (root_phase ws)) us) (sym a.is)
           (all_arrived k.shape (root_phase ws) (word_at ws 0).ended (a.front ++ x.view ∷ a.back) tally.fits
           (everyone_here (root_phase ws) 0 (a.front ++ x.view ∷ a.back) ready.everyone));
     }
 
-after_step : (k : Key) (ws : List Fields) (vs : List (List Sight)) (id t : ℕ) (f : List Sight) (x : Sight) (b : List Sight) (kind : Kind) (o : Option Moment) → MayStep k ws vs id t f x b kind
-    → Follows k (root_phase ws) o → Follows k (root_phase (words_after ws kind t x.view)) (cond (is_advance kind) (Some (record { words = ws; seats = vs })) o)
+after_step : (k : Key) (ws : List Fields) (vs : List (List Sight)) (id t : ℕ) (f : List Sight) (x : Sight) (b : List Sight) (kind : Kind)
+    (o : Option Moment)
+    → MayStep k ws vs id t f x b kind
+    → Follows k (root_phase ws) o
+    → Follows k (root_phase (words_after ws kind t x.view)) (cond (is_advance kind) (Some (record { words = ws; seats = vs })) o)
 after_step k ws vs id t f x b kind o m before =
     let here : Moment = record { words = ws; seats = vs } in
     let a = amid vs id f x b m.seat in
@@ -77,14 +82,16 @@ first_phase (p ∷ ps) phase any = refl
 pub each_phase_is_waited_for : EachPhaseIsWaitedFor
 each_phase_is_waited_for k ws vs (opens x shape small is) = first_phase k.shape k.phase (let a = shape.shape.some in omega arith)
 each_phase_is_waited_for k ws vs (steps us ts id t tries f b x y kind r at within needs says own is few) =
-    after_step k us ts id t f x b kind (last_advance r) (record { reached = r; seat = at; within = within; needs = needs; says = says }) (each_phase_is_waited_for k us ts r)
+    after_step k us ts id t f x b kind (last_advance r) (record { reached = r; seat = at; within = within; needs = needs; says = says })
+    (each_phase_is_waited_for k us ts r)
 each_phase_is_waited_for k ws vs (cuts us ts id l r at) = each_phase_is_waited_for k us ts r
 each_phase_is_waited_for k ws vs (sits us ts id n r at) = each_phase_is_waited_for k us ts r
 each_phase_is_waited_for k ws vs (joins us ts id other l m r at apart there) = each_phase_is_waited_for k us ts r
 each_phase_is_waited_for k ws vs (parts us ts id x l y m r at) = each_phase_is_waited_for k us ts r
 
 -- a step that is no advance leads to no new phase
-word_in : (kind : Kind) (t : ℕ) (w : Fields) (v : View) (p : ℕ) → is_advance kind ≡ false → w.phase ≡ p → v.phase ≡ p → (word_after kind t w v).phase ≡ p
+word_in : (kind : Kind) (t : ℕ) (w : Fields) (v : View) (p : ℕ) → is_advance kind ≡ false → w.phase ≡ p → v.phase ≡ p
+    → (word_after kind t w v).phase ≡ p
 word_in Look t w v p a e f = e
 word_in Glance t w v p a e f = e
 word_in (Refuse tier claimed size) t w v p a e f = e
@@ -126,7 +133,8 @@ looked_where w v =
     either_of true x y e f = e
     either_of false x y e f = f
 
-view_in : (above : ℕ) (kind : Kind) (t : ℕ) (w : Fields) (v : View) (p : ℕ) → w.phase ≡ p → v.phase ≡ p → (view_after above kind t w v).phase ≡ p
+view_in : (above : ℕ) (kind : Kind) (t : ℕ) (w : Fields) (v : View) (p : ℕ) → w.phase ≡ p → v.phase ≡ p
+    → (view_after above kind t w v).phase ≡ p
 view_in above Look t w v p e f = looked_in w v p e f
 view_in above Glance t w v p e f = f
 view_in above (Refuse tier claimed size) zero w v p e f = looked_in w v p e f
@@ -177,14 +185,16 @@ cut_in p (x ∷ xs) all = all
 no_moment : (m : Moment) → ◌≡◌ {A = Option Moment} (Some m) None → ⊥
 no_moment m e = absurd (cc)
 
-not_advanced : (kind : Kind) (m : Moment) (o : Option Moment) → cond (is_advance kind) (Some m) o ≡ None → (is_advance kind ≡ false) × (o ≡ None)
+not_advanced : (kind : Kind) (m : Moment) (o : Option Moment) → cond (is_advance kind) (Some m) o ≡ None
+    → (is_advance kind ≡ false) × (o ≡ None)
 not_advanced kind m o none = go (is_advance kind) none
   where
     go : (c : Bool) → cond c (Some m) o ≡ None → (c ≡ false) × (o ≡ None)
     go true e = absurd (no_moment m e)
     go false e = (refl, e)
 
-step_in : (k : Key) (p : ℕ) (ws : List Fields) (vs : List (List Sight)) (id t : ℕ) (f b : List Sight) (x y : Sight) (kind : Kind) → is_advance kind ≡ false → get_elem? vs id ≡ some (f ++ x ∷ b) → t < length ws
+step_in : (k : Key) (p : ℕ) (ws : List Fields) (vs : List (List Sight)) (id t : ℕ) (f b : List Sight) (x y : Sight) (kind : Kind)
+    → is_advance kind ≡ false → get_elem? vs id ≡ some (f ++ x ∷ b) → t < length ws
     → y.view ≡ stepped_view x.key.shape ws kind t x.view → AllIn p ws vs → AllIn p (words_after ws kind t x.view) (set vs id (f ++ y ∷ b))
 step_in k p ws vs id t f b x y kind stays at within is all =
     let seat = all_at (SeatIn p) vs id (f ++ x ∷ b) at all.1 in
@@ -192,7 +202,8 @@ step_in k p ws vs id t f b x y kind stays at within is all =
     let mine_ = sight_of p f b x seat in (
       all_put (WordIn p) ws t (word_after kind t (word_at ws t) x.view) (word_in kind t (word_at ws t) x.view p stays word mine_) all.0,
       all_put (SeatIn p) vs id (f ++ y ∷ b)
-          (put_in p f b x y seat (ap (λ (v : View). v.phase) is ∙ view_in (parent_of x.key.shape t) kind t (word_at ws t) x.view p word mine_)) all.1,
+          (put_in p f b x y seat (ap (λ (v : View). v.phase) is ∙ view_in (parent_of x.key.shape t) kind t (word_at ws t) x.view p word mine_))
+          all.1,
     )
 
 unadvanced : (k : Key) (ws : List Fields) (vs : List (List Sight)) (r : Reached k ws vs) → last_advance r ≡ None → AllIn k.phase ws vs
@@ -202,12 +213,18 @@ unadvanced k ws vs (steps us ts id t tries f b x y kind r at within needs says o
     let a = not_advanced kind (record { words = us; seats = ts }) (last_advance r) none in
     step_in k k.phase us ts id t f b x y kind a.0 at within is.view (unadvanced k us ts r a.1)
 unadvanced k ws vs (cuts us ts id l r at) none =
-    let all = unadvanced k us ts r none in
-    (all.0, all_both (SeatIn k.phase) (set ts id (cut_off l)) ([] ∷ []) (all_put (SeatIn k.phase) ts id (cut_off l) (cut_in k.phase l (all_at (SeatIn k.phase) ts id l at all.1)) all.1) (tt, tt))
+    let all = unadvanced k us ts r none in (
+      all.0,
+      all_both (SeatIn k.phase) (set ts id (cut_off l)) ([] ∷ [])
+          (all_put (SeatIn k.phase) ts id (cut_off l) (cut_in k.phase l (all_at (SeatIn k.phase) ts id l at all.1)) all.1) (tt, tt),
+    )
 unadvanced k ws vs (sits us ts id n r at) none =
     let all = unadvanced k us ts r none in
-    let root : (word_at us 0).phase ≡ k.phase = word_of k.phase us 0 (reached_states_tally k us ts r).some all.0 in
-    (all.0, all_put (SeatIn k.phase) ts id (replicate n (sat_sight k (word_at us 0))) (all_replicate (SightIn k.phase) n (sat_sight k (word_at us 0)) root) all.1)
+    let root : (word_at us 0).phase ≡ k.phase = word_of k.phase us 0 (reached_states_tally k us ts r).some all.0 in (
+      all.0,
+      all_put (SeatIn k.phase) ts id (replicate n (sat_sight k (word_at us 0)))
+          (all_replicate (SightIn k.phase) n (sat_sight k (word_at us 0)) root) all.1,
+    )
 unadvanced k ws vs (joins us ts id other l m r at apart there) none =
     let all = unadvanced k us ts r none in
     let other_ = all_at (SeatIn k.phase) ts other m (sym (set_else ts id other (l ++ m) apart) ∙ there) all.1 in
@@ -216,8 +233,11 @@ unadvanced k ws vs (joins us ts id other l m r at apart there) none =
 unadvanced k ws vs (parts us ts id x l y m r at) none =
     let all = unadvanced k us ts r none in
     let seat = all_at (SeatIn k.phase) ts id (x ∷ (l ++ y ∷ m)) at all.1 in
-    let both = all_parts (SightIn k.phase) l (y ∷ m) seat.1 in
-    (all.0, all_both (SeatIn k.phase) (set ts id (x ∷ l)) ((y ∷ m) ∷ []) (all_put (SeatIn k.phase) ts id (x ∷ l) (seat.0, both.0) all.1) (both.1, tt))
+    let both = all_parts (SightIn k.phase) l (y ∷ m) seat.1 in (
+      all.0,
+      all_both (SeatIn k.phase) (set ts id (x ∷ l)) ((y ∷ m) ∷ []) (all_put (SeatIn k.phase) ts id (x ∷ l) (seat.0, both.0) all.1)
+          (both.1, tt),
+    )
 
 -- two phases with one next phase are one
 next_once : (p q : ℕ) → next_phase_of p ≡ next_phase_of q → p ≡ q
@@ -235,7 +255,8 @@ by_last k p q (Some found) follows any next =
     let same : root_phase found.words ≡ q = next_once (root_phase found.words) q (sym follows.0 ∙ sym next) in
     (same, subst (λ (z : ℕ). AllByRecursion (HasArrived z) (views_of found.seats)) same follows.1)
 
-fits_of : (k : Key) (ws : List Fields) (vs : List (List Sight)) (x : Sight) → Reached k ws vs → Stands x vs → ViewFits k.shape (root_phase ws) (word_at ws 0).ended x.view
+fits_of : (k : Key) (ws : List Fields) (vs : List (List Sight)) (x : Sight) → Reached k ws vs → Stands x vs
+    → ViewFits k.shape (root_phase ws) (word_at ws 0).ended x.view
 fits_of k ws vs x run s =
     let a = amid vs s.id s.front x s.back s.seat in
     mine k.shape ws a.front a.back x.view (subst (λ (us : List View). Tallies k.shape ws us) a.is (reached_states_tally k ws vs run))
@@ -248,12 +269,15 @@ each_token_is_waited_for k left now other ws vs run x root s some' here =
     (by_last k (root_phase ws) x.view.phase (last_advance run) (each_phase_is_waited_for k ws vs run)
     (λ none.
     let all = unadvanced k ws vs run none in
-    behind (word_of k.phase ws 0 (reached_states_tally k ws vs run).some all.0 ∙ sym (sight_of k.phase s.front s.back x (all_at (SeatIn k.phase) vs s.id (s.front ++ x ∷ s.back) s.seat all.1))))
+    behind
+    (word_of k.phase ws 0 (reached_states_tally k ws vs run).some all.0
+    ∙ sym (sight_of k.phase s.front s.back x (all_at (SeatIn k.phase) vs s.id (s.front ++ x ∷ s.back) s.seat all.1))))
     (⊎_elim (λ (e : x.view.phase ≡ root_phase ws). absurd (behind (sym e))) (λ (e : (next_phase_of x.view.phase ≡ root_phase ws) × (x.view.arrived ≡ x.view.size)). e.0) (fits.current some')))
 
 pub unarrived_hold_the_phase : UnarrivedHoldThePhase
 unarrived_hold_the_phase k ws vs x run s late =
-    ⊎_elim (λ (e : x.view.phase ≡ root_phase ws). sym e) (λ (e : (next_phase_of x.view.phase ≡ root_phase ws) × (x.view.arrived ≡ x.view.size)). absurd (let a = e.1 in omega arith))
+    ⊎_elim (λ (e : x.view.phase ≡ root_phase ws). sym e)
+    (λ (e : (next_phase_of x.view.phase ≡ root_phase ws) × (x.view.arrived ≡ x.view.size)). absurd (let a = e.1 in omega arith))
     ((fits_of k ws vs x run s).current (omega arith))
 
 -- the phase that follows the one that an advance left
@@ -262,10 +286,13 @@ follows_left k now left None follows all = absurd all
 follows_left k now left (Some found) follows all = follows.0 ∙ ap next_phase_of all.0
 
 -- What was said of all tokens between two phases tells, with one state, that one follows the other.
-pub between_is_next : (k : Key) (left now : ℕ) (w : Fields) (x : Sight) → WaitedBetween k left now → IsReached k 0 w x → w.phase ≡ now → 0 < x.view.size → x.view.phase ≡ left → now ≡ next_phase_of left
+pub between_is_next : (k : Key) (left now : ℕ) (w : Fields) (x : Sight) → WaitedBetween k left now → IsReached k 0 w x → w.phase ≡ now
+    → 0 < x.view.size → x.view.phase ≡ left → now ≡ next_phase_of left
 between_is_next k left now w x all r root some' here =
     let at : root_phase r.words ≡ now = ap (λ (z : Fields). z.phase) r.word ∙ root in
-    sym at ∙ follows_left k (root_phase r.words) left (last_advance r.reached) (each_phase_is_waited_for k r.words r.seats r.reached) (all r.words r.seats r.reached x at r.stands some' here)
+    sym at
+    ∙ follows_left k (root_phase r.words) left (last_advance r.reached) (each_phase_is_waited_for k r.words r.seats r.reached)
+    (all r.words r.seats r.reached x at r.stands some' here)
 
 -- no phase is the next but one
 never_back : (p q : ℕ) → next_phase_of p ≡ q → p ≡ next_phase_of q → ⊥
@@ -277,7 +304,8 @@ never_back p q e f = go (p == 2147483647) (q == 2147483647) refl refl e f
     go false true f g h i = absurd (let j : p + 1 ≡ q = h in let l : p ≡ 0 = i in let k = eqb-true q 2147483647 g in omega arith)
     go false false f g h i = absurd (let j : p + 1 ≡ q = h in let l : p ≡ q + 1 = i in omega arith)
 
-arrived_between : (v : View) (q p : ℕ) → p ≡ next_phase_of q → (v.phase ≡ q) ⊎ ((next_phase_of v.phase ≡ q) × (v.arrived ≡ v.size)) → (v.phase ≡ p) ⊎ ((next_phase_of v.phase ≡ p) × (v.arrived ≡ v.size))
+arrived_between : (v : View) (q p : ℕ) → p ≡ next_phase_of q → (v.phase ≡ q) ⊎ ((next_phase_of v.phase ≡ q) × (v.arrived ≡ v.size))
+    → (v.phase ≡ p) ⊎ ((next_phase_of v.phase ≡ p) × (v.arrived ≡ v.size))
     → (v.phase ≡ q) × (v.arrived ≡ v.size)
 arrived_between v q p next (inl a) (inl b) = absurd (next_differs q (sym a ∙ (b ∙ next)))
 arrived_between v q p next (inl a) (inr b) = (a, b.1)

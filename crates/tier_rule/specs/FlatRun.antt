@@ -14,8 +14,8 @@ use Rattle.tier_rule.specs.Reach.{views_of, Reached, opens, steps, cuts, sits, j
 use Rattle.tier_rule.specs.Laws.{number_of}
 use Rattle.tier_rule.specs.Run.{Moment, last_advance}
 
--- A run of one flat phaser. It begins without members in this phase. As long as the phaser has not ended, it takes a step that it may take. It may go on as a phaser that
--- nobody can distinguish from it, and as one that differs only in whose the members are.
+-- A run of one flat phaser. It begins without members in this phase. As long as the phaser has not ended, it takes a step that it may take.
+-- It may go on as a phaser that nobody can distinguish from it, and as one that differs only in whose the members are.
 pub data FlatRun (phase : ℕ) : Flat → Type 0 where
   begins : FlatRun phase (empty_in phase)
   takes : (f : Flat) (step : FlatStep) → FlatRun phase f → f.ended ≡ false → MayTake step f → FlatRun phase (flat_step step f)
@@ -41,11 +41,12 @@ abbrev pub with_label : Option FlatStep → List FlatStep → List FlatStep
 with_label None labels = labels
 with_label (Some step) labels = step ∷ labels
 
--- The flat steps of a run of the tree, the latest first: as long as the tree has not ended, each join, arrival, departure, advance and force, by the token with its number
--- at that moment.
+-- The flat steps of a run of the tree, the latest first: as long as the tree has not ended, each join, arrival, departure, advance and
+-- force, by the token with its number at that moment.
 abbrev pub labels_of : {k : Key} {ws : List Fields} {vs : List (List Sight)} → Reached k ws vs → List FlatStep
 labels_of (opens x shape small is) = []
-labels_of (steps us ts id t tries f b x y kind r at within needs says own is few) = if (word_at us 0).ended then labels_of r else with_label (label (number_of ts id f) kind) (labels_of r)
+labels_of (steps us ts id t tries f b x y kind r at within needs says own is few) =
+    if (word_at us 0).ended then labels_of r else with_label (label (number_of ts id f) kind) (labels_of r)
 labels_of (cuts us ts id l r at) = labels_of r
 labels_of (sits us ts id n r at) = labels_of r
 labels_of (joins us ts id other l m r at apart there) = labels_of r
@@ -59,8 +60,8 @@ abbrev pub flat_found : Option Moment → Option Flat
 flat_found None = None
 flat_found (Some found) = Some (flat_at found)
 
--- A run of the tree is a flat run. This leads to the flat phaser that the words and the seats represent, takes the run's flat steps one after another, and its last advance found
--- what the run's last advance found.
+-- A run of the tree is a flat run. This leads to the flat phaser that the words and the seats represent, takes the run's flat steps one
+-- after another, and its last advance found what the run's last advance found.
 pub record IsFlatRunOf {k : Key} {words : List Fields} {seats : List (List Sight)} (run : Reached k words seats) : Type 0 where
   pub flat : FlatRun k.phase (image words (views_of seats))
   pub taken : steps_taken flat ≡ labels_of run
@@ -83,6 +84,7 @@ AdvancesAreDueInFlatRuns =
     (k : Key) (words : List Fields) (seats : List (List Sight)) (run : Reached k words seats) (found : Moment)
     → last_advance run ≡ Some found → IsDueAfter k.phase (flat_at found)
 
--- What holds of flat runs by themselves: their last advance was due, and everyone had arrived. So neither a phaser that seems the same nor other owners make an advance due.
+-- What holds of flat runs by themselves: their last advance was due, and everyone had arrived. So neither a phaser that seems the same nor
+-- other owners make an advance due.
 abbrev pub FlatRunsWaitForAll : Type 0
 FlatRunsWaitForAll = (phase : ℕ) (f : Flat) (run : FlatRun phase f) (found : Flat) → last_found run ≡ Some found → IsDueAfter phase found

@@ -30,8 +30,8 @@ stepped_sight kind t w tries x = record {
   opened = x.opened;
 }
 
--- Some tokens of a list take steps of the tree at the tier t, one after another: the list goes from `l` to `m`, and the tier's word from `w` to `u`. The first token
--- takes a step; the first takes no more, and the others go on; or one such run follows another.
+-- Some tokens of a list take steps of the tree at the tier t, one after another: the list goes from `l` to `m`, and the tier's word from
+-- `w` to `u`. The first token takes a step; the first takes no more, and the others go on; or one such run follows another.
 pub data Goes (k : Key) (t : ℕ) : Fields → List Sight → Fields → List Sight → Type 0 where
   stays : (w : Fields) (l : List Sight) → Goes k t w l w l
   moves : (w u : Fields) (x : Sight) (b m : List Sight) (kind : Kind) (tries : ℕ)
@@ -96,11 +96,15 @@ SawAll k s me n me' =
     (w : Fields) × IsLegal w × (n ≡ packed w) × (m : List Sight) × (me' ≡ (m, [])) × LookedAll k s.word w 0 me.0 m
 
 -- A try by which the tokens of a seat go to these sights, from the word w to the word u. If it is lost, all of them look.
-pub record WentOrLooked (k : Key) (w u : Fields) (m : List Sight) (s : Step Kind) (me : Me Kind (List Sight)) (n : ℕ) (me' : Me Kind (List Sight)) : Type 0 where
+pub record WentOrLooked (k : Key) (w u : Fields) (m : List Sight) (s : Step Kind) (me : Me Kind (List Sight)) (n : ℕ)
+    (me' : Me Kind (List Sight)) : Type 0 where
   pub won : n ≡ s.first → (me' ≡ (m, [])) × Among k.shape s.word w (those me.0) × Among k.shape s.word u (those m)
-  pub lost : n ≢ s.first → (z : Fields) × IsLegal z × (n ≡ packed z) × (z ≢ w) × (m' : List Sight) × (me' ≡ (m', [])) × LookedAll k s.word z 1 me.0 m'
+  pub lost : n ≢ s.first
+      → (z : Fields) × IsLegal z × (n ≡ packed z) × (z ≢ w) × (m' : List Sight) × (me' ≡ (m', [])) × LookedAll k s.word z 1 me.0 m'
 
 -- A seat that knows nothing of this tree gets the root's word for some new tokens.
 abbrev pub SatAll : Key → ℕ → Step Kind → Me Kind (List Sight) → ℕ → Me Kind (List Sight) → Type 0
 SatAll k count s me n me' =
-    me ≡ ([], []) → (w : Fields) × IsLegal w × (n ≡ packed w) × (me' ≡ (replicate count (sat_sight k w), [])) × Among k.shape 0 w (replicate count (new_view w.phase))
+    me ≡ ([], [])
+    → (w : Fields) × IsLegal w × (n ≡ packed w) × (me' ≡ (replicate count (sat_sight k w), []))
+    × Among k.shape 0 w (replicate count (new_view w.phase))

@@ -60,7 +60,8 @@ abbrev pub PlanSays : Key → Kind → Fields → Type 0
 PlanSays k (Advance ends) w = ends ≡ end_ends k.plan w.phase (w.parties == 0)
 PlanSays k _ w = Unit {0}
 
--- What a seat knows after a step of this kind at the tier t, which found these words and took `tries` tries: all that it knew, and the step.
+-- What a seat knows after a step of this kind at the tier t, which found these words and took `tries` tries: all that it knew, and the
+-- step.
 pub record Learns (kind : Kind) (t : ℕ) (ws : List Fields) (tries : ℕ) (x y : Sight) : Type 0 where
   pub key : y.key ≡ x.key
   pub view : y.view ≡ stepped_view x.key.shape ws kind t x.view
@@ -74,19 +75,22 @@ abbrev pub is_join : Kind → Bool
 is_join (Join tier claimed size) = true
 is_join _ = false
 
--- At most one try, and exactly one if the step changes the word. Only a join may leave its try to the step that the same exchange takes after it.
+-- At most one try, and exactly one if the step changes the word. Only a join may leave its try to the step that the same exchange takes
+-- after it.
 pub record IsTried (kind : Kind) (t : ℕ) (w : Fields) (tries : ℕ) (x : Sight) : Type 0 where
   pub few : tries ≤ 1
   pub changes : word_after kind t w x.view ≢ w → is_join kind ≡ false → tries ≡ 1
 
--- A tree begins with empty tiers and one seat. A token, anywhere among those of its seat, takes a step of the tree. A seat without views is split off another,
--- which counts it, and becomes that of some new tokens when it looks at the root. A seat takes the views of another. A seat with several views parts with the last
--- ones, and keeps some.
+-- A tree begins with empty tiers and one seat. A token, anywhere among those of its seat, takes a step of the tree. A seat without views is
+-- split off another, which counts it, and becomes that of some new tokens when it looks at the root. A seat takes the views of another. A
+-- seat with several views parts with the last ones, and keeps some.
 pub data Reached (k : Key) : List Fields → List (List Sight) → Type 0 where
-  opens : (x : Sight) → IsTiers k.shape → k.phase ≤ 2147483647 → x ≡ first_sight k (empty_word k.phase) → Reached k (empty_words k.shape k.phase) ((x ∷ []) ∷ [])
+  opens : (x : Sight) → IsTiers k.shape → k.phase ≤ 2147483647 → x ≡ first_sight k (empty_word k.phase)
+      → Reached k (empty_words k.shape k.phase) ((x ∷ []) ∷ [])
   steps : (ws : List Fields) (vs : List (List Sight)) (id t tries : ℕ) (f b : List Sight) (x y : Sight) (kind : Kind)
       → Reached k ws vs → get_elem? vs id ≡ some (f ++ x ∷ b) → t < length ws
-      → Needs k.shape kind t (word_at ws t) x.view → PlanSays k kind (word_at ws t) → x.key ≡ k → Learns kind t ws tries x y → IsTried kind t (word_at ws t) tries x
+      → Needs k.shape kind t (word_at ws t) x.view → PlanSays k kind (word_at ws t) → x.key ≡ k → Learns kind t ws tries x y
+      → IsTried kind t (word_at ws t) tries x
       → Reached k (words_after ws kind t x.view) (set vs id (f ++ y ∷ b))
   cuts : (ws : List Fields) (vs : List (List Sight)) (id : ℕ) (l : List Sight)
       → Reached k ws vs → get_elem? vs id ≡ some l → Reached k ws (set vs id (cut_off l) ++ [] ∷ [])
@@ -106,4 +110,5 @@ pub record Kept (k : Key) (s : State Kind (List Sight)) : Type 0 where
 
 -- At every moment the words and the views tally.
 abbrev pub ReachedStatesTally : Type 0
-ReachedStatesTally = (k : Key) (words : List Fields) (seats : List (List Sight)) → Reached k words seats → Tallies k.shape words (views_of seats)
+ReachedStatesTally =
+    (k : Key) (words : List Fields) (seats : List (List Sight)) → Reached k words seats → Tallies k.shape words (views_of seats)

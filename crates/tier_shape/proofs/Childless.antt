@@ -13,7 +13,8 @@ leaf_passes ps tier leaf =
     (all_pass (λ other. (other == tier) || not (parent_of ps other == tier)) (length ps) 0
     (λ other from below. elim (cases_eq other tier) [
       | inl same ↦ or_left (other == tier) _ (eq-eqb other tier same)
-      | inr apart ↦ or_right (other == tier) _ (not_from_false _ (ne_eqb (parent_of ps other) tier (leaf.childless other (omega arith) apart)))
+      | inr apart ↦ or_right (other == tier) _
+          (not_from_false _ (ne_eqb (parent_of ps other) tier (leaf.childless other (omega arith) apart)))
     ]))
 
 pub passes_leaf : (ps : List ℕ) (tier : ℕ) → is_leaf_of ps tier ≡ true → IsLeaf ps tier
@@ -22,7 +23,8 @@ passes_leaf ps tier passes =
     record {
       within = ltb-true tier (length ps) parts.0;
       childless = λ other below apart child.
-          elim (or_cases (other == tier) _ (each_passes (λ other. (other == tier) || not (parent_of ps other == tier)) (length ps) 0 parts.1 other (omega arith) (omega arith))) [
+          elim
+          (or_cases (other == tier) _ (each_passes (λ other. (other == tier) || not (parent_of ps other == tier)) (length ps) 0 parts.1 other (omega arith) (omega arith))) [
             | inl same ↦ apart (eqb-true other tier same)
             | inr none ↦ both_ways (parent_of ps other == tier) (not-true _ none) (eq-eqb (parent_of ps other) tier child)
           ];

@@ -40,7 +40,8 @@ no_x : (width : ℕ) → IsWidth width → All (λ byte. is_x byte ≡ false) (d
 no_x width is =
     let P : List ℕ → Type 0 = λ ds. All (λ byte. is_x byte ≡ false) ds in
     elim (cases_lt width 10) [
-      | inl small ↦ subst P (sym (one_digit width small)) (all_one (λ byte. is_x byte ≡ false) (48 + width) (ne_eqb (48 + width) 120 (λ e. omega arith)))
+      | inl small ↦ subst P (sym (one_digit width small))
+          (all_one (λ byte. is_x byte ≡ false) (48 + width) (ne_eqb (48 + width) 120 (λ e. omega arith)))
       | inr more ↦ subst P (sym (two_digits width more (omega arith)))
           (all_two (λ byte. is_x byte ≡ false) (48 + width / 10) (48 + width % 10) (ne_eqb (48 + width / 10) 120 (λ e. omega arith)) (ne_eqb (48 + width % 10) 120 (λ e. omega arith)))
     ]
@@ -61,9 +62,11 @@ spoils : (ws vs : List ℕ) (piece : List ℕ) (more : List (List ℕ)) → All 
 spoils [] [] piece more all e none = cc
 spoils [] (v ∷ vs) piece more all e none = none v (all_head IsWidth v vs all) (cc)
 spoils (w ∷ ws) [] piece more all e none = cc
-spoils (w ∷ ws) (v ∷ vs) piece more all e none = let t : map decimal ws ++ (piece ∷ more) ≡ map decimal vs = cc in spoils ws vs piece more (all_tail IsWidth v vs all) t none
+spoils (w ∷ ws) (v ∷ vs) piece more all e none = let t : map decimal ws ++ (piece ∷ more) ≡ map decimal vs = cc in
+    spoils ws vs piece more (all_tail IsWidth v vs all) t none
 
-pub bad_piece : (text ws : List ℕ) (piece : List ℕ) (more : List (List ℕ)) → (text ≡ codes "flat" → ⊥) → pieces text ≡ map decimal ws ++ (piece ∷ more)
+pub bad_piece : (text ws : List ℕ) (piece : List ℕ) (more : List (List ℕ)) → (text ≡ codes "flat" → ⊥)
+    → pieces text ≡ map decimal ws ++ (piece ∷ more)
     → ((width : ℕ) → IsWidth width → decimal width ≢ piece) → IsBadText text
 bad_piece text ws piece more apart split none [] says = apart says.says
 bad_piece text ws piece more apart split none (v ∷ vs) says =
@@ -94,7 +97,8 @@ one_reading text [] [] a b = refl
 one_reading text [] (v ∷ vs) a b = absurd (not_flat v vs b.each (sym a.says ∙ b.says))
 one_reading text (w ∷ ws) [] a b = absurd (not_flat w ws a.each (sym b.says ∙ a.says))
 one_reading text (w ∷ ws) (v ∷ vs) a b =
-    same_numbers (w ∷ ws) (v ∷ vs) a.each b.each (sym (pieces_joined w ws a.each) ∙ ap pieces (sym a.says ∙ b.says) ∙ pieces_joined v vs b.each)
+    same_numbers (w ∷ ws) (v ∷ vs) a.each b.each
+    (sym (pieces_joined w ws a.each) ∙ ap pieces (sym a.says ∙ b.says) ∙ pieces_joined v vs b.each)
 
 -- what has been read of a text: these widths of its pieces, the first six of which are kept, and whether there were
 -- more
@@ -116,11 +120,13 @@ read_none text = record {
   full = λ e. absurd (false≢true e);
 }
 
-one_more : (ws : List ℕ) (w : ℕ) (piece : List ℕ) (left : List (List ℕ)) → decimal w ≡ piece → map decimal ws ++ (piece ∷ left) ≡ map decimal (ws ++ (w ∷ [])) ++ left
+one_more : (ws : List ℕ) (w : ℕ) (piece : List ℕ) (left : List (List ℕ)) → decimal w ≡ piece
+    → map decimal ws ++ (piece ∷ left) ≡ map decimal (ws ++ (w ∷ [])) ++ left
 one_more [] w piece left same = ap (λ p. p ∷ left) (sym same)
 one_more (v ∷ ws) w piece left same = ap (λ ps. decimal v ∷ ps) (one_more ws w piece left same)
 
-pub read_kept : (text kept piece : List ℕ) (left : List (List ℕ)) (deep : Bool) (w : ℕ) → IsReadTo text (piece ∷ left) kept deep → length kept < 6 → IsWidth w → decimal w ≡ piece
+pub read_kept : (text kept piece : List ℕ) (left : List (List ℕ)) (deep : Bool) (w : ℕ) → IsReadTo text (piece ∷ left) kept deep
+    → length kept < 6 → IsWidth w → decimal w ≡ piece
     → IsReadTo text left (kept ++ (w ∷ [])) deep
 read_kept text kept piece left true w so capacity is same = absurd (let f = so.full refl in omega (arith, f.0))
 read_kept text kept piece left false w so capacity is same = record {
@@ -132,7 +138,8 @@ read_kept text kept piece left false w so capacity is same = record {
   full = λ e. absurd (false≢true e);
 }
 
-pub read_over : (text kept piece : List ℕ) (left : List (List ℕ)) (deep : Bool) (w : ℕ) → IsReadTo text (piece ∷ left) kept deep → 6 ≤ length kept → IsWidth w → decimal w ≡ piece
+pub read_over : (text kept piece : List ℕ) (left : List (List ℕ)) (deep : Bool) (w : ℕ) → IsReadTo text (piece ∷ left) kept deep
+    → 6 ≤ length kept → IsWidth w → decimal w ≡ piece
     → IsReadTo text left kept true
 read_over text kept piece left deep w so capacity is same = record {
   widths = so.widths ++ (w ∷ []);
@@ -158,7 +165,8 @@ read_near text kept deep so near = (subst (IsWidthsText text) (sym (so.same near
 pub read_deep : (text kept : List ℕ) (deep : Bool) → IsReadTo text [] kept deep → deep ≡ true → IsDeepText text
 read_deep text kept deep so over = (so.widths, says_widths text so.widths so.each so.split, (so.full over).1)
 
-pub read_bad : (text kept piece : List ℕ) (left : List (List ℕ)) (deep : Bool) → (text ≡ codes "flat" → ⊥) → IsReadTo text (piece ∷ left) kept deep
+pub read_bad : (text kept piece : List ℕ) (left : List (List ℕ)) (deep : Bool) → (text ≡ codes "flat" → ⊥)
+    → IsReadTo text (piece ∷ left) kept deep
     → ((width : ℕ) → IsWidth width → decimal width ≢ piece) → IsBadText text
 read_bad text kept piece left deep apart so none = bad_piece text so.widths piece left apart so.split none
 
@@ -175,36 +183,45 @@ size_of None = 0
 size_of (Some bytes) = length bytes.now + 1
 
 -- the first piece and the others
-pub cut_here : (bytes : List ℕ) (at : ℕ) → position is_x bytes ≡ Some at → (at < length bytes) × (pieces bytes ≡ take at bytes ∷ pieces (drop (at + 1) bytes))
+pub cut_here : (bytes : List ℕ) (at : ℕ) → position is_x bytes ≡ Some at
+    → (at < length bytes) × (pieces bytes ≡ take at bytes ∷ pieces (drop (at + 1) bytes))
 cut_here bytes at e = elim (cases_lt (position_or_len is_x bytes) (length bytes)) [
   | inl there ↦
-      let found : position is_x bytes ≡ Some (position_or_len is_x bytes) = cond-true (nat_lt (position_or_len is_x bytes) (length bytes)) (Some (position_or_len is_x bytes)) None (lt-ltb (position_or_len is_x bytes) (length bytes) there) in
+      let found : position is_x bytes ≡ Some (position_or_len is_x bytes) =
+      cond-true (nat_lt (position_or_len is_x bytes) (length bytes)) (Some (position_or_len is_x bytes)) None
+      (lt-ltb (position_or_len is_x bytes) (length bytes) there) in
       let same : position_or_len is_x bytes ≡ at = cc in
       let P : ℕ → Type 0 = λ n. (n < length bytes) × (pieces bytes ≡ take n bytes ∷ pieces (drop (n + 1) bytes)) in
       subst P same (there, slice_split_first is_x bytes 0 there)
   | inr none ↦
-      let found : position is_x bytes ≡ None = cond-false (nat_lt (position_or_len is_x bytes) (length bytes)) (Some (position_or_len is_x bytes)) None (le-ltb (position_or_len is_x bytes) (length bytes) none) in
+      let found : position is_x bytes ≡ None =
+      cond-false (nat_lt (position_or_len is_x bytes) (length bytes)) (Some (position_or_len is_x bytes)) None
+      (le-ltb (position_or_len is_x bytes) (length bytes) none) in
       cc
 ]
 
 pub no_cut : (bytes : List ℕ) → position is_x bytes ≡ None → pieces bytes ≡ bytes ∷ []
 no_cut bytes e = elim (cases_lt (position_or_len is_x bytes) (length bytes)) [
   | inl there ↦
-      let found : position is_x bytes ≡ Some (position_or_len is_x bytes) = cond-true (nat_lt (position_or_len is_x bytes) (length bytes)) (Some (position_or_len is_x bytes)) None (lt-ltb (position_or_len is_x bytes) (length bytes) there) in
+      let found : position is_x bytes ≡ Some (position_or_len is_x bytes) =
+      cond-true (nat_lt (position_or_len is_x bytes) (length bytes)) (Some (position_or_len is_x bytes)) None
+      (lt-ltb (position_or_len is_x bytes) (length bytes) there) in
       cc
   | inr none ↦ slice_split_none is_x bytes (λ k d h. fails_before_first is_x bytes k d (omega arith))
 ]
 
 -- the same of what a call hands back as the rest
 pub cut_off : (bytes : List ℕ) (at : ℕ) → position is_x bytes ≡ Some at
-    → (pieces bytes ≡ take at bytes ∷ pieces (take (length bytes - (at + 1)) (drop (at + 1) bytes))) × (length (take (length bytes - (at + 1)) (drop (at + 1) bytes)) < length bytes)
+    → (pieces bytes ≡ take at bytes ∷ pieces (take (length bytes - (at + 1)) (drop (at + 1) bytes)))
+    × (length (take (length bytes - (at + 1)) (drop (at + 1) bytes)) < length bytes)
 cut_off bytes at e =
     let cut = cut_here bytes at e in
     let long : length (drop (at + 1) bytes) ≤ length bytes - (at + 1) = omega (arith, length-drop (at + 1) bytes) in
     rw (take_all (length bytes - (at + 1)) (drop (at + 1) bytes) long) (cut.1, omega (arith, length-drop (at + 1) bytes, cut.0))
 
 pub cut_left : (bytes piece : List ℕ) (more : Option (Bor (List ℕ))) → IfNone more (pieces bytes ≡ piece ∷ [])
-    → IfSome more (λ m. (pieces bytes ≡ piece ∷ pieces m.now) × (length m.now < length bytes)) → (pieces bytes ≡ piece ∷ left_of more) × (size_of more < length bytes + 1)
+    → IfSome more (λ m. (pieces bytes ≡ piece ∷ pieces m.now) × (length m.now < length bytes))
+    → (pieces bytes ≡ piece ∷ left_of more) × (size_of more < length bytes + 1)
 cut_left bytes piece None last next = (last, omega arith)
 cut_left bytes piece (Some m) last next = (next.0, omega (arith, next.1))
 

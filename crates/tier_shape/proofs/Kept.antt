@@ -11,11 +11,13 @@ pub record IsKept (p : ℕ → Bool) (a n x : ℕ) : Type 0 where
   pub below : x < a + n
   pub passes : p x ≡ true
 
-all_of_cons : (Q : ℕ → Type 0) (a : ℕ) (xs : List ℕ) → Q a → ((k : ℕ) → k < length xs → Q (get_or xs k 0)) → (k : ℕ) → k < length (a ∷ xs) → Q (get_or (a ∷ xs) k 0)
+all_of_cons : (Q : ℕ → Type 0) (a : ℕ) (xs : List ℕ) → Q a → ((k : ℕ) → k < length xs → Q (get_or xs k 0)) → (k : ℕ) → k < length (a ∷ xs)
+    → Q (get_or (a ∷ xs) k 0)
 all_of_cons Q a xs here rest zero h = here
 all_of_cons Q a xs here rest (suc k) h = rest k (omega arith)
 
-pub kept : (p : ℕ → Bool) (n a : ℕ) → (k : ℕ) → k < length (filter p (range_with_len a n)) → IsKept p a n (get_or (filter p (range_with_len a n)) k 0)
+pub kept : (p : ℕ → Bool) (n a : ℕ) → (k : ℕ) → k < length (filter p (range_with_len a n))
+    → IsKept p a n (get_or (filter p (range_with_len a n)) k 0)
 kept p zero a = λ k h. absurd (omega arith)
 kept p (suc n) a =
     let G : List ℕ = filter p (range_with_len (a + 1) n) in
@@ -25,7 +27,8 @@ kept p (suc n) a =
     (λ holds. all_of_cons (IsKept p a (suc n)) a G (record { from = omega arith; below = omega arith; passes = holds }) after)
     (λ fails. after)
 
-rising_cons : (a : ℕ) (xs : List ℕ) → ((k : ℕ) → k < length xs → a < get_or xs k 0) → IsStrictlyIncreasing xs → IsStrictlyIncreasing (a ∷ xs)
+rising_cons : (a : ℕ) (xs : List ℕ) → ((k : ℕ) → k < length xs → a < get_or xs k 0) → IsStrictlyIncreasing xs
+    → IsStrictlyIncreasing (a ∷ xs)
 rising_cons a xs low rest zero h = low 0 (omega arith)
 rising_cons a xs low rest (suc k) h = rw add-one (let r = rest k (omega arith) in rw add-one at r)
 
@@ -54,7 +57,8 @@ contains_kept p (suc n) a x from below passes =
 
 pub all_pass : (p : ℕ → Bool) (n a : ℕ) → ((x : ℕ) → a ≤ x → x < a + n → p x ≡ true) → list_all p (range_with_len a n) ≡ true
 all_pass p zero a each = refl
-all_pass p (suc n) a each = and_from (p a) _ (each a (omega arith) (omega arith)) (all_pass p n (a + 1) (λ x from below. each x (omega arith) (omega arith)))
+all_pass p (suc n) a each =
+    and_from (p a) _ (each a (omega arith) (omega arith)) (all_pass p n (a + 1) (λ x from below. each x (omega arith) (omega arith)))
 
 pub each_passes : (p : ℕ → Bool) (n a : ℕ) → list_all p (range_with_len a n) ≡ true → (x : ℕ) → a ≤ x → x < a + n → p x ≡ true
 each_passes p zero a all x from below = absurd (omega arith)
@@ -71,14 +75,17 @@ range_more (suc n) a last e = ap (λ xs. a ∷ xs) (range_more n (a + 1) last (o
 
 next_kept : (p : ℕ → Bool) (n : ℕ) → filter p (range_with_len 0 (n + 1)) ≡ filter p (range_with_len 0 n) ++ cond (p n) (n ∷ []) []
 next_kept p n =
-    ap (λ k. filter p (range_with_len 0 k)) (add-one n) ∙ ap (filter p) (range_more n 0 n (omega arith)) ∙ filter-append p (range_with_len 0 n) (n ∷ [])
+    ap (λ k. filter p (range_with_len 0 k)) (add-one n) ∙ ap (filter p) (range_more n 0 n (omega arith))
+    ∙ filter-append p (range_with_len 0 n) (n ∷ [])
 
 -- one more number, if it passes and if it doesn't
-pub keeps_next : (p : ℕ → Bool) (xs : List ℕ) (n : ℕ) → p n ≡ true → xs ≡ filter p (range_with_len 0 n) → xs ++ (n ∷ []) ≡ filter p (range_with_len 0 (n + 1))
+pub keeps_next : (p : ℕ → Bool) (xs : List ℕ) (n : ℕ) → p n ≡ true → xs ≡ filter p (range_with_len 0 n)
+    → xs ++ (n ∷ []) ≡ filter p (range_with_len 0 (n + 1))
 keeps_next p xs n passes so_far =
     ap (λ l. l ++ (n ∷ [])) so_far ∙ ap (λ b. filter p (range_with_len 0 n) ++ cond b (n ∷ []) []) (sym passes) ∙ sym (next_kept p n)
 
-pub drops_next : (p : ℕ → Bool) (xs : List ℕ) (n : ℕ) → p n ≡ false → xs ≡ filter p (range_with_len 0 n) → xs ≡ filter p (range_with_len 0 (n + 1))
+pub drops_next : (p : ℕ → Bool) (xs : List ℕ) (n : ℕ) → p n ≡ false → xs ≡ filter p (range_with_len 0 n)
+    → xs ≡ filter p (range_with_len 0 (n + 1))
 drops_next p xs n fails so_far =
     so_far ∙ sym (append-nil (filter p (range_with_len 0 n)))
     ∙ ap (λ b. filter p (range_with_len 0 n) ++ cond b (n ∷ []) []) (sym fails) ∙ sym (next_kept p n)

@@ -13,7 +13,9 @@ use Rattle.tier_shape.proofs.Levels.{level_size_more, level_start_grows, length-
 use Rattle.tier_shape.proofs.TreeShape.{level_of_tier, below_at, place_above, root_at}
 
 range_split : (m n a : ℕ) → range_with_len a (m + n) ≡ range_with_len a m ++ range_with_len (a + m) n
-range_split zero n a = let e : 0 + n ≡ n = omega arith in let f : a + 0 ≡ a = omega arith in ap (range_with_len a) e ∙ ap (λ b. range_with_len b n) (sym f)
+range_split zero n a = let e : 0 + n ≡ n = omega arith in
+    let f : a + 0 ≡ a = omega arith in
+    ap (range_with_len a) e ∙ ap (λ b. range_with_len b n) (sym f)
 range_split (suc m) n a =
     let e : suc m + n ≡ suc (m + n) = omega arith in
     let f : a + 1 + m ≡ a + suc m = omega arith in
@@ -32,7 +34,8 @@ all_kept p (suc n) a each =
     ∙ ap (λ xs. a ∷ xs) (all_kept p n (a + 1) (λ x from below. each x (omega arith) (omega arith)))
 
 -- the parent of a tier below the root is above the last level
-parent_high : (ws : List ℕ) (level place : ℕ) → All IsWidth ws → level ≤ length ws → place < level_size ws level → 0 < level_start ws level + place
+parent_high : (ws : List ℕ) (level place : ℕ) → All IsWidth ws → level ≤ length ws → place < level_size ws level
+    → 0 < level_start ws level + place
     → parent_of (tree_of ws) (level_start ws level + place) < level_start ws (length ws)
 parent_high ws zero place all h p some = absurd (omega arith)
 parent_high ws (suc level) place all h p some =
@@ -64,9 +67,11 @@ inner_is_none ws tier all h leaf =
     let some = all on.level 0 on.below in
     let less : on.place * get_or ws on.level 0 < level_size ws on.level * get_or ws on.level 0 =
     mul-lt-mul_of_pos_right {m = on.place} {n = level_size ws on.level} {k = get_or ws on.level 0} on.within some.0 in
-    let on_next : on.place * get_or ws on.level 0 < level_size ws (suc on.level) = omega (arith, level_size_more ws on.level on.below, less) in
+    let on_next : on.place * get_or ws on.level 0 < level_size ws (suc on.level) =
+    omega (arith, level_size_more ws on.level on.below, less) in
     let grows = level_start_grows ws (suc (suc on.level)) (suc (length ws)) (omega (arith, on.below)) in
-    let within : level_start ws (suc on.level) + on.place * get_or ws on.level 0 < length (tree_of ws) = omega (arith, grows, length-levels ws (length ws), on_next) in
+    let within : level_start ws (suc on.level) + on.place * get_or ws on.level 0 < length (tree_of ws) =
+    omega (arith, grows, length-levels ws (length ws), on_next) in
     let parent : parent_of (tree_of ws) (level_start ws (suc on.level) + on.place * get_or ws on.level 0) ≡ tier =
     below_at ws (length ws) on.level (on.place * get_or ws on.level 0) on.below on_next
     ∙ ap (λ n. level_start ws on.level + n) (mul-div_cancel on.place {n = get_or ws on.level 0} some.0) ∙ on.is in
@@ -78,7 +83,8 @@ last_level ws all =
     let m = level_start ws (length ws) in
     let n = level_size ws (length ws) in
     let front : filter (is_leaf_of tree) (range_with_len 0 m) ≡ [] =
-    none_kept (is_leaf_of tree) m 0 (λ x from below. false_from_ne_true (is_leaf_of tree x) (λ passes. inner_is_none ws x all (omega arith) (passes_leaf tree x passes))) in
+    none_kept (is_leaf_of tree) m 0
+    (λ x from below. false_from_ne_true (is_leaf_of tree x) (λ passes. inner_is_none ws x all (omega arith) (passes_leaf tree x passes))) in
     let back : filter (is_leaf_of tree) (range_with_len (0 + m) n) ≡ range_with_len (0 + m) n =
     all_kept (is_leaf_of tree) n (0 + m) (λ x from below. leaf_passes tree x (last_is_leaf ws x all (omega arith) (omega arith))) in
     let e : 0 + m ≡ m = omega arith in

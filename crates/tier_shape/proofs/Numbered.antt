@@ -20,7 +20,8 @@ any_default (x ∷ xs) zero d e h = refl
 any_default (x ∷ xs) (suc k) d e h = any_default xs k d e (omega arith)
 
 -- the leaf of any number is a tier
-pub numbered_within : (ps tiers : List ℕ) (number tier : ℕ) → tiers ≡ leaves_of ps → 0 < length tiers → tier ≡ leaf_at (leaves_of ps) number → tier < length ps
+pub numbered_within : (ps tiers : List ℕ) (number tier : ℕ) → tiers ≡ leaves_of ps → 0 < length tiers → tier ≡ leaf_at (leaves_of ps) number
+    → tier < length ps
 numbered_within ps tiers number tier all some e =
     let here : 0 < length (leaves_of ps) = subst (λ (xs : List ℕ). 0 < length xs) all some in
     let below : number % length (leaves_of ps) < length (leaves_of ps) = mod-lt number here in

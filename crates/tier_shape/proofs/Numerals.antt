@@ -57,7 +57,8 @@ reads_one [] width long first small = absurd (omega arith)
 reads_one (a ∷ []) width long first small = one_digit width small ∙ ap (λ d. d ∷ []) (sym first)
 reads_one (a ∷ b ∷ ds) width long first small = absurd (omega arith)
 
-pub reads_two : (ds : List ℕ) (tens ones : ℕ) → length ds ≡ 2 → get_or ds 0 0 ≡ 48 + tens → get_or ds 1 0 ≡ 48 + ones → 0 < tens → tens < 10 → ones < 10 → decimal (tens * 10 + ones) ≡ ds
+pub reads_two : (ds : List ℕ) (tens ones : ℕ) → length ds ≡ 2 → get_or ds 0 0 ≡ 48 + tens → get_or ds 1 0 ≡ 48 + ones → 0 < tens → tens < 10
+    → ones < 10 → decimal (tens * 10 + ones) ≡ ds
 reads_two [] tens ones long first second some small low = absurd (omega arith)
 reads_two (a ∷ []) tens ones long first second some small low = absurd (omega arith)
 reads_two (a ∷ b ∷ []) tens ones long first second some small low =

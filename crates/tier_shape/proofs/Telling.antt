@@ -32,7 +32,8 @@ true_same (x ∷ xs) (y ∷ ys) e =
     cc
 
 -- what is found in a row of numbers
-found_is : (p : ℕ → Bool) (n a w : ℕ) → a ≤ w → w < a + n → p w ≡ true → ((v : ℕ) → p v ≡ true → a ≤ v → v < a + n → v ≡ w) → find p (range_with_len a n) ≡ Some w
+found_is : (p : ℕ → Bool) (n a w : ℕ) → a ≤ w → w < a + n → p w ≡ true → ((v : ℕ) → p v ≡ true → a ≤ v → v < a + n → v ≡ w)
+    → find p (range_with_len a n) ≡ Some w
 found_is p zero a w low high here one = absurd (omega arith)
 found_is p (suc n) a w low high here one = elim (cases_Bool (p a)) [
   | inl passes ↦
@@ -53,7 +54,8 @@ is_found p (suc n) a w e = elim (cases_Bool (p a)) [
       let here : p w ≡ true = ap p (sym same) ∙ passes in
       (here, omega arith, omega arith)
   | inr fails ↦
-      let rest : find p (range_with_len (a + 1) n) ≡ Some w = sym (cond-false (p a) (Some a) (find p (range_with_len (a + 1) n)) fails) ∙ e in
+      let rest : find p (range_with_len (a + 1) n) ≡ Some w =
+      sym (cond-false (p a) (Some a) (find p (range_with_len (a + 1) n)) fails) ∙ e in
       let i = is_found p n (a + 1) w rest in
       (i.0, omega (arith, i.1), omega (arith, i.2))
 ]
@@ -80,7 +82,8 @@ all_cons : (P : ℕ → Type 0) (x : ℕ) (xs : List ℕ) → P x → All P xs �
 all_cons P x xs here all zero d h = here
 all_cons P x xs here all (suc k) d h = all k d (omega arith)
 
-put_width : (o : Option ℕ) (os : Option (List ℕ)) (ws : List ℕ) → put_before o os ≡ Some ws → (w : ℕ) × (vs : List ℕ) × (o ≡ Some w) × (os ≡ Some vs) × (w ∷ vs ≡ ws)
+put_width : (o : Option ℕ) (os : Option (List ℕ)) (ws : List ℕ) → put_before o os ≡ Some ws
+    → (w : ℕ) × (vs : List ℕ) × (o ≡ Some w) × (os ≡ Some vs) × (w ∷ vs ≡ ws)
 put_width None os ws e = cc
 put_width (Some w) None ws e = cc
 put_width (Some w) (Some vs) ws e = let same : w ∷ vs ≡ ws = cc in (w, vs, refl, refl, same)
@@ -99,7 +102,8 @@ all_said (piece ∷ ps) ws e =
 
 -- from the statement to the function
 pub said_is_in_text : (text ws : List ℕ) → IsWidthsText text ws → widths_in_text text ≡ Some ws
-said_is_in_text text [] says = cond-true (same_text text (codes "flat")) (Some []) (pieces_in_text (pieces text)) (same_true text (codes "flat") says.says)
+said_is_in_text text [] says =
+    cond-true (same_text text (codes "flat")) (Some []) (pieces_in_text (pieces text)) (same_true text (codes "flat") says.says)
 said_is_in_text text (w ∷ ws) says =
     let apart : same_text text (codes "flat") ≡ false =
     false_from_ne_true (same_text text (codes "flat")) (λ t. not_flat w ws says.each (sym (true_same text (codes "flat") t) ∙ says.says)) in
@@ -114,7 +118,8 @@ in_text_is_said text ws e = elim (cases_Bool (same_text text (codes "flat"))) [
       let same : [] ≡ ws = cc in
       subst (IsWidthsText text) same (reads_flat text (true_same text (codes "flat") flat))
   | inr apart ↦
-      let spelled_out : pieces_in_text (pieces text) ≡ Some ws = sym (cond-false (same_text text (codes "flat")) (Some []) (pieces_in_text (pieces text)) apart) ∙ e in
+      let spelled_out : pieces_in_text (pieces text) ≡ Some ws =
+      sym (cond-false (same_text text (codes "flat")) (Some []) (pieces_in_text (pieces text)) apart) ∙ e in
       let all = all_said (pieces text) ws spelled_out in
       says_widths text ws all.0 (all.1 ∙ sym (append-nil (map decimal ws)))
 ]
@@ -126,29 +131,36 @@ none_in_text text (Some ws) e bad = absurd (bad ws (in_text_is_said text ws e))
 pub tree_is_in_text : (text parents : List ℕ) → IsTreeText text parents → shape_in_text text ≡ Ok parents
 tree_is_in_text text parents says =
     ap tree_in_text (said_is_in_text text says.widths says.says)
-    ∙ cond-false (nat_lt 6 (length says.widths)) (Err TooDeep) (cond (nat_lt 64 (tiers_of says.widths)) (Err TooManyTiers) (Ok (tree_of says.widths))) (le-ltb 6 (length says.widths) says.near)
-    ∙ cond-false (nat_lt 64 (tiers_of says.widths)) (Err TooManyTiers) (Ok (tree_of says.widths)) (le-ltb 64 (tiers_of says.widths) says.few)
+    ∙ cond-false (nat_lt 6 (length says.widths)) (Err TooDeep)
+    (cond (nat_lt 64 (tiers_of says.widths)) (Err TooManyTiers) (Ok (tree_of says.widths))) (le-ltb 6 (length says.widths) says.near)
+    ∙ cond-false (nat_lt 64 (tiers_of says.widths)) (Err TooManyTiers) (Ok (tree_of says.widths))
+    (le-ltb 64 (tiers_of says.widths) says.few)
     ∙ ap (λ ps. Ok ps) (sym says.tree)
 
-pub refusal_is_in_text : (text : List ℕ) (fault : ShapeFault) → IsRefusedText text fault → (fault_number fault ≡ None → ⊥) → shape_in_text text ≡ Err fault
+pub refusal_is_in_text : (text : List ℕ) (fault : ShapeFault) → IsRefusedText text fault → (fault_number fault ≡ None → ⊥)
+    → shape_in_text text ≡ Err fault
 refusal_is_in_text text NoTier is some = absurd is
 refusal_is_in_text text TooManyTiers is some =
     ap tree_in_text (said_is_in_text text is.0 is.1)
-    ∙ cond-false (nat_lt 6 (length is.0)) (Err TooDeep) (cond (nat_lt 64 (tiers_of is.0)) (Err TooManyTiers) (Ok (tree_of is.0))) (le-ltb 6 (length is.0) is.2)
+    ∙ cond-false (nat_lt 6 (length is.0)) (Err TooDeep) (cond (nat_lt 64 (tiers_of is.0)) (Err TooManyTiers) (Ok (tree_of is.0)))
+    (le-ltb 6 (length is.0) is.2)
     ∙ cond-true (nat_lt 64 (tiers_of is.0)) (Err TooManyTiers) (Ok (tree_of is.0)) (lt-ltb 64 (tiers_of is.0) is.3)
 refusal_is_in_text text ParentNotEarlier is some = absurd is
 refusal_is_in_text text TooDeep is some =
     ap tree_in_text (said_is_in_text text is.0 is.1)
-    ∙ cond-true (nat_lt 6 (length is.0)) (Err TooDeep) (cond (nat_lt 64 (tiers_of is.0)) (Err TooManyTiers) (Ok (tree_of is.0))) (lt-ltb 6 (length is.0) is.2)
+    ∙ cond-true (nat_lt 6 (length is.0)) (Err TooDeep) (cond (nat_lt 64 (tiers_of is.0)) (Err TooManyTiers) (Ok (tree_of is.0)))
+    (lt-ltb 6 (length is.0) is.2)
 refusal_is_in_text text BadText is some = ap tree_in_text (none_in_text text (widths_in_text text) refl is)
 refusal_is_in_text text (Memory e) is some = absurd (some refl)
 
-pub ok_in_text : (text : List ℕ) (r : Result (List ℕ) ShapeFault) → MatchResult r (λ shape. IsTreeText text shape × IsTiers shape) (λ fault. IsRefusedText text fault)
+pub ok_in_text : (text : List ℕ) (r : Result (List ℕ) ShapeFault)
+    → MatchResult r (λ shape. IsTreeText text shape × IsTiers shape) (λ fault. IsRefusedText text fault)
     → IfOk r (λ shape. shape_in_text text ≡ Ok shape)
 ok_in_text text (Ok shape) h = tree_is_in_text text shape h.0
 ok_in_text text (Err fault) h = tt
 
-pub err_in_text : (text : List ℕ) (r : Result (List ℕ) ShapeFault) → MatchResult r (λ shape. IsTreeText text shape × IsTiers shape) (λ fault. IsRefusedText text fault)
+pub err_in_text : (text : List ℕ) (r : Result (List ℕ) ShapeFault)
+    → MatchResult r (λ shape. IsTreeText text shape × IsTiers shape) (λ fault. IsRefusedText text fault)
     → IfErr r (λ fault. (fault_number fault ≡ None → ⊥) → shape_in_text text ≡ Err fault)
 err_in_text text (Ok shape) h = tt
 err_in_text text (Err fault) h = λ some. refusal_is_in_text text fault h some

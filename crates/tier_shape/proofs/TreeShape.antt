@@ -14,7 +14,8 @@ pub start_some : (ws : List ℕ) (level : ℕ) → 0 < level_start ws (suc level
 start_some ws zero = omega arith
 start_some ws (suc level) = let h = start_some ws level in omega (arith, h)
 
-last_at : (ws : List ℕ) (m place : ℕ) → place < level_size ws (suc m) → parent_of (levels_of ws (suc m)) (level_start ws (suc m) + place) ≡ level_start ws m + place / get_or ws m 0
+last_at : (ws : List ℕ) (m place : ℕ) → place < level_size ws (suc m)
+    → parent_of (levels_of ws (suc m)) (level_start ws (suc m) + place) ≡ level_start ws m + place / get_or ws m 0
 last_at ws m place h =
     ap (λ n. get_or (levels_of ws m ++ parents_below ws m) (n + place) 0) (sym (length-levels ws m))
     ∙ get_or-append-add (levels_of ws m) (parents_below ws m) place 0
@@ -28,10 +29,13 @@ below_at ws (suc m) level place h p = elim (cases_lt level m) [
   | inl before ↦
       let grows = level_start_grows ws (suc (suc level)) (suc m) (omega arith) in
       let within : level_start ws (suc level) + place < length (levels_of ws m) = omega (arith, grows, length-levels ws m) in
-      get_or_append_left (levels_of ws m) (parents_below ws m) 0 (level_start ws (suc level) + place) within ∙ below_at ws m level place before p
+      get_or_append_left (levels_of ws m) (parents_below ws m) 0 (level_start ws (suc level) + place) within
+      ∙ below_at ws m level place before p
   | inr after ↦
       let e : m ≡ level = omega arith in
-      let P : ℕ → Type 0 = λ l. place < level_size ws (suc l) → parent_of (levels_of ws (suc m)) (level_start ws (suc l) + place) ≡ level_start ws l + place / get_or ws l 0 in
+      let P : ℕ → Type 0 =
+      λ l. place < level_size ws (suc l)
+      → parent_of (levels_of ws (suc m)) (level_start ws (suc l) + place) ≡ level_start ws l + place / get_or ws l 0 in
       subst P e (last_at ws m place) p
 ]
 
@@ -59,13 +63,15 @@ level_of_tier ws (suc m) tier h = elim (cases_lt tier (level_start ws m)) [
 ]
 
 -- a place on a level is below a place on the level above
-pub place_above : (ws : List ℕ) (level place : ℕ) → All IsWidth ws → level < length ws → place < level_size ws (suc level) → place / get_or ws level 0 < level_size ws level
+pub place_above : (ws : List ℕ) (level place : ℕ) → All IsWidth ws → level < length ws → place < level_size ws (suc level)
+    → place / get_or ws level 0 < level_size ws level
 place_above ws level place all within h =
     let w = all level 0 within in
     let below : place < level_size ws level * get_or ws level 0 = omega (arith, level_size_more ws level within) in
     (div-lt_iff_lt-mul {k = get_or ws level 0} {x = place} {y = level_size ws level} w.0).1 below
 
-earlier_at : (ws : List ℕ) (level place tier : ℕ) → All IsWidth ws → level ≤ length ws → place < level_size ws level → level_start ws level + place ≡ tier → 0 < tier → parent_of (tree_of ws) tier < tier
+earlier_at : (ws : List ℕ) (level place tier : ℕ) → All IsWidth ws → level ≤ length ws → place < level_size ws level
+    → level_start ws level + place ≡ tier → 0 < tier → parent_of (tree_of ws) tier < tier
 earlier_at ws zero place tier all h p is some = absurd (omega arith)
 earlier_at ws (suc level) place tier all h p is some =
     let up = ap (parent_of (tree_of ws)) (sym is) ∙ below_at ws (length ws) level place h p in
@@ -82,7 +88,8 @@ tree_shape ws all = record {
 }
 
 -- a tier of a level has this many above it
-pub level_path : (ws : List ℕ) (level place : ℕ) → All IsWidth ws → level ≤ length ws → place < level_size ws level → length (path_of (tree_of ws) (level_start ws level + place)) ≡ suc level
+pub level_path : (ws : List ℕ) (level place : ℕ) → All IsWidth ws → level ≤ length ws → place < level_size ws level
+    → length (path_of (tree_of ws) (level_start ws level + place)) ≡ suc level
 level_path ws zero place all h p = let e : 0 + place ≡ 0 = omega arith in ap (λ t. length (path_of (tree_of ws) t)) e
 level_path ws (suc level) place all h p =
     let grows = level_start_grows ws (suc (suc level)) (suc (length ws)) (omega arith) in
@@ -116,7 +123,8 @@ pub says_shape : (text parents : List ℕ) → IsTreeText text parents → IsTie
 says_shape text parents says = subst IsTiers (sym says.tree) (tree_tiers says.widths says.says.each says.near says.few)
 
 -- the tree that is made of the widths of a text, seen twice as a slice
-pub made_of : (text ws seen again parents : List ℕ) → IsWidthsText text ws × (length ws ≤ 6) → seen ≡ ws → again ≡ ws → tiers_of seen ≤ 64 → parents ≡ tree_of again → IsTreeText text parents
+pub made_of : (text ws seen again parents : List ℕ) → IsWidthsText text ws × (length ws ≤ 6) → seen ≡ ws → again ≡ ws → tiers_of seen ≤ 64
+    → parents ≡ tree_of again → IsTreeText text parents
 made_of text ws seen again parents said seen-is again-is few made = record {
   widths = ws;
   says = said.0;

@@ -35,7 +35,8 @@ widths_in_text text = if same_text text (codes "flat") then Some [] else pieces_
 -- the tree of widths, or why there is none
 abbrev pub tree_in_text : Option (List ℕ) → Result (List ℕ) ShapeFault
 tree_in_text None = Err BadText
-tree_in_text (Some widths) = if nat_lt 6 (length widths) then Err TooDeep else (if nat_lt 64 (tiers_of widths) then Err TooManyTiers else Ok (tree_of widths))
+tree_in_text (Some widths) =
+    if nat_lt 6 (length widths) then Err TooDeep else (if nat_lt 64 (tiers_of widths) then Err TooManyTiers else Ok (tree_of widths))
 
 -- the shape that a text says, or its refusal
 abbrev pub shape_in_text : List ℕ → Result (List ℕ) ShapeFault

@@ -12,7 +12,8 @@ pub record IsLeaf (parents : List ℕ) (tier : ℕ) : Type 0 where
 -- the same as a test
 abbrev pub is_leaf_of : List ℕ → ℕ → Bool
 is_leaf_of parents tier =
-    nat_lt tier (length parents) && list_all (λ other. (other == tier) || not (parent_of parents other == tier)) (range_with_len 0 (length parents))
+    nat_lt tier (length parents)
+    && list_all (λ other. (other == tier) || not (parent_of parents other == tier)) (range_with_len 0 (length parents))
 
 -- the leaves, in rising order
 abbrev pub leaves_of : List ℕ → List ℕ

@@ -94,7 +94,9 @@ TreesHaveTheirLevels = (widths : List ℕ) → All IsWidth widths → IsTreeOf w
 
 -- its leaves are its last level, as many as the product of the widths
 abbrev pub LeavesAreTheLastLevel : Type 0
-LeavesAreTheLastLevel = (widths : List ℕ) → All IsWidth widths → leaves_of (tree_of widths) ≡ range_with_len (level_start widths (length widths)) (product widths)
+LeavesAreTheLastLevel =
+    (widths : List ℕ) → All IsWidth widths
+    → leaves_of (tree_of widths) ≡ range_with_len (level_start widths (length widths)) (product widths)
 
 -- what a text says is a shape, and so taken as a list of parents too
 abbrev pub TextsSayShapes : Type 0

@@ -85,10 +85,20 @@ done_by : (ps : List ℕ) (root : ℕ) (ended : Bool) (v : View) (e : Errand) �
     → ((t : ℕ) → t < length ps → cond (is_hidden e) 0 (only_at v.tier (absent root v) t) + errand_late ps e t ≡ 0) → IsDone root v
 done_by ps root ended v Rest shape some q ok fit none =
     let a = placed_done ps root ended v ok (λ h. let b = none v.tier h in omega arith) in
-    record { phase = a.0; arrived = a.1; shares = λ qs u. ap (λ x. errand_parties qs x u) q; lates = λ qs u. ap (λ x. errand_late qs x u) q }
+    record {
+      phase = a.0;
+      arrived = a.1;
+      shares = λ qs u. ap (λ x. errand_parties qs x u) q;
+      lates = λ qs u. ap (λ x. errand_late qs x u) q;
+    }
 done_by ps root ended v Advancing shape some q ok fit none =
     let a = placed_done ps root ended v ok (λ h. let b = none v.tier h in omega arith) in
-    record { phase = a.0; arrived = a.1; shares = λ qs u. ap (λ x. errand_parties qs x u) q; lates = λ qs u. ap (λ x. errand_late qs x u) q }
+    record {
+      phase = a.0;
+      arrived = a.1;
+      shares = λ qs u. ap (λ x. errand_parties qs x u) q;
+      lates = λ qs u. ap (λ x. errand_late qs x u) q;
+    }
 done_by ps root ended v (Climbing t k) shape some q ok fit none = absurd (let a = none t fit.1 in let b = only_here t 1 in omega arith)
 done_by ps root ended v (Opening tier claimed Joined size) shape some q ok fit none =
     absurd (let a = none (ancestor ps tier claimed) (ancestor_within ps tier claimed shape fit.0.place) in
@@ -116,7 +126,8 @@ none_absent : (root : ℕ) (v : View) → v.size ≡ 0 → v.arrived ≡ v.size 
 none_absent root v z e = grind arith
 
 -- in the next_phase_of phase the token's late share is its party share
-done_shares : (ps : List ℕ) (root after : ℕ) (u : ℕ) (v : View) → root ≢ after → IsDone root v → late_share after ps u v ≡ party_share ps u v
+done_shares : (ps : List ℕ) (root after : ℕ) (u : ℕ) (v : View) → root ≢ after → IsDone root v
+    → late_share after ps u v ≡ party_share ps u v
 done_shares ps root after u v n d =
     let absent_all : absent after v ≡ v.size = ⊎_elim
     (λ (z : v.size ≡ 0). (let a = d.arrived in none_absent after v z a))
@@ -155,7 +166,8 @@ advanced_done : (root : ℕ) (v : View) → v.errand ≡ Advancing → IsDone ro
 advanced_done root v e d = record { phase = d.phase; arrived = d.arrived; shares = λ _ _. refl; lates = λ _ _. refl }
 
 advanced_ok : (ps : List ℕ) (root : ℕ) (v : View) → ViewFits ps root false v → ViewFits ps root false (advanced_view v)
-advanced_ok ps root v ok = record { within = ok.within; few = ok.few; placed = ok.placed; current = ok.current; seen = ok.seen; errand = tt }
+advanced_ok ps root v ok =
+    record { within = ok.within; few = ok.few; placed = ok.placed; current = ok.current; seen = ok.seen; errand = tt }
 
 late_next : (root after : ℕ) (w : Fields) → root ≢ after → late root w ≡ 0 → KeepsUp root w → late after w ≡ w.parties
 late_next root after w n z up = ⊎_elim
@@ -211,7 +223,8 @@ advance_tallies ps ws front back v ends shape tally can =
     let after : ℕ = next_phase_of (root_phase ws) in
     let one : is_zero (word_at ws 0).unarrived ≡ sum_by advance_share (front ++ v ∷ back) = tally.advances can.going in
     let mine : advance_share v ≡ 1 = ap errand_advances can.errand in
-    let none : (word_at ws 0).unarrived ≡ 0 = zero_field (word_at ws 0).unarrived (let a = share_fits advance_share front back v in omega arith) in
+    let none : (word_at ws 0).unarrived ≡ 0 =
+    zero_field (word_at ws 0).unarrived (let a = share_fits advance_share front back v in omega arith) in
     let others : sum_by advance_share (front ++ advanced_view v ∷ back) ≡ 0 =
     (let a = sum_changes advance_share front back v (advanced_view v) in let b = zero_one (word_at ws 0).unarrived none in omega arith) in
     let arrived : AllArrived ps ws (front ++ v ∷ back) = all_arrived ps ws (front ++ v ∷ back) shape tally can.going none in
@@ -239,7 +252,8 @@ advance_tallies ps ws front back v ends shape tally can =
     let still : (u : ℕ) → Compared ws' u → Compared ws u = λ u h z. can.going in
     let parties : Balances (λ x. x.parties) (party_share ps) ps ws' (front ++ advanced_view v ∷ back) =
     balance_kept (λ x. x.parties) (party_share ps) ps ws front back v (advanced_view v) 0 w' shape tally.long tally.some still tally.parties
-    (λ _. ap (λ k. (word_at ws 0).parties + k) (sym (same_party ps 0 v can.errand))) (λ u n. ap (λ k. k + 0) (same_party ps u v can.errand)) in
+    (λ _. ap (λ k. (word_at ws 0).parties + k) (sym (same_party ps 0 v can.errand)))
+    (λ u n. ap (λ k. k + 0) (same_party ps u v can.errand)) in
     let lates : (t : ℕ) → t < length ws' → late after (word_at ws' t) ≡ (word_at ws' t).parties =
     at_each ws 0 w' (λ t x. late after x ≡ x.parties) tally.some (late_advanced (word_at ws 0) ends)
     (λ t h n. late_next (root_phase ws) after (word_at ws t) differs (arrived.tiers t h) (tally.phases t h)) in
@@ -253,7 +267,8 @@ advance_tallies ps ws front back v ends shape tally can =
       unarrived = subst (λ (r : ℕ). Balances (late r) (late_share r ps) ps ws' (front ++ advanced_view v ∷ back)) (sym phase_now)
           (λ t h c.
           let a = lates t h in let b = parties t h c in
-          let d : sum_by (late_share after ps t) (front ++ advanced_view v ∷ back) ≡ sum_by (party_share ps t) (front ++ advanced_view v ∷ back) =
+          let d : sum_by (late_share after ps t) (front ++ advanced_view v ∷ back)
+          ≡ sum_by (party_share ps t) (front ++ advanced_view v ∷ back) =
           sum_same (late_share after ps t) (party_share ps t) (front ++ advanced_view v ∷ back)
           (all_map (λ x. IsDone (root_phase ws) x × ViewFits ps (root_phase ws) false x)
           (λ x. late_share after ps t x ≡ party_share ps t x) (λ x k. done_shares ps (root_phase ws) after t x differs k.0)
@@ -265,7 +280,8 @@ advance_tallies ps ws front back v ends shape tally can =
           (let a = tally.claims 0 tally.some in let b = sum_changes (claim_share ps 0) front back v (advanced_view v) in
           let c : claim_share ps 0 v ≡ 0 = ap (errand_claims ps 0) can.errand in
           let d : bit (is_being_opened (word_at ws 0)) ≡ 0 = ap (λ (x : Bool). cond {A = ℕ} x 1 0) tally.root_claims in
-          let e : bit (is_being_opened w') ≡ 0 = ap (λ (x : Bool). cond {A = ℕ} x 1 0) (advanced_not_opened (word_at ws 0) ends) in omega arith)
+          let e : bit (is_being_opened w') ≡ 0 = ap (λ (x : Bool). cond {A = ℕ} x 1 0) (advanced_not_opened (word_at ws 0) ends) in
+          omega arith)
           (λ u h n. let a = tally.claims u h in let b = sum_changes (claim_share ps u) front back v (advanced_view v) in
           let c : claim_share ps u v ≡ 0 = ap (errand_claims ps u) can.errand in omega arith);
       root_claims = ap is_being_opened now ∙ advanced_not_opened (word_at ws 0) ends;

@@ -49,7 +49,8 @@ quiet_trees_await_somebody ps ws vs shape tally going quiet some =
     (all_map (λ v. v.errand ≡ Rest) (λ v. advance_share v ≡ 0) (λ v e. ap errand_advances e) vs quiet) in
     let none = root_empty (root_phase ws) (word_at ws 0) refl still (tally.advances going ∙ nobody) in
     let empty : AllByRecursion (λ v. v.size ≡ 0) vs =
-    all_map (λ v. (ViewFits ps (root_phase ws) (word_at ws 0).ended v × (v.errand ≡ Rest)) × ((t : ℕ) → t < length ps → party_share ps t v ≡ 0))
+    all_map
+    (λ v. (ViewFits ps (root_phase ws) (word_at ws 0).ended v × (v.errand ≡ Rest)) × ((t : ℕ) → t < length ps → party_share ps t v ≡ 0))
     (λ v. v.size ≡ 0) (λ v h. memberless ps (root_phase ws) (word_at ws 0).ended v h.0.0 h.0.1 h.1) vs
     (both (λ v. ViewFits ps (root_phase ws) (word_at ws 0).ended v × (v.errand ≡ Rest)) (λ v. (t : ℕ) → t < length ps → party_share ps t v ≡ 0) vs
     (both (ViewFits ps (root_phase ws) (word_at ws 0).ended) (λ v. v.errand ≡ Rest) vs tally.fits quiet)

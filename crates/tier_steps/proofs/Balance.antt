@@ -9,7 +9,8 @@ use Rattle.tier_steps.specs.View.{View, parent_of}
 use Rattle.tier_steps.specs.Tally.{IsShape, blank, word_at, counted, children_among, children, Compared, Balances}
 
 -- a sum with one element apart
-pub sum_around : {X : Type 0} (f : X → ℕ) (front back : List X) (v : X) → sum_by f (front ++ v ∷ back) ≡ sum_by f front + f v + sum_by f back
+pub sum_around : {X : Type 0} (f : X → ℕ) (front back : List X) (v : X)
+    → sum_by f (front ++ v ∷ back) ≡ sum_by f front + f v + sum_by f back
 sum_around f front back v = omega (arith, sum_by-append f front (v ∷ back), sum_by-cons f v back)
 
 -- one element changes
@@ -66,7 +67,8 @@ balance_kept f share ps ws front back v v' t w' shape long within still old here
     let was_here : word_at ws u ≡ word_at ws t = ap (λ k. word_at ws k) e in
     let a : linked ps u t (counted f (word_at ws t)) ≡ 0 = ap (λ k. linked ps k t (counted f (word_at ws t))) e
     ∙ unlinked ps t (counted f (word_at ws t)) shape (omega arith) in
-    let b : linked ps u t (counted f w') ≡ 0 = ap (λ k. linked ps k t (counted f w')) e ∙ unlinked ps t (counted f w') shape (omega arith) in
+    let b : linked ps u t (counted f w') ≡ 0 =
+    ap (λ k. linked ps k t (counted f w')) e ∙ unlinked ps t (counted f w') shape (omega arith) in
     let c : share u v ≡ share t v = ap (λ k. share k v) e in
     let d : share u v' ≡ share t v' = ap (λ k. share k v') e in
     let g : f (word_at ws u) ≡ f (word_at ws t) = ap f was_here in

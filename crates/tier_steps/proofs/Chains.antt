@@ -31,8 +31,10 @@ uncounted : (f : Fields → ℕ) (w : Fields) → counted f w ≡ 0 → f w ≡ 
 uncounted f w e = bit_zero (f w) e
 
 -- If the root counts nothing, no tier does, and no token anywhere.
-pub nothing_below : (f : Fields → ℕ) (share : ℕ → View → ℕ) (ps : List ℕ) (ws : List Fields) (vs : List View) → IsShape ps → length ws ≡ length ps
-    → (word_at ws 0).ended ≡ false → Balances f share ps ws vs → f (word_at ws 0) ≡ 0 → (n t : ℕ) → t < n → t < length ws → f (word_at ws t) ≡ 0
+pub nothing_below : (f : Fields → ℕ) (share : ℕ → View → ℕ) (ps : List ℕ) (ws : List Fields) (vs : List View) → IsShape ps
+    → length ws ≡ length ps
+    → (word_at ws 0).ended ≡ false → Balances f share ps ws vs → f (word_at ws 0) ≡ 0 → (n t : ℕ) → t < n → t < length ws
+    → f (word_at ws t) ≡ 0
 nothing_below f share ps ws vs shape long going balance root zero t h k = absurd (omega arith)
 nothing_below f share ps ws vs shape long going balance root (suc n) zero h k = root
 nothing_below f share ps ws vs shape long going balance root (suc n) (suc t) h k =

@@ -82,7 +82,8 @@ pub ready : (ps : List ℕ) (ws : List Fields) (front back : List View) (v : Vie
 ready ps ws front back v shape tally can =
     let one : is_zero (word_at ws 0).unarrived ≡ sum_by advance_share (front ++ v ∷ back) = tally.advances can.going in
     let mine : advance_share v ≡ 1 = ap errand_advances can.errand in
-    let none : (word_at ws 0).unarrived ≡ 0 = zero_field (word_at ws 0).unarrived (let a = share_fits advance_share front back v in omega arith) in
+    let none : (word_at ws 0).unarrived ≡ 0 =
+    zero_field (word_at ws 0).unarrived (let a = share_fits advance_share front back v in omega arith) in
     let others : sum_by advance_share (front ++ advanced_view v ∷ back) ≡ 0 =
     (let a = sum_changes advance_share front back v (advanced_view v) in let b = zero_one (word_at ws 0).unarrived none in omega arith) in
     let arrived : AllArrived ps ws (front ++ v ∷ back) = all_arrived ps ws (front ++ v ∷ back) shape tally can.going none in
@@ -112,27 +113,33 @@ ready ps ws front back v shape tally can =
 -- the image is due if a token advances
 pub image_due : (ws : List Fields) (front back : List View) (v : View) → (word_at ws 0).ended ≡ false → Ready (root_phase ws) front back v
     → (image ws (front ++ v ∷ back)).due ≡ true
-image_due ws front back v going r = due_is ws (front ++ v ∷ back) going ∙ (ap (λ b. b && some_climbing (front ++ v ∷ back)) r.everyone ∙ r.someone)
+image_due ws front back v going r =
+    due_is ws (front ++ v ∷ back) going ∙ (ap (λ b. b && some_climbing (front ++ v ∷ back)) r.everyone ∙ r.someone)
 
 -- the next_phase_of phase begins for both alike
 pub advance_label : (ws ws' : List Fields) (front back : List View) (v : View) (f : Flat) (ends : Bool)
     → AlikeParts f (image ws (front ++ v ∷ back)) → f.ended ≡ false → v.arrived ≤ v.size
-    → root_phase ws ≤ 2147483647 → Ready (root_phase ws) front back v → root_phase ws' ≡ next_phase_of (root_phase ws) → (word_at ws' 0).ended ≡ ends
+    → root_phase ws ≤ 2147483647 → Ready (root_phase ws) front back v → root_phase ws' ≡ next_phase_of (root_phase ws)
+    → (word_at ws' 0).ended ≡ ends
     → AlikeParts (taken (flat.Advance ends) f) (image ws' (front ++ advanced_view v ∷ back))
 advance_label ws ws' front back v f ends alike going h legal r phase ended =
     let all_same : (u : ℕ) → arrived_of (root_phase ws) u (all_members 0 (front ++ advanced_view v ∷ back)) ≡ arrived_of (root_phase ws) u
     (all_members 0 (front ++ v ∷ back)) = λ u.
     (let a = arrived_change (root_phase ws) front back v (advanced_view v) u in omega arith) in
-    let mem_same : (u : ℕ) → members_of u (all_members 0 (front ++ advanced_view v ∷ back)) ≡ members_of u (all_members 0 (front ++ v ∷ back)) = λ u.
+    let mem_same : (u : ℕ)
+    → members_of u (all_members 0 (front ++ advanced_view v ∷ back)) ≡ members_of u (all_members 0 (front ++ v ∷ back)) =
+    λ u.
     (let a = members_change front back v (advanced_view v) u h h in omega arith) in
     let here_ : everyone_arrived (root_phase ws) (all_members 0 (front ++ advanced_view v ∷ back)) ≡ true =
     same_everyone (root_phase ws) (all_members 0 (front ++ advanced_view v ∷ back))
     (all_members 0 (front ++ v ∷ back)) mem_same all_same ∙ r.everyone in
-    let flat_arrived : (u : ℕ) → arrived_of (root_phase ws) u f.members ≡ arrived_of (root_phase ws) u (all_members 0 (front ++ v ∷ back)) = λ u.
+    let flat_arrived : (u : ℕ) → arrived_of (root_phase ws) u f.members ≡ arrived_of (root_phase ws) u (all_members 0 (front ++ v ∷ back)) =
+    λ u.
     subst (λ (p : ℕ). arrived_of p u f.members ≡ arrived_of p u (all_members 0 (front ++ v ∷ back))) alike.phase (alike.arrived going u) in
     let there : everyone_arrived (root_phase ws) f.members ≡ true =
     same_everyone (root_phase ws) f.members (all_members 0 (front ++ v ∷ back)) (alike.members going) flat_arrived ∙ r.everyone in
-    let differs : root_phase ws ≢ next_phase_of f.phase = λ e. next_differs (root_phase ws) legal (ap next_phase_of (sym alike.phase) ∙ sym e) in
+    let differs : root_phase ws ≢ next_phase_of f.phase =
+    λ e. next_differs (root_phase ws) legal (ap next_phase_of (sym alike.phase) ∙ sym e) in
     record {
       phase = ap next_phase_of alike.phase ∙ sym phase;
       ended = sym ended;
@@ -171,7 +178,8 @@ climb_same (x ∷ front) back v v' e = ap (λ b. cond (is_climbing x.errand) tru
 pub root_same : (ws : List Fields) (t : ℕ) (w' : Fields) → t < length ws → (t ≡ 0 → w'.phase ≡ (word_at ws t).phase)
     → root_phase (set ws t w') ≡ root_phase ws
 root_same ws zero w' h e = ap (λ (x : Fields). x.phase) (get_or-set_same ws 0 w' blank h) ∙ e refl
-root_same ws (suc t) w' h e = let other : 0 ≢ suc t = omega arith in ap (λ (x : Fields). x.phase) (get_or-set_other ws (suc t) 0 w' blank other)
+root_same ws (suc t) w' h e = let other : 0 ≢ suc t = omega arith in
+    ap (λ (x : Fields). x.phase) (get_or-set_other ws (suc t) 0 w' blank other)
 
 or_none : (a b : Bool) → cond a true b ≡ false → (a ≡ false) × (b ≡ false)
 or_none true b e = absurd (let f : true ≡ false = e in cc)
@@ -197,7 +205,8 @@ someone_after ps ws front back v' t k shape h tally going legal phase waits erra
     (λ (none : some_climbing (front ++ v' ∷ back) ≡ false). absurd
     (let a : late (root_phase ws') (word_at ws' t) ≡ 0 = all_still ps ws' (front ++ v' ∷ back) shape tally going' everyone none t h' in
     let b : word_at ws' t ≡ passed t k (word_at ws t) = get_or-set_same ws t (passed t k (word_at ws t)) blank h in
-    let c : late (root_phase ws) (passed t k (word_at ws t)) ≡ 0 = sym (ap (λ p. late p (word_at ws' t)) root ∙ ap (late (root_phase ws)) b) ∙ a in
+    let c : late (root_phase ws) (passed t k (word_at ws t)) ≡ 0 =
+    sym (ap (λ p. late p (word_at ws' t)) root ∙ ap (late (root_phase ws)) b) ∙ a in
     let still : is_climbing v'.errand ≡ false = calm front back v' none in
     let d = passed_rests ps (root_phase ws) t k (word_at ws t) legal phase waits.0 waits.1 (ap is_climbing (sym errand) ∙ still) in
     omega arith))

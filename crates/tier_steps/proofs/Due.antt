@@ -104,7 +104,8 @@ pub all_still : (ps : List ℕ) (ws : List Fields) (vs : List View) → IsShape 
     → everyone_arrived (root_phase ws) (all_members 0 vs) ≡ true → some_climbing vs ≡ false
     → (t : ℕ) → t < length ws → late (root_phase ws) (word_at ws t) ≡ 0
 all_still ps ws vs shape tally going everyone nobody t h =
-    let facts = both (ViewFits ps (root_phase ws) (word_at ws 0).ended) (λ v. IsHere (root_phase ws) v × (is_climbing v.errand ≡ false)) vs tally.fits
+    let facts =
+    both (ViewFits ps (root_phase ws) (word_at ws 0).ended) (λ v. IsHere (root_phase ws) v × (is_climbing v.errand ≡ false)) vs tally.fits
     (both (IsHere (root_phase ws)) (λ v. is_climbing v.errand ≡ false) vs (everyone_here (root_phase ws) 0 vs everyone)
     (nobody_climbing vs nobody)) in
     nothing_above (late (root_phase ws)) (late_share (root_phase ws) ps) ps ws vs shape tally.long going tally.unarrived
@@ -114,7 +115,8 @@ all_still ps ws vs shape tally going everyone nobody t h =
     (λ v f. still_by ps (root_phase ws) u v v.errand f.1.1 f.0.errand (f.1.0 f.0.within)) vs facts))
     (length ws) t (omega arith) h
 
-last_climbs : (ps : List ℕ) (t : ℕ) (k : Passage) (w : Fields) → eqb w.unarrived 1 ≡ true → is_climbing (owed (parent_of ps t) t k w) ≡ false → ⊥
+last_climbs : (ps : List ℕ) (t : ℕ) (k : Passage) (w : Fields) → eqb w.unarrived 1 ≡ true
+    → is_climbing (owed (parent_of ps t) t k w) ≡ false → ⊥
 last_climbs ps zero k w z h = let a : is_climbing (owed (parent_of ps zero) zero k w) ≡ true =
     ap (λ b. is_climbing (cond b Advancing Rest)) z in let b : true ≡ false = sym a ∙ h in cc
 last_climbs ps (suc t) Arrival w z h = let a : is_climbing (owed (parent_of ps (suc t)) (suc t) Arrival w) ≡ true =
@@ -124,7 +126,8 @@ last_climbs ps (suc t) Departure w z h =
     ap (λ b. is_climbing (cond (eqb w.parties 1) (Climbing (parent_of ps (suc t)) Departure)
     (cond b (Climbing (parent_of ps (suc t)) Arrival) Rest))) z
     ∙ (elim (eqb w.parties 1) as (λ b. is_climbing
-    (cond b (Climbing (parent_of ps (suc t)) Departure) (Climbing (parent_of ps (suc t)) Arrival)) ≡ true) [ true ↦ refl | false ↦ refl ]) in
+    (cond b (Climbing (parent_of ps (suc t)) Departure) (Climbing (parent_of ps (suc t)) Arrival)) ≡ true)
+    [ true ↦ refl | false ↦ refl ]) in
     let b : true ≡ false = sym a ∙ h in cc
 
 -- a party that passes and owes nothing leaves another party unarrived

@@ -37,7 +37,8 @@ quiet ps ws front back v v' t w' f h tally tally' alike phase ended same =
     (λ e. ((same e).0, (same e).1)) (λ e _. climb_same front back v v' (same e).2))
 
 -- a step with a label, by whether the flat phaser has ended
-stepped : (ws : List Fields) (vs vs' : List View) (t : ℕ) (w' : Fields) (f : Flat) (s : FlatStep) → t < length ws → LooksAlike f (image ws vs)
+stepped : (ws : List Fields) (vs vs' : List View) (t : ℕ) (w' : Fields) (f : Flat) (s : FlatStep) → t < length ws
+    → LooksAlike f (image ws vs)
     → (t ≡ 0 → w'.phase ≡ (word_at ws t).phase) → w'.ended ≡ (word_at ws t).ended
     → (AlikeParts f (image ws vs) → f.ended ≡ false → AlikeParts (taken s f) (image (set ws t w') vs'))
     → LooksAlike (flat_step s f) (image (set ws t w') vs')
@@ -79,7 +80,8 @@ given_up_same (Opening tier claimed GoingBack size) = refl
 noted_same : (root t : ℕ) (w : Fields) (v : View) → SameImage root v (noted t w v)
 noted_same root t w v = (refl, refl, given_up_same v.errand)
 
-refused_same : (ws : List Fields) (t : ℕ) (v : View) → (word_at ws 0).ended ≡ false → SameImage (root_phase ws) v (refused t (word_at ws t) v)
+refused_same : (ws : List Fields) (t : ℕ) (v : View) → (word_at ws 0).ended ≡ false
+    → SameImage (root_phase ws) v (refused t (word_at ws t) v)
 refused_same ws zero v e =
     let a = looked_same (word_at ws 0) v e in
     (a.0, a.1, given_up_same (looked (word_at ws 0) v).errand ∙ a.2)
@@ -167,20 +169,23 @@ kinds_are_flat ps ws front v back t (Advance ends) f step alike =
     let r : Ready (root_phase ws) front back v = ready ps ws front back v step.shape step.tally can in
     let w' : Fields = advanced (word_at ws t) ends in
     let v' : View = advanced_view v in
-    let now : word_at (set ws t w') 0 ≡ w' = ap (λ k. word_at (set ws t w') k) (sym step.needs.0) ∙ get_or-set_same ws t w' blank step.within in
+    let now : word_at (set ws t w') 0 ≡ w' =
+    ap (λ k. word_at (set ws t w') k) (sym step.needs.0) ∙ get_or-set_same ws t w' blank step.within in
     let legal = step.tally.legal 0 step.tally.some in (
       (λ e. parts.due e ∙ image_due ws front back v can.going r),
       whole_of (flat_step (flat.Advance ends) f) (image (set ws t w') (front ++ v' ∷ back))
           (by_end f (flat.Advance ends) (image (set ws t w') (front ++ v' ∷ back))
           (λ e. absurd (let a : true ≡ false = sym e ∙ (parts.ended ∙ can.going) in cc))
           (λ e. advance_label ws (set ws t w') front back v f ends parts e (mine ps ws front back v step.tally).within legal.phase r
-          (ap (λ (x : Fields). x.phase) now ∙ ap (λ k. next_phase_of (word_at ws k).phase) step.needs.0) (ap (λ (x : Fields). x.ended) now))),
+          (ap (λ (x : Fields). x.phase) now ∙ ap (λ k. next_phase_of (word_at ws k).phase) step.needs.0)
+          (ap (λ (x : Fields). x.ended) now))),
     )
 kinds_are_flat ps ws front v back t Force f step alike =
     let parts : AlikeParts f (image ws (front ++ v ∷ back)) = parts_of f (image ws (front ++ v ∷ back)) alike in
     let w' : Fields = forced (word_at ws t) in
     let v' : View = forced_view (word_at ws t) v in
-    let now : word_at (set ws t w') 0 ≡ w' = ap (λ k. word_at (set ws t w') k) (sym step.needs) ∙ get_or-set_same ws t w' blank step.within in
+    let now : word_at (set ws t w') 0 ≡ w' =
+    ap (λ k. word_at (set ws t w') k) (sym step.needs) ∙ get_or-set_same ws t w' blank step.within in
     let phase : root_phase (set ws t w') ≡ root_phase ws = root_same ws t w' step.within (λ _. refl) in (
       (λ _. tt),
       whole_of (flat_step flat.Force f) (image (set ws t w') (front ++ v' ∷ back))
@@ -221,7 +226,8 @@ kinds_are_flat ps ws front v back t (Climb passage) f step alike =
     let parts : AlikeParts f (image ws (front ++ v ∷ back)) = parts_of f (image ws (front ++ v ∷ back)) alike in
     let can : CanClimb t passage (word_at ws t) v = step.needs in
     let ok : ViewFits ps (root_phase ws) (word_at ws 0).ended v = mine ps ws front back v step.tally in
-    let fit : ErrandFits ps (root_phase ws) v (Climbing t passage) = subst (λ (e : Errand). ErrandFits ps (root_phase ws) v e) can.errand ok.errand in
+    let fit : ErrandFits ps (root_phase ws) v (Climbing t passage) =
+    subst (λ (e : Errand). ErrandFits ps (root_phase ws) v e) can.errand ok.errand in
     let w' : Fields = passed t passage (word_at ws t) in
     let v' : View = climbed_view (parent_of ps t) t passage (word_at ws t) v in
     let root : root_phase (set ws t w') ≡ root_phase ws = root_same ws t w' step.within (λ _. phase_passed t passage (word_at ws t)) in
@@ -249,6 +255,7 @@ kinds_are_flat ps ws front v back t Refresh f step alike =
     let fit = refresh_fits ps ws v (front ++ v ∷ back) t (word_at ws 0).ended step.within step.tally step.needs
     (mine ps ws front back v step.tally) in (
       tt,
-      quiet ps ws front back v v t (refreshed (word_at ws t) v.phase) f step.within step.tally (kept ps ws front back v t Refresh step) alike
+      quiet ps ws front back v v t (refreshed (word_at ws t) v.phase) f step.within step.tally (kept ps ws front back v t Refresh step)
+          alike
           fit.phase refl (λ e. (refl, refl, refl)),
     )

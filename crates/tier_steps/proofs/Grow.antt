@@ -99,7 +99,8 @@ add_fits ps root ended t n w v v' p ok =
       keeps_up = λ _. inl p.phase;
       advances_here = λ _ _.
           let a : is_zero (joined w n).unarrived ≡ 0 = joined_waits w n p.some p.admits.waits in
-          let b : is_zero w.unarrived ≡ 0 = ap (λ (x : Bool). cond {A = ℕ} x 1 0) (ne_eqb w.unarrived 0 (let d = p.admits.waits in omega arith)) in
+          let b : is_zero w.unarrived ≡ 0 =
+          ap (λ (x : Bool). cond {A = ℕ} x 1 0) (ne_eqb w.unarrived 0 (let d = p.admits.waits in omega arith)) in
           let c = p.idle.0 in let d = p.idle.1 in omega arith;
       advances_there = λ _. p.idle.1 ∙ sym p.idle.0;
       view = ok;
@@ -108,7 +109,8 @@ add_fits ps root ended t n w v v' p ok =
 -- a token without members counts nowhere while it rests
 pub resting_parties : (ps : List ℕ) (u : ℕ) (v : View) → v.errand ≡ Rest → party_share ps u v ≡ only_at v.tier v.size u
 resting_parties ps u v e =
-    let a : party_share ps u v ≡ only_at v.tier v.size u + 0 = ap (λ x. cond (is_hidden x) 0 (only_at v.tier v.size u) + errand_parties ps x u) e in
+    let a : party_share ps u v ≡ only_at v.tier v.size u + 0 =
+    ap (λ x. cond (is_hidden x) 0 (only_at v.tier v.size u) + errand_parties ps x u) e in
     omega arith
 
 pub absent_none : (root : ℕ) (v : View) → v.size ≡ 0 → absent root v ≡ 0
@@ -123,7 +125,8 @@ pub seeking_party : (ps : List ℕ) (u : ℕ) (v : View) (tier claimed size : �
 seeking_party ps u v tier zero size e z = resting_parties ps u v e ∙ (ap (λ k. only_at v.tier k u) z ∙ only_nothing v.tier u)
 seeking_party ps u v tier (suc claimed) size e z = ap (λ x. cond (is_hidden x) 0 (only_at v.tier v.size u) + errand_parties ps x u) e
 
-pub seeking_late : (root : ℕ) (ps : List ℕ) (u : ℕ) (v : View) (tier claimed size : ℕ) → v.errand ≡ opening tier claimed Seeking size → v.size ≡ 0
+pub seeking_late : (root : ℕ) (ps : List ℕ) (u : ℕ) (v : View) (tier claimed size : ℕ) → v.errand ≡ opening tier claimed Seeking size
+    → v.size ≡ 0
     → late_share root ps u v ≡ 0
 seeking_late root ps u v tier zero size e z =
     resting_late root ps u v e ∙ (ap (λ k. only_at v.tier k u) (absent_none root v z) ∙ only_nothing v.tier u)
@@ -157,7 +160,8 @@ pub added_some : (claimed size : ℕ) → 0 < size → 0 < added claimed size
 added_some zero size h = h
 added_some (suc claimed) size h = omega arith
 
-joined_errand : (ps : List ℕ) (root tier claimed size : ℕ) (w : Fields) (v : View) → w.phase ≡ root → tier < length ps → 0 < size → size ≤ 65535
+joined_errand : (ps : List ℕ) (root tier claimed size : ℕ) (w : Fields) (v : View) → w.phase ≡ root → tier < length ps → 0 < size
+    → size ≤ 65535
     → ErrandFits ps root (joined_view tier claimed size w v) (opening tier claimed Joined size)
 joined_errand ps root tier zero size w v e place some few = tt
 joined_errand ps root tier (suc claimed) size w v e place some few = (

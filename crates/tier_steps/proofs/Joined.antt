@@ -25,7 +25,8 @@ seats_are_flat ps ws front v back t kind f shape h tally needs alike =
       needs = needs;
       tally = subst (λ (vs : List View). Tallies ps ws vs) (seats_around front back v) tally;
     } in
-    subst (λ (vs : List View). IsAllowedLabel (label o kind) f × LooksAlike (labelled (label o kind) f) (image (words_after ws kind t v) vs))
+    subst
+    (λ (vs : List View). IsAllowedLabel (label o kind) f × LooksAlike (labelled (label o kind) f) (image (words_after ws kind t v) vs))
     (sym (seats_around front back v'))
     (kinds_are_flat ps ws (seated_views front) v (seated_views back) t kind f step
     (subst (λ (vs : List View). LooksAlike f (image ws vs)) (seats_around front back v) alike))
@@ -43,12 +44,14 @@ same_parts : (front both x y middle back : ℕ) → both ≡ x + y → front + b
 same_parts front both x y middle back e = omega arith
 
 -- two seats apart
-two_apart : (g : List View → ℕ) (front : List (List View)) (x : List View) (middle : List (List View)) (y : List View) (back : List (List View))
+two_apart : (g : List View → ℕ) (front : List (List View)) (x : List View) (middle : List (List View)) (y : List View)
+    (back : List (List View))
     → sum_by g (front ++ x ∷ (middle ++ y ∷ back)) ≡ sum_by g front + g x + (sum_by g middle + g y + sum_by g back)
 two_apart g front x middle y back =
     sum_around g front (middle ++ y ∷ back) x ∙ ap (λ k. sum_by g front + g x + k) (sum_around g middle back y)
 
-pub joined_sum : (f : View → ℕ) (front : List (List View)) (x : List View) (middle : List (List View)) (y : List View) (back : List (List View))
+pub joined_sum : (f : View → ℕ) (front : List (List View)) (x : List View) (middle : List (List View)) (y : List View)
+    (back : List (List View))
     → sum_by f (seated_views (front ++ (x ++ y) ∷ (middle ++ [] ∷ back))) ≡ sum_by f (seated_views (front ++ x ∷ (middle ++ y ∷ back)))
 joined_sum f front x middle y back =
     let a = seats_sum f (front ++ (x ++ y) ∷ (middle ++ [] ∷ back)) in
@@ -76,11 +79,13 @@ by_seat : (P : View → Type 0) (seats : List (List View)) → AllByRecursion P 
 by_seat P [] h = tt
 by_seat P (x ∷ seats) h = (all_first P x (seated_views seats) h, by_seat P seats (all_last P x (seated_views seats) h))
 
-from_seats : (P : View → Type 0) (seats : List (List View)) → AllByRecursion (AllByRecursion P) seats → AllByRecursion P (seated_views seats)
+from_seats : (P : View → Type 0) (seats : List (List View)) → AllByRecursion (AllByRecursion P) seats
+    → AllByRecursion P (seated_views seats)
 from_seats P [] h = tt
 from_seats P (x ∷ seats) h = all_append P x (seated_views seats) h.0 (from_seats P seats h.1)
 
-joined_all : (P : View → Type 0) (front : List (List View)) (x : List View) (middle : List (List View)) (y : List View) (back : List (List View))
+joined_all : (P : View → Type 0) (front : List (List View)) (x : List View) (middle : List (List View)) (y : List View)
+    (back : List (List View))
     → AllByRecursion (AllByRecursion P) (front ++ x ∷ (middle ++ y ∷ back))
     → AllByRecursion (AllByRecursion P) (front ++ (x ++ y) ∷ (middle ++ [] ∷ back))
 joined_all P [] x middle y back h =

@@ -52,7 +52,8 @@ open_before true new h e = absurd (let a : true ≡ new = sym (h refl) in cc)
 open_before false new h e = refl
 
 -- a view fits a root that has ended since
-pub view_later : (ps : List ℕ) (root : ℕ) (old new : Bool) → (old ≡ true → new ≡ true) → (v : View) → ViewFits ps root old v → ViewFits ps root new v
+pub view_later : (ps : List ℕ) (root : ℕ) (old new : Bool) → (old ≡ true → new ≡ true) → (v : View) → ViewFits ps root old v
+    → ViewFits ps root new v
 view_later ps root old new h v ok = record {
   within = ok.within;
   few = ok.few;
@@ -88,7 +89,8 @@ at_each ws t w' P within here there u below =
 root_unclaimed : (ws : List Fields) (t : ℕ) (w' : Fields) → t < length ws → (t ≡ 0 → is_being_opened w' ≡ false)
     → is_being_opened (word_at ws 0) ≡ false → is_being_opened (word_at (set ws t w') 0) ≡ false
 root_unclaimed ws zero w' h p e = ap is_being_opened (get_or-set_same ws 0 w' blank h) ∙ p refl
-root_unclaimed ws (suc t) w' h p e = let other : 0 ≢ suc t = omega arith in ap is_being_opened (get_or-set_other ws (suc t) 0 w' blank other) ∙ e
+root_unclaimed ws (suc t) w' h p e = let other : 0 ≢ suc t = omega arith in
+    ap is_being_opened (get_or-set_other ws (suc t) 0 w' blank other) ∙ e
 
 advances_kept : (ws : List Fields) (front back : List View) (v v' : View) (t : ℕ) (w' : Fields) → t < length ws
     → (t ≡ 0 → w'.ended ≡ false → is_zero w'.unarrived + advance_share v ≡ is_zero (word_at ws t).unarrived + advance_share v')
@@ -136,7 +138,10 @@ tally_kept ps ws front back v v' t w' shape within old fits =
           (root_phase ws) ps) ps ws front back v v' t w' shape old.long within still old.unarrived fits.late_here fits.late_there);
       claims = at_each ws t w' (λ u x. bit (is_being_opened x) ≡ sum_by (claim_share ps u) (front ++ v' ∷ back)) within
           (let a = old.claims t within in let b = sum_changes (claim_share ps t) front back v v' in let c = fits.claims_here in omega arith)
-          (λ u h n. let a = old.claims u h in let b = sum_changes (claim_share ps u) front back v v' in let c = fits.claims_there u n in omega arith);
+          (λ u h n. let a = old.claims u h in
+          let b = sum_changes (claim_share ps u) front back v v' in
+          let c = fits.claims_there u n in
+          omega arith);
       root_claims = root_unclaimed ws t w' within fits.root_claims old.root_claims;
       phases = subst (λ (r : ℕ). (u : ℕ) → u < length (set ws t w') → KeepsUp r (word_at (set ws t w') u)) (sym root.phase)
           (at_each ws t w' (λ u x. KeepsUp (root_phase ws) x) within fits.keeps_up (λ u h n. old.phases u h));
@@ -144,5 +149,6 @@ tally_kept ps ws front back v v' t w' shape within old fits =
       fits = subst (λ (r : ℕ). AllByRecursion (ViewFits ps r (word_at (set ws t w') 0).ended) (front ++ v' ∷ back)) (sym root.phase)
           (all_around (ViewFits ps (root_phase ws) (word_at (set ws t w') 0).ended) front back v v'
           (all_map (ViewFits ps (root_phase ws) (word_at ws 0).ended) (ViewFits ps (root_phase ws) (word_at (set ws t w') 0).ended)
-          (view_later ps (root_phase ws) (word_at ws 0).ended (word_at (set ws t w') 0).ended root.ended) (front ++ v ∷ back) old.fits) fits.view);
+          (view_later ps (root_phase ws) (word_at ws 0).ended (word_at (set ws t w') 0).ended root.ended) (front ++ v ∷ back) old.fits)
+          fits.view);
     }

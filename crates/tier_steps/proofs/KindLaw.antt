@@ -23,7 +23,8 @@ mine ps ws front back v tally = all_here (ViewFits ps (root_phase ws) (word_at w
 pub ended_same : (ws : List Fields) (t : ℕ) (w' : Fields) → t < length ws → w'.ended ≡ (word_at ws t).ended
     → (word_at (set ws t w') 0).ended ≡ (word_at ws 0).ended
 ended_same ws zero w' h e = ap (λ (x : Fields). x.ended) (get_or-set_same ws 0 w' blank h) ∙ e
-ended_same ws (suc t) w' h e = let other : 0 ≢ suc t = omega arith in ap (λ (x : Fields). x.ended) (get_or-set_other ws (suc t) 0 w' blank other)
+ended_same ws (suc t) w' h e = let other : 0 ≢ suc t = omega arith in
+    ap (λ (x : Fields). x.ended) (get_or-set_other ws (suc t) 0 w' blank other)
 
 -- and the token's view fits it still
 pub mine_after : (ps : List ℕ) (ws : List Fields) (front back : List View) (v : View) (t : ℕ) (w' : Fields) → t < length ws
@@ -112,7 +113,8 @@ kinds_keep_tally ps ws front v back t (Settle tier claimed size) step =
     (λ ok. settle_fits ps ws front back v tier claimed size
     (word_at (set ws (ancestor ps tier claimed) w') 0).ended step.shape at step.tally step.needs.1 ok))
 kinds_keep_tally ps ws front v back t (SettleBack tier claimed size) step =
-    subst (λ (k : ℕ). Tallies ps (set ws k (emptied (word_at ws k))) (front ++ settled_view tier claimed GoingBack size v ∷ back)) (sym step.needs.0)
+    subst (λ (k : ℕ). Tallies ps (set ws k (emptied (word_at ws k))) (front ++ settled_view tier claimed GoingBack size v ∷ back))
+    (sym step.needs.0)
     (let w' : Fields = emptied (word_at ws (ancestor ps tier claimed)) in
     let at : ancestor ps tier claimed < length ws = subst (λ (k : ℕ). k < length ws) step.needs.0 step.within in
     kept ps ws front back v (settled_view tier claimed GoingBack size v) (ancestor ps tier claimed) w' step.shape at step.tally refl

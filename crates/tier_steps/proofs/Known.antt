@@ -21,15 +21,18 @@ tally_is_known ps ws front v back t h tally = record {
   keeps_up = tally.phases t h;
   fits = mine ps ws front back v tally;
   parties = λ going. (let a = tally.parties t h going in let b = share_fits (party_share ps t) front back v in omega arith);
-  unarrived = λ going. (let a = tally.unarrived t h going in let b = share_fits (late_share (root_phase ws) ps t) front back v in omega arith);
+  unarrived =
+      λ going. (let a = tally.unarrived t h going in let b = share_fits (late_share (root_phase ws) ps t) front back v in omega arith);
   claims = (let a = tally.claims t h in let b = share_fits (claim_share ps t) front back v in omega arith);
   advances = λ z going.
       (let a = tally.advances going in let b = share_fits advance_share front back v in
-      let c : is_zero (word_at ws t).unarrived ≡ is_zero (word_at ws 0).unarrived = ap (λ k. is_zero (word_at ws k).unarrived) z in omega arith);
+      let c : is_zero (word_at ws t).unarrived ≡ is_zero (word_at ws 0).unarrived = ap (λ k. is_zero (word_at ws k).unarrived) z in
+      omega arith);
 }
 
 -- a path goes down by at least one at each tier below the root
-pub path_falls : (ps : List ℕ) (tier above : ℕ) → IsShape ps → tier < length ps → 0 < ancestor ps tier above → ancestor ps tier above + above ≤ tier
+pub path_falls : (ps : List ℕ) (tier above : ℕ) → IsShape ps → tier < length ps → 0 < ancestor ps tier above
+    → ancestor ps tier above + above ≤ tier
 path_falls ps tier zero shape place below = omega arith
 path_falls ps tier (suc above) shape place below =
     ⊎_elim
@@ -37,19 +40,22 @@ path_falls ps tier (suc above) shape place below =
     absurd (let a : parent_of ps (ancestor ps tier above) ≡ 0 = ap (parent_of ps) z ∙ shape.root in omega arith))
     (λ (n : ancestor ps tier above ≢ 0).
     let a = path_falls ps tier above shape place (omega arith) in
-    let b : parent_of ps (ancestor ps tier above) < ancestor ps tier above = shape.earlier (ancestor ps tier above) (omega arith) (omega arith) in
+    let b : parent_of ps (ancestor ps tier above) < ancestor ps tier above =
+    shape.earlier (ancestor ps tier above) (omega arith) (omega arith) in
     omega arith)
     (cases_eq (ancestor ps tier above) 0)
 
 -- a token that refreshes is in the root's phase
-pub refresher : (ps : List ℕ) (root : ℕ) (ended : Bool) (t : ℕ) (w : Fields) (v : View) → ViewFits ps root ended v → CanRefresh t w v → v.phase ≡ root
+pub refresher : (ps : List ℕ) (root : ℕ) (ended : Bool) (t : ℕ) (w : Fields) (v : View) → ViewFits ps root ended v → CanRefresh t w v
+    → v.phase ≡ root
 refresher ps root ended t w v fits can = ⊎_elim
     (λ own. unarrived_is_current ps root ended v fits own.2)
     (λ (climb : (k : Passage) × (v.errand ≡ Climbing t k)).
     (let fit : ErrandFits ps root v (Climbing t climb.0) = subst (λ (x : Errand). ErrandFits ps root v x) climb.1 fits.errand in fit.0))
     can.leave
 
-step_legal : (ps : List ℕ) (t : ℕ) (w : Fields) (v : View) (kind : Kind) → Known ps t w v → Needs ps kind t w v → IsLegal (word_after kind t w v)
+step_legal : (ps : List ℕ) (t : ℕ) (w : Fields) (v : View) (kind : Kind) → Known ps t w v → Needs ps kind t w v
+    → IsLegal (word_after kind t w v)
 step_legal ps t w v Look known n = known.legal
 step_legal ps t w v Glance known n = known.legal
 step_legal ps t w v (Refuse tier claimed size) known n = known.legal
@@ -71,7 +77,8 @@ step_legal ps t w v Refresh known n =
     refreshed_legal w v.phase known.legal
     (subst (λ (k : ℕ). k ≤ 2147483647) (sym (refresher ps known.root known.ended t w v known.fits n)) known.root_legal) n.some
 
-step_claims : (ps : List ℕ) (t : ℕ) (w : Fields) (v : View) (kind : Kind) → IsShape ps → Needs ps kind t w v → claimed_before kind < length ps
+step_claims : (ps : List ℕ) (t : ℕ) (w : Fields) (v : View) (kind : Kind) → IsShape ps → Needs ps kind t w v
+    → claimed_before kind < length ps
 step_claims ps t w v Look shape n = shape.some
 step_claims ps t w v Glance shape n = shape.some
 step_claims ps t w v (Refuse tier claimed size) shape n = shape.some

@@ -84,7 +84,9 @@ silent ws ws' front back v v' f alike h k phase ended same climbs =
       due = λ e.
           let g = going e in
           let mem : (u : ℕ) → members_of u (all_members 0 (front ++ v' ∷ back)) ≡ members_of u (all_members 0 (front ++ v ∷ back)) = λ u.
-          (let a = members_change front back v v' u h k in let b = ap (λ n. cond {A = ℕ} (eqb (length front) u) n 0) (same g).0 in omega arith) in
+          (let a = members_change front back v v' u h k in
+          let b = ap (λ n. cond {A = ℕ} (eqb (length front) u) n 0) (same g).0 in
+          omega arith) in
           let arr : (u : ℕ) → arrived_of (root_phase ws) u (all_members 0 (front ++ v' ∷ back)) ≡ arrived_of (root_phase ws) u
           (all_members 0 (front ++ v ∷ back)) = λ u.
           (let a = arrived_change (root_phase ws) front back v v' u in
@@ -142,7 +144,8 @@ matched ws' vs' f phase ended mem arr due climbs = record {
   members = λ _. mem;
   arrived = λ _. arr;
   due = λ e. due ∙ (same_everyone f.phase f.members (all_members 0 vs') mem arr ∙ (ap (λ p. everyone_arrived p (all_members 0 vs')) phase
-      ∙ sym (due_is ws' vs' (sym ended ∙ e) ∙ and_absorbs (everyone_arrived (root_phase ws') (all_members 0 vs')) (some_climbing vs') climbs)));
+      ∙ sym
+      (due_is ws' vs' (sym ended ∙ e) ∙ and_absorbs (everyone_arrived (root_phase ws') (all_members 0 vs')) (some_climbing vs') climbs)));
 }
 
 pub join_label : (ws ws' : List Fields) (front back : List View) (v v' : View) (f : Flat) (n : ℕ)
@@ -156,7 +159,8 @@ join_label ws ws' front back v v' f n alike going h none size arrived some phase
     record {
       phase = alike.phase ∙ sym phase;
       ended = alike.ended ∙ sym ended;
-      due = λ e. sym (due_is ws' (front ++ v' ∷ back) (ended ∙ (sym alike.ended ∙ going)) ∙ ap (λ b. b && some_climbing (front ++ v' ∷ back))
+      due =
+          λ e. sym (due_is ws' (front ++ v' ∷ back) (ended ∙ (sym alike.ended ∙ going)) ∙ ap (λ b. b && some_climbing (front ++ v' ∷ back))
           (not_all (root_phase ws') (all_members 0 (front ++ v' ∷ back)) (length front)
           (has_members (root_phase ws') 0 front back v' (length front) (omega arith) (omega arith)
           (let a = none_here' (root_phase ws') in omega arith))));
@@ -215,7 +219,8 @@ pub leave_label : (ws ws' : List Fields) (front back : List View) (v v' : View) 
 leave_label ws ws' front back v v' f alike going current h phase size arrived root ended climbs =
     let may = may_pass ws front back v f alike going h in
     matched ws' (front ++ v' ∷ back) (taken (flat.Leave (length front)) f) (alike.phase ∙ sym root) (alike.ended ∙ sym ended)
-    (λ u. let a = members_change front back v v' u (omega arith) (omega arith) in let b = drop_members (length front) f.phase u f.members may in
+    (λ u. let a = members_change front back v v' u (omega arith) (omega arith) in
+    let b = drop_members (length front) f.phase u f.members may in
     let e : v.size ≡ v'.size + 1 = omega arith in
     let c = ap (λ k. cond {A = ℕ} (eqb (length front) u) k 0) e in
     let j = more_bit (eqb (length front) u) v'.size in

@@ -66,7 +66,8 @@ pub settled_legal : (w : Fields) (phase n : ℕ) → phase ≤ 2147483647 → 0 
 settled_legal w phase n h some few = is_legal (settled w phase n) h few (λ z. absurd (omega arith)) (λ _. omega arith)
 
 pub unclaimed_legal : (w : Fields) (n : ℕ) → IsLegal w → n ≤ 2 → IsLegal (record w { parties = 0; unarrived = n })
-unclaimed_legal w n legal h = is_legal (record w { parties = 0; unarrived = n }) legal.phase (omega arith) (λ _. h) (λ k. absurd (omega arith))
+unclaimed_legal w n legal h =
+    is_legal (record w { parties = 0; unarrived = n }) legal.phase (omega arith) (λ _. h) (λ k. absurd (omega arith))
 
 pub added_range : (claimed size : ℕ) → 0 < size → size ≤ 65535 → (0 < added claimed size) × (added claimed size ≤ 65535)
 added_range zero size h k = (h, k)

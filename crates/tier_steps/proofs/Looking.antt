@@ -244,7 +244,8 @@ look_ended_fits ps ws vs v v' tally e ok same_tier same_size same_phase same_arr
       parties_here = λ going. absurd (let a : false ≡ true = sym (going refl) ∙ e in cc);
       parties_there = λ u n.
           let d = dropped_shares ps (root_phase ws) v v.errand u n in
-          let a : party_share ps u v' ≡ cond (is_hidden (dropped v.errand)) 0 (only_at v.tier v.size u) + errand_parties ps (dropped v.errand) u =
+          let a : party_share ps u v'
+          ≡ cond (is_hidden (dropped v.errand)) 0 (only_at v.tier v.size u) + errand_parties ps (dropped v.errand) u =
           ap (λ x. cond (is_hidden x) 0 (only_at v'.tier v'.size u) + errand_parties ps x u) same_errand
           ∙ (ap (λ k. cond (is_hidden (dropped v.errand)) 0 (only_at k v'.size u) + errand_parties ps (dropped v.errand) u) same_tier
           ∙ ap (λ k. cond (is_hidden (dropped v.errand)) 0 (only_at v.tier k u) + errand_parties ps (dropped v.errand) u) same_size) in
@@ -264,7 +265,8 @@ look_ended_fits ps ws vs v v' tally e ok same_tier same_size same_phase same_arr
           ∙ (ap (λ x. cond x 0 (only_at v.tier (absent (root_phase ws) v) u) + errand_late ps (dropped v.errand) u) d.0
           ∙ ap (λ k. cond (is_hidden v.errand) 0 (only_at v.tier (absent (root_phase ws) v) u) + k) d.2) in
           ap (λ k. k + 0) b;
-      claims_here = ap (λ k. bit (is_being_opened (word_at ws 0)) + k) (sym (ap (errand_claims ps 0) same_errand ∙ dropped_claims ps 0 v.errand));
+      claims_here =
+          ap (λ k. bit (is_being_opened (word_at ws 0)) + k) (sym (ap (errand_claims ps 0) same_errand ∙ dropped_claims ps 0 v.errand));
       claims_there = λ u n. ap (errand_claims ps u) same_errand ∙ dropped_claims ps u v.errand;
       root_claims = λ _. tally.root_claims;
       keeps_up = λ _. inl refl;
@@ -275,7 +277,8 @@ look_ended_fits ps ws vs v v' tally e ok same_tier same_size same_phase same_arr
         few = subst (λ (k : ℕ). k ≤ 65535) (sym same_size) ok.few;
         placed = λ h. subst (λ (k : ℕ). k < length ps) (sym same_tier) (ok.placed (subst (λ (k : ℕ). 0 < k) same_size h));
         current = λ h. ⊎_elim (λ c. inl (same_phase ∙ c))
-            (λ c. inr (ap next_phase_of same_phase ∙ c.0, same_arrived ∙ (c.1 ∙ sym same_size))) (ok.current (subst (λ (k : ℕ). 0 < k) same_size h));
+            (λ c. inr (ap next_phase_of same_phase ∙ c.0, same_arrived ∙ (c.1 ∙ sym same_size)))
+            (ok.current (subst (λ (k : ℕ). 0 < k) same_size h));
         seen = λ p q. (refl, some_is p (root_phase ws) (sym same_end ∙ q));
         errand = subst (λ (x : Errand). ErrandFits ps (root_phase ws) v' x) (sym same_errand)
             (dropped_ok ps (root_phase ws) v v' v.errand same_size same_phase same_arrived same_tier ok.errand);
@@ -337,7 +340,8 @@ look_either ps ws vs v false mark tally e ok =
     (moved_ok ps (word_at ws 0) u fit))
 
 -- Look
-pub look_fits : (ps : List ℕ) (ws : List Fields) (vs : List View) (v : View) → Tallies ps ws vs → ViewFits ps (root_phase ws) (word_at ws 0).ended v
+pub look_fits : (ps : List ℕ) (ws : List Fields) (vs : List View) (v : View) → Tallies ps ws vs
+    → ViewFits ps (root_phase ws) (word_at ws 0).ended v
     → StepFits ps (root_phase ws) (word_at ws 0).ended 0 (word_at ws 0) (word_at ws 0) v (looked (word_at ws 0) v)
 look_fits ps ws vs v tally ok = look_either ps ws vs v (word_at ws 0).ended (cond (is_going_back v.errand) v.note None) tally refl ok
 
@@ -358,7 +362,8 @@ looked_on ps w v going ok =
     (sym (ap (λ b. cond b (record u { end_seen = Some w.phase; errand = dropped v.errand }) (moved w u)) going))
     (alike_trans ps w.phase v u (moved w u) (cleared_alike ps w.phase v mark) (moved_alike ps w u fit), moved_ok ps w u fit)
 
-noted_ok : (ps : List ℕ) (root : ℕ) (ended : Bool) (t : ℕ) (w : Fields) (v : View) → ViewFits ps root ended v → ViewFits ps root ended (noted t w v)
+noted_ok : (ps : List ℕ) (root : ℕ) (ended : Bool) (t : ℕ) (w : Fields) (v : View) → ViewFits ps root ended v
+    → ViewFits ps root ended (noted t w v)
 noted_ok ps root ended t w v ok = record {
   within = ok.within;
   few = ok.few;

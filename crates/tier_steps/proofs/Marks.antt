@@ -27,7 +27,9 @@ looked_led w v =
 looked_note : (w : Fields) (v : View) → (looked w v).note ≡ cond (is_going_back v.errand) v.note None
 looked_note w v =
     let u : View = record v { led = false; note = cond (is_going_back v.errand) v.note None } in
-    elim w.ended as (λ b. (cond b (record u { end_seen = Some w.phase; errand = dropped v.errand }) (moved w u)).note ≡ cond (is_going_back v.errand) v.note None) [
+    elim w.ended as
+    (λ b. (cond b (record u { end_seen = Some w.phase; errand = dropped v.errand }) (moved w u)).note
+    ≡ cond (is_going_back v.errand) v.note None) [
       | true ↦ refl
       | false ↦ move_keeps (λ x. x.note ≡ cond (is_going_back v.errand) v.note None) w u refl (λ _ _. refl)
     ]
@@ -36,7 +38,8 @@ looked_note w v =
 abbrev SpelledOut : ℕ → Fields → Kind → View → View → Type 0
 SpelledOut t w kind old new = LedIsSpelledOut t kind old new × NoteIsSpelledOut t w kind old new
 
-led_same : (t : ℕ) (kind : Kind) (old new : View) → is_advance kind ≡ false → sees_root t kind ≡ false → new.led ≡ old.led → LedIsSpelledOut t kind old new
+led_same : (t : ℕ) (kind : Kind) (old new : View) → is_advance kind ≡ false → sees_root t kind ≡ false → new.led ≡ old.led
+    → LedIsSpelledOut t kind old new
 led_same t kind old new plain blind e = record {
   advance = λ h. wrong (sym h ∙ plain);
   look = λ h. wrong (sym h ∙ blind);
@@ -68,7 +71,8 @@ marks_of above (Refuse tier claimed size) zero w v = (
   record { refused = λ _. refl; look = λ _ h _. wrong h; back = λ h _. wrong h; other = λ h _. wrong h },
 )
 marks_of above (Refuse tier claimed size) (suc t) w v = (
-  led_same (suc t) (Refuse tier claimed size) v (view_after above (Refuse tier claimed size) (suc t) w v) refl (ne_eqb (suc t) 0 (omega arith)) refl,
+  led_same (suc t) (Refuse tier claimed size) v (view_after above (Refuse tier claimed size) (suc t) w v) refl
+      (ne_eqb (suc t) 0 (omega arith)) refl,
   record { refused = λ _. refl; look = λ _ h _. wrong h; back = λ h _. wrong h; other = λ h _. wrong h },
 )
 marks_of above (Join tier claimed size) t w v =

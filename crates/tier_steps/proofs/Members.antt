@@ -40,7 +40,8 @@ mark_members o p u (m ∷ ms) =
 
 -- whether a member would be the one that a step takes
 pub waits_for : (o p : ℕ) (m : Member) → (is_owned o m && not (has_arrived p m) ≡ true) → (m.owner ≡ o) × (has_arrived p m ≡ false)
-waits_for o p m h = let both = both_true (is_owned o m) (not (has_arrived p m)) h in (eqb-true m.owner o both.0, not_yes (has_arrived p m) both.1)
+waits_for o p m h = let both = both_true (is_owned o m) (not (has_arrived p m)) h in
+    (eqb-true m.owner o both.0, not_yes (has_arrived p m) both.1)
 
 pub mark_arrived : (o p u : ℕ) (ms : List Member) → arrived_of p o ms < members_of o ms
     → arrived_of p u (mark_one o p ms) ≡ arrived_of p u ms + cond {A = ℕ} (eqb o u) 1 0
@@ -90,7 +91,8 @@ drop_arrived o p u (m ∷ ms) = ⊎_elim
     let c = bit_and_false (is_owned u m) (has_arrived p m) w.1 in
     ap (arrived_of p u) (ap (λ b. cond b ms (m ∷ drop_one o p ms)) here) ∙ omega arith)
     (λ (past : is_owned o m && not (has_arrived p m) ≡ false).
-    let a = count_cons (λ x. is_owned u x && has_arrived p x) m ms in let b = count_cons (λ x. is_owned u x && has_arrived p x) m (drop_one o p ms) in
+    let a = count_cons (λ x. is_owned u x && has_arrived p x) m ms in
+    let b = count_cons (λ x. is_owned u x && has_arrived p x) m (drop_one o p ms) in
     let c = drop_arrived o p u ms in
     ap (arrived_of p u) (ap (λ b. cond b ms (m ∷ drop_one o p ms)) past) ∙ omega arith)
     (either (is_owned o m && not (has_arrived p m)))
@@ -108,7 +110,8 @@ token_counts u o v h =
     ap (λ k. cond {A = ℕ} (eqb o u) k 0) (omega arith) in
     omega arith
 
-pub token_arrived : (p u o : ℕ) (v : View) → arrived_of p u (token_members o v) ≡ cond {A = ℕ} (eqb o u) (cond {A = ℕ} (eqb v.phase p) v.arrived 0) 0
+pub token_arrived : (p u o : ℕ) (v : View)
+    → arrived_of p u (token_members o v) ≡ cond {A = ℕ} (eqb o u) (cond {A = ℕ} (eqb v.phase p) v.arrived 0) 0
 token_arrived p u o v =
     let a = count_append (λ x. is_owned u x && has_arrived p x) (replicate v.arrived (record { owner = o; mark = Some v.phase }))
     (replicate (v.size - v.arrived) (record { owner = o; mark = None })) in
@@ -122,9 +125,12 @@ pub count_changes : (q : Member → Bool) (o : ℕ) (front back : List View) (v 
     → count_by q (all_members o (front ++ v' ∷ back)) + count_by q (token_members (o + length front) v) ≡ count_by q
     (all_members o (front ++ v ∷ back)) + count_by q (token_members (o + length front) v')
 count_changes q o [] back v v' =
-    let a = count_append q (token_members o v) (all_members (suc o) back) in let b = count_append q (token_members o v') (all_members (suc o) back) in
-    let c : count_by q (token_members (o + 0) v) ≡ count_by q (token_members o v) = ap (λ k. count_by q (token_members k v)) (omega arith) in
-    let d : count_by q (token_members (o + 0) v') ≡ count_by q (token_members o v') = ap (λ k. count_by q (token_members k v')) (omega arith) in
+    let a = count_append q (token_members o v) (all_members (suc o) back) in
+    let b = count_append q (token_members o v') (all_members (suc o) back) in
+    let c : count_by q (token_members (o + 0) v) ≡ count_by q (token_members o v) =
+    ap (λ k. count_by q (token_members k v)) (omega arith) in
+    let d : count_by q (token_members (o + 0) v') ≡ count_by q (token_members o v') =
+    ap (λ k. count_by q (token_members k v')) (omega arith) in
     omega arith
 count_changes q o (x ∷ front) back v v' =
     let a = count_append q (token_members o x) (all_members (suc o) (front ++ v ∷ back)) in

@@ -34,7 +34,8 @@ marks_sum test owner (v ∷ views) =
     omega arith
 
 -- everyone has arrived if nobody is counted who hasn't
-pub all_by_count : (phase : ℕ) (members : List Member) → everyone_arrived phase members ≡ eqb (count_by (λ m. not (has_arrived phase m)) members) 0
+pub all_by_count : (phase : ℕ) (members : List Member)
+    → everyone_arrived phase members ≡ eqb (count_by (λ m. not (has_arrived phase m)) members) 0
 all_by_count phase [] = refl
 all_by_count phase (m ∷ members) =
     let a = count_cons (λ x. not (has_arrived phase x)) m members in
@@ -61,13 +62,15 @@ climbs_by_count (v ∷ views) =
 
 -- views whose sums agree give images that differ in owners alone
 pub same_but_owners : (words : List Fields) (xs ys : List View)
-    → ((test : Option ℕ → Bool) → sum_by (marked_share test) xs ≡ sum_by (marked_share test) ys) → sum_by climb_share xs ≡ sum_by climb_share ys
+    → ((test : Option ℕ → Bool) → sum_by (marked_share test) xs ≡ sum_by (marked_share test) ys)
+    → sum_by climb_share xs ≡ sum_by climb_share ys
     → IsSameButOwners (image words xs) (image words ys)
 same_but_owners words xs ys marks climbs =
     let same : (test : Option ℕ → Bool) → count_by (λ m. test m.mark) (all_members 0 xs) ≡ count_by (λ m. test m.mark) (all_members 0 ys) =
     λ test. marks_sum test 0 xs ∙ (marks test ∙ sym (marks_sum test 0 ys)) in
     let phase : ℕ = (word_at words 0).phase in
-    let everyone : everyone_arrived (word_at words 0).phase (all_members 0 xs) ≡ everyone_arrived (word_at words 0).phase (all_members 0 ys) =
+    let everyone : everyone_arrived (word_at words 0).phase (all_members 0 xs)
+    ≡ everyone_arrived (word_at words 0).phase (all_members 0 ys) =
     all_by_count (word_at words 0).phase (all_members 0 xs)
     ∙ (ap (λ n. eqb n 0) (same (λ mark. not (has_arrived (word_at words 0).phase (record { owner = 0; mark = mark }))))
     ∙ sym (all_by_count (word_at words 0).phase (all_members 0 ys))) in
@@ -89,7 +92,8 @@ joined_seats_look_the_same words front x middle y back =
 new_sum : (f : View → ℕ) (front back : List (List View)) (p : ℕ) → f (new_view p) ≡ 0
     → sum_by f (seated_views (front ++ back)) ≡ sum_by f (seated_views (front ++ (new_view p ∷ []) ∷ back))
 new_sum f front back p none =
-    let a : sum_by f (seated_views (front ++ back)) ≡ sum_by f (seated_views front ++ seated_views back) = ap (sum_by f) (seats_append front back) in
+    let a : sum_by f (seated_views (front ++ back)) ≡ sum_by f (seated_views front ++ seated_views back) =
+    ap (sum_by f) (seats_append front back) in
     let b : sum_by f (seated_views (front ++ (new_view p ∷ []) ∷ back)) ≡ sum_by f (seated_views front ++ new_view p ∷ seated_views back) =
     ap (sum_by f) (seats_around front back (new_view p)) in
     let c = sum_by-append f (seated_views front) (seated_views back) in
@@ -102,4 +106,5 @@ no_share a b = omega arith
 pub new_seats_look_the_same : NewSeatsLookTheSame
 new_seats_look_the_same words front back p =
     same_but_owners words (seated_views (front ++ back)) (seated_views (front ++ (new_view p ∷ []) ∷ back))
-    (λ test. new_sum (marked_share test) front back p (no_share (cond {A = ℕ} (test (Some p)) 1 0) (cond {A = ℕ} (test None) 1 0))) (new_sum climb_share front back p refl)
+    (λ test. new_sum (marked_share test) front back p (no_share (cond {A = ℕ} (test (Some p)) 1 0) (cond {A = ℕ} (test None) 1 0)))
+    (new_sum climb_share front back p refl)

@@ -30,7 +30,8 @@ only_elsewhere t n u h = let other : t ≢ u = omega arith in ap (λ b. cond b n
 pub only_here : (t n : ℕ) → only_at t n t ≡ n
 only_here t n = ap (λ b. cond b n 0) (eq-eqb t t refl)
 
-passed_not_opened : (t : ℕ) (k : Passage) (w : Fields) → IsLegal w → 0 < w.parties → 0 < w.unarrived → is_being_opened (passed t k w) ≡ false
+passed_not_opened : (t : ℕ) (k : Passage) (w : Fields) → IsLegal w → 0 < w.parties → 0 < w.unarrived
+    → is_being_opened (passed t k w) ≡ false
 passed_not_opened t Arrival w legal p u = grind arith
 passed_not_opened zero Departure w legal p u = let c = legal_open w legal p in grind arith
 passed_not_opened (suc t) Departure w legal p u = let c = legal_open w legal p in grind arith
@@ -71,7 +72,8 @@ pub record Passes (ps : List ℕ) (root : ℕ) (t : ℕ) (k : Passage) (w : Fiel
   pub unclaimed : (u : ℕ) → claim_share ps u v ≡ 0
   pub idle : advance_share v ≡ 0
   pub parties : (u : ℕ) → only_at v.tier v.size u + errand_parties ps v.errand u ≡ only_at v'.tier v'.size u + only_at t (gone k) u
-  pub unarrived : (u : ℕ) → only_at v.tier (absent root v) u + errand_late ps v.errand u ≡ only_at v'.tier (absent root v') u + only_at t 1 u
+  pub unarrived : (u : ℕ)
+      → only_at v.tier (absent root v) u + errand_late ps v.errand u ≡ only_at v'.tier (absent root v') u + only_at t 1 u
 
 pub pass_fits : (ps : List ℕ) (root : ℕ) (ended : Bool) (t : ℕ) (k : Passage) (w : Fields) (v v' : View) → IsShape ps → t < length ps
     → Passes ps root t k w v v' → ViewFits ps root ended v' → StepFits ps root ended t w (passed t k w) v v'
@@ -96,8 +98,12 @@ pass_fits ps root ended t k w v v' shape within p ok =
           let d = only_here t (gone k) in let e = passed_parties t k w p.some in
           omega arith;
       parties_there = λ u n.
-          let a = plain_party ps u v p.plain in let b = plain_party ps u v' hidden in let c = p.parties u in let d = only_elsewhere t (gone k) u n in
-          let e : errand_parties ps v'.errand u ≡ errand_parties ps (owed (parent_of ps t) t k w) u = ap (λ x. errand_parties ps x u) p.errand in
+          let a = plain_party ps u v p.plain in
+          let b = plain_party ps u v' hidden in
+          let c = p.parties u in
+          let d = only_elsewhere t (gone k) u n in
+          let e : errand_parties ps v'.errand u ≡ errand_parties ps (owed (parent_of ps t) t k w) u =
+          ap (λ x. errand_parties ps x u) p.errand in
           let f = passed_linked_parties ps t k w u p.some in
           omega arith;
       late_here = λ _.
@@ -135,7 +141,8 @@ pub share_fits : (f : View → ℕ) (front back : List View) (v : View) → f v 
 share_fits f front back v = let a = sum_around f front back v in omega arith
 
 -- a token with an unarrived member is in the root's phase
-pub unarrived_is_current : (ps : List ℕ) (root : ℕ) (ended : Bool) (v : View) → ViewFits ps root ended v → v.arrived < v.size → v.phase ≡ root
+pub unarrived_is_current : (ps : List ℕ) (root : ℕ) (ended : Bool) (v : View) → ViewFits ps root ended v → v.arrived < v.size
+    → v.phase ≡ root
 unarrived_is_current ps root ended v ok h = ⊎_elim (λ e. e) (λ e. absurd (let f = e.1 in omega arith)) (ok.current (omega arith))
 
 -- a compared tier that counts an unarrived party in the root's phase is open, and its field says so
@@ -175,7 +182,8 @@ resting_late root ps u v e =
     omega arith
 
 -- the tier of a token that may pass has a party to let pass
-pub own_waits : (ps : List ℕ) (ws : List Fields) (front back : List View) (v : View) (t : ℕ) → t < length ws → Tallies ps ws (front ++ v ∷ back)
+pub own_waits : (ps : List ℕ) (ws : List Fields) (front back : List View) (v : View) (t : ℕ) → t < length ws
+    → Tallies ps ws (front ++ v ∷ back)
     → CanPass t (word_at ws t) v → v.phase ≡ root_phase ws → (0 < (word_at ws t).parties) × (0 < (word_at ws t).unarrived)
 own_waits ps ws front back v t within tally can current =
     waiting_word (root_phase ws) (word_at ws t) (can.current ∙ current)
@@ -207,7 +215,8 @@ abbrev pub passed_view : ℕ → ℕ → Passage → Fields → View → View
 passed_view above t k w v = record v { size = size_after k v.size; arrived = arrived_after k v.arrived; errand = owed above t k w }
 
 -- it fits
-passed_ok : (ps : List ℕ) (root : ℕ) (ended : Bool) (t : ℕ) (k : Passage) (w : Fields) (v : View) → IsShape ps → t < length ps → v.phase ≡ root
+passed_ok : (ps : List ℕ) (root : ℕ) (ended : Bool) (t : ℕ) (k : Passage) (w : Fields) (v : View) → IsShape ps → t < length ps
+    → v.phase ≡ root
     → v.arrived < v.size → ViewFits ps root ended v → ViewFits ps root ended (passed_view (parent_of ps t) t k w v)
 passed_ok ps root ended t k w v shape within current h ok = let a = after_passage k v.size v.arrived h in record {
   within = a.2;
@@ -247,7 +256,8 @@ own_pass_fits ps ws front back v t k ended shape within tally can ok =
       idle = ap errand_advances can.rest;
       parties = λ u. rest_share v.tier t u v.size v'.size (gone k) (errand_parties ps v.errand u) can.own after.0
           (ap (λ x. errand_parties ps x u) can.rest);
-      unarrived = λ u. rest_share v.tier t u (absent (root_phase ws) v) (absent (root_phase ws) v') 1 (errand_late ps v.errand u) can.own fewer
+      unarrived =
+          λ u. rest_share v.tier t u (absent (root_phase ws) v) (absent (root_phase ws) v') 1 (errand_late ps v.errand u) can.own fewer
           (ap (λ x. errand_late ps x u) can.rest);
     })
     (passed_ok ps (root_phase ws) ended t k (word_at ws t) v shape inside current can.unarrived ok)
@@ -276,7 +286,8 @@ pub climb_fits : (ps : List ℕ) (ws : List Fields) (front back : List View) (v 
     → CanClimb t k (word_at ws t) v → ViewFits ps (root_phase ws) ended v
     → StepFits ps (root_phase ws) ended t (word_at ws t) (passed t k (word_at ws t)) v (climbed_view (parent_of ps t) t k (word_at ws t) v)
 climb_fits ps ws front back v t k ended shape within tally can ok =
-    let fit : ErrandFits ps (root_phase ws) v (Climbing t k) = subst (λ (e : Errand). ErrandFits ps (root_phase ws) v e) can.errand ok.errand in
+    let fit : ErrandFits ps (root_phase ws) v (Climbing t k) =
+    subst (λ (e : Errand). ErrandFits ps (root_phase ws) v e) can.errand ok.errand in
     let current : v.phase ≡ root_phase ws = fit.0 in
     let waits = waiting_word (root_phase ws) (word_at ws t) (can.current ∙ current)
     (let a = stands ps ws front back v t tally within can.going in let b = climbing_late (root_phase ws) ps t k t v can.errand in

@@ -58,7 +58,8 @@ left_cases ps p u false false = grind arith
 
 pub passed_linked_late : (root : ℕ) (ps : List ℕ) (t : ℕ) (k : Passage) (w : Fields) (u : ℕ) → IsLegal w → w.phase ≡ root → 0 < w.parties
     → 0 < w.unarrived
-    → errand_late ps (owed (parent_of ps t) t k w) u + linked ps u t (counted (late root) (passed t k w)) ≡ linked ps u t (counted (late root) w)
+    → errand_late ps (owed (parent_of ps t) t k w) u + linked ps u t (counted (late root) (passed t k w))
+    ≡ linked ps u t (counted (late root) w)
 passed_linked_late root ps zero k w u legal e p h = grind arith
 passed_linked_late root ps (suc t) Arrival w u legal e p h = grind arith
 passed_linked_late root ps (suc t) Departure w u legal e p h =

@@ -95,7 +95,8 @@ going_back_absent ps root v tier (suc claimed) size e z = record {
   idle = ap errand_advances e;
 }
 
-both_absent : (ps : List ℕ) (root : ℕ) (v v' : View) → Absent ps root v → Absent ps root v' → (u : ℕ) → party_share ps u v' ≡ party_share ps u v
+both_absent : (ps : List ℕ) (root : ℕ) (v v' : View) → Absent ps root v → Absent ps root v' → (u : ℕ)
+    → party_share ps u v' ≡ party_share ps u v
 both_absent ps root v v' a b u = b.parties u ∙ sym (a.parties u)
 
 -- Claim
@@ -154,7 +155,8 @@ opened_parties : (w : Fields) → is_being_opened w ≡ true → w.parties ≡ 0
 opened_parties w e = grind arith
 
 -- a claimed tier is below the root
-pub claimed_below : (ps : List ℕ) (ws : List Fields) (t : ℕ) (vs : List View) → Tallies ps ws vs → is_being_opened (word_at ws t) ≡ true → 0 < t
+pub claimed_below : (ps : List ℕ) (ws : List Fields) (t : ℕ) (vs : List View) → Tallies ps ws vs → is_being_opened (word_at ws t) ≡ true
+    → 0 < t
 claimed_below ps ws zero vs tally e = absurd (let a = tally.root_claims in cc)
 claimed_below ps ws (suc t) vs tally e = omega arith
 
@@ -168,7 +170,8 @@ highest_claimed : (ps : List ℕ) (tier claimed : ℕ)
     → claims_on ps tier (suc claimed) (ancestor ps tier claimed) ≡ claims_on ps tier claimed (ancestor ps tier claimed) + 1
 highest_claimed ps tier claimed = let a = only_here (ancestor ps tier claimed) 1 in omega arith
 
-others_claimed : (ps : List ℕ) (tier claimed u : ℕ) → u ≢ ancestor ps tier claimed → claims_on ps tier (suc claimed) u ≡ claims_on ps tier claimed u
+others_claimed : (ps : List ℕ) (tier claimed u : ℕ) → u ≢ ancestor ps tier claimed
+    → claims_on ps tier (suc claimed) u ≡ claims_on ps tier claimed u
 others_claimed ps tier claimed u h = let a = only_elsewhere (ancestor ps tier claimed) 1 u h in omega arith
 
 -- the tier that is settled next is being opened
@@ -209,7 +212,9 @@ settle_back_fits ps ws front back v tier claimed size ended within tally e ok =
       parties = both_absent ps (root_phase ws) v v' free free';
       unarrived = λ u. free'.unarrived u ∙ sym (free.unarrived u);
       claims_here =
-          let a = before (ancestor ps tier claimed) in let b = after (ancestor ps tier claimed) in let d = highest_claimed ps tier claimed in
+          let a = before (ancestor ps tier claimed) in
+          let b = after (ancestor ps tier claimed) in
+          let d = highest_claimed ps tier claimed in
           let f : bit (is_being_opened w) ≡ 1 = ap bit opened in
           omega arith;
       claims_there = λ u h. after u ∙ sym (before u ∙ others_claimed ps tier claimed u h);
@@ -236,7 +241,8 @@ settled_share : (ps : List ℕ) (root : ℕ) (v : View) (tier claimed size : ℕ
     → (party_share ps u (settled_view tier claimed Joined size v) ≡ only_at (ancestor ps tier claimed) (added claimed size) u)
     × (late_share root ps u (settled_view tier claimed Joined size v) ≡ only_at (ancestor ps tier claimed) (added claimed size) u)
 settled_share ps root v tier zero size fit u = (
-  resting_parties ps u (settled_view tier 0 Joined size v) refl ∙ (ap (λ k. only_at k v.size u) fit.place ∙ ap (λ k. only_at tier k u) fit.members),
+  resting_parties ps u (settled_view tier 0 Joined size v) refl
+      ∙ (ap (λ k. only_at k v.size u) fit.place ∙ ap (λ k. only_at tier k u) fit.members),
   resting_late root ps u (settled_view tier 0 Joined size v) refl
       ∙ (ap (λ k. only_at v.tier k u) (absent_joined root (settled_view tier 0 Joined size v) fit.arrived)
       ∙ (ap (λ k. only_at k v.size u) fit.place ∙ ap (λ k. only_at tier k u) fit.members)),
@@ -339,7 +345,9 @@ settle_fits ps ws front back v tier claimed size ended shape within tally e ok =
       late_there = λ u h. moves_there ps (late (root_phase ws)) w w' (late_share (root_phase ws) ps u v)
           (late_share (root_phase ws) ps u v') u c n (shares.lates u).0 (shares.lates u).1 h below unlate (omega arith);
       claims_here =
-          let a = before (ancestor ps tier claimed) in let b = after (ancestor ps tier claimed) in let d = highest_claimed ps tier claimed in
+          let a = before (ancestor ps tier claimed) in
+          let b = after (ancestor ps tier claimed) in
+          let d = highest_claimed ps tier claimed in
           let f : bit (is_being_opened w) ≡ 1 = ap bit opened in
           let g : bit (is_being_opened w') ≡ 0 = ap bit fresh in
           omega arith;
@@ -376,7 +384,8 @@ refresh_fits ps ws v vs t ended within tally can ok =
     can.leave in
     let behind : w.phase ≢ root_phase ws = λ z. can.behind (z ∙ sym current) in
     let below : t ≢ 0 = λ z. behind (ap (λ k. (word_at ws k).phase) z) in
-    let same : late (root_phase ws) (refreshed w v.phase) ≡ late (root_phase ws) w = refreshed_late (root_phase ws) w v.phase current behind in
+    let same : late (root_phase ws) (refreshed w v.phase) ≡ late (root_phase ws) w =
+    refreshed_late (root_phase ws) w v.phase current behind in
     let legal = tally.legal t within in
     let root_legal = tally.legal 0 tally.some in
     let fresh : is_being_opened (refreshed w v.phase) ≡ false = open_not_opened (refreshed w v.phase) can.some in

@@ -108,7 +108,8 @@ nobody ps ws vs shape tally going due none =
     (each_below (λ t x. party_share ps t x ≡ 0) (length ps) vs
     (λ t h. zero_each (party_share ps t) vs (no_parties ps ws vs shape tally going none t (subst (λ (n : ℕ). t < n) (sym tally.long) h)))))
 
-members_length : (owner : ℕ) (vs : List View) → AllByRecursion (λ v. v.arrived ≤ v.size) vs → length (all_members owner vs) ≡ sum_by (λ v. v.size) vs
+members_length : (owner : ℕ) (vs : List View) → AllByRecursion (λ v. v.arrived ≤ v.size) vs
+    → length (all_members owner vs) ≡ sum_by (λ v. v.size) vs
 members_length owner [] h = refl
 members_length owner (v ∷ vs) h =
     let marked : List Member = replicate v.arrived (record { owner = owner; mark = Some v.phase }) in
@@ -124,7 +125,8 @@ members_length owner (v ∷ vs) h =
 
 pub members_are_sizes : MembersAreSizes
 members_are_sizes ps ws vs tally =
-    members_length 0 vs (all_map (ViewFits ps (root_phase ws) (word_at ws 0).ended) (λ v. v.arrived ≤ v.size) (λ v ok. ok.within) vs tally.fits)
+    members_length 0 vs
+    (all_map (ViewFits ps (root_phase ws) (word_at ws 0).ended) (λ v. v.arrived ≤ v.size) (λ v ok. ok.within) vs tally.fits)
 
 pub advances_are_due : AdvancesAreDue
 advances_are_due ps ws front v back t ends step =
@@ -161,7 +163,8 @@ quiet_is_not_due ws vs quiet =
     ap (λ b. cond (word_at ws 0).ended false (everyone_arrived (root_phase ws) (all_members 0 vs) && b)) (resting vs quiet)
     ∙ not_due (word_at ws 0).ended (everyone_arrived (root_phase ws) (all_members 0 vs))
 
-after_phase : (ps : List ℕ) (root : ℕ) (ended : Bool) (kind : Kind) (t : ℕ) (w : Fields) (v : View) → ViewFits ps root ended v → Needs ps kind t w v
+after_phase : (ps : List ℕ) (root : ℕ) (ended : Bool) (kind : Kind) (t : ℕ) (w : Fields) (v : View) → ViewFits ps root ended v
+    → Needs ps kind t w v
     → is_advance kind ≡ false → w.phase ≡ root → (word_after kind t w v).phase ≡ root
 after_phase ps root ended Look t w v ok n a e = e
 after_phase ps root ended Glance t w v ok n a e = e

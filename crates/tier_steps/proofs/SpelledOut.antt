@@ -55,7 +55,8 @@ claims_none ps root u v (Opening tier claimed GoingBack size) ok h =
     let a = ap (λ k. only_at v.tier k u) ok.1 in let b = only_nothing v.tier u in omega arith
 
 late_by : (ps : List ℕ) (root u : ℕ) (v : View) (e : Errand) → ErrandFits ps root v e → errand_claims ps u e ≡ 0
-    → absent_at root u v + climbing u e + claimed_children ps u e ≡ cond (is_hidden e) 0 (only_at v.tier (absent root v) u) + errand_late ps e u
+    → absent_at root u v + climbing u e + claimed_children ps u e
+    ≡ cond (is_hidden e) 0 (only_at v.tier (absent root v) u) + errand_late ps e u
 late_by ps root u v Rest ok h = omega arith
 late_by ps root u v Advancing ok h = omega arith
 late_by ps root u v (Climbing t passage) ok h = omega arith
@@ -76,11 +77,13 @@ sum_three f g h (x ∷ xs) =
     let e = sum_three f g h xs in omega arith
 
 -- a tier that nobody claims, seen from each token
-unclaimed : (ps : List ℕ) (ws : List Fields) (vs : List View) (t : ℕ) → Tallies ps ws vs → t < length ws → is_being_opened (word_at ws t) ≡ false
+unclaimed : (ps : List ℕ) (ws : List Fields) (vs : List View) (t : ℕ) → Tallies ps ws vs → t < length ws
+    → is_being_opened (word_at ws t) ≡ false
     → AllByRecursion (λ v. ViewFits ps (root_phase ws) (word_at ws 0).ended v × (claim_share ps t v ≡ 0)) vs
 unclaimed ps ws vs t tally h plain =
     let none : sum_by (claim_share ps t) vs ≡ 0 = sym (tally.claims t h) ∙ ap bit plain in
-    both (ViewFits ps (root_phase ws) (word_at ws 0).ended) (λ v. claim_share ps t v ≡ 0) vs tally.fits (zero_each (claim_share ps t) vs none)
+    both (ViewFits ps (root_phase ws) (word_at ws 0).ended) (λ v. claim_share ps t v ≡ 0) vs tally.fits
+    (zero_each (claim_share ps t) vs none)
 
 parties_as_counted : (ps : List ℕ) (ws : List Fields) (vs : List View) → Tallies ps ws vs → (t : ℕ) → t < length ws → Compared ws t
     → is_being_opened (word_at ws t) ≡ false → (word_at ws t).parties ≡ parties_counted ps ws vs t

@@ -47,7 +47,8 @@ nobody_tallies ps p legal some =
       fits = tt;
     }
 
-all_into : {X : Type 0} (P : X → Type 0) (front back : List X) (y : X) → AllByRecursion P (front ++ back) → P y → AllByRecursion P (front ++ y ∷ back)
+all_into : {X : Type 0} (P : X → Type 0) (front back : List X) (y : X) → AllByRecursion P (front ++ back) → P y
+    → AllByRecursion P (front ++ y ∷ back)
 all_into P [] back y h p = (p, h)
 all_into P (x ∷ front) back y h p = (h.0, all_into P front back y h.1 p)
 

@@ -29,7 +29,8 @@ QuietIsNotDue = (words : List Fields) (views : List View) → AllByRecursion (λ
 -- The reason is that it waits: if the tree has not ended, no token has an errand and there is a member, some member has not arrived.
 abbrev pub QuietTreesAwaitSomebody : Type 0
 QuietTreesAwaitSomebody =
-    (parents : List ℕ) (words : List Fields) (views : List View) → IsShape parents → Tallies parents words views → (word_at words 0).ended ≡ false
+    (parents : List ℕ) (words : List Fields) (views : List View) → IsShape parents → Tallies parents words views
+    → (word_at words 0).ended ≡ false
     → AllByRecursion (λ v. v.errand ≡ Rest) views → 0 < registered (image words views) → 0 < unarrived (image words views)
 
 -- The image has as many members as the tokens together.

@@ -15,7 +15,8 @@ abbrev pub stepped_view : List ℕ → List Fields → Kind → ℕ → View →
 stepped_view parents words kind t v = view_after (parent_of parents t) kind t (word_at words t) v
 
 -- a step that the stepping token may take
-pub record IsStep (parents : List ℕ) (words : List Fields) (front : List View) (v : View) (back : List View) (t : ℕ) (kind : Kind) : Type 0 where
+pub record IsStep (parents : List ℕ) (words : List Fields) (front : List View) (v : View) (back : List View) (t : ℕ)
+    (kind : Kind) : Type 0 where
   pub shape : IsShape parents
   pub within : t < length words
   pub tally : Tallies parents words (front ++ v ∷ back)
@@ -35,4 +36,5 @@ KindsAreFlat =
     → IsStep parents words front v back t kind
     → LooksAlike f (image words (front ++ v ∷ back))
     → IsAllowedLabel (label (length front) kind) f
-    × LooksAlike (labelled (label (length front) kind) f) (image (words_after words kind t v) (front ++ stepped_view parents words kind t v ∷ back))
+    × LooksAlike (labelled (label (length front) kind) f)
+    (image (words_after words kind t v) (front ++ stepped_view parents words kind t v ∷ back))

@@ -33,4 +33,5 @@ pub record NoteIsSpelledOut (t : ℕ) (w : Fields) (kind : Kind) (old new : View
 abbrev pub MarksAreSpelledOut : Type 0
 MarksAreSpelledOut =
     (parents : List ℕ) (words : List Fields) (v : View) (t : ℕ) (kind : Kind)
-    → LedIsSpelledOut t kind v (stepped_view parents words kind t v) × NoteIsSpelledOut t (word_at words t) kind v (stepped_view parents words kind t v)
+    → LedIsSpelledOut t kind v (stepped_view parents words kind t v)
+    × NoteIsSpelledOut t (word_at words t) kind v (stepped_view parents words kind t v)

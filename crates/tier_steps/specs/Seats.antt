@@ -13,7 +13,8 @@ use Rattle.tier_steps.specs.Known.{seated_views}
 -- A step by a seat with one view is the flat step of its label, by the token at that view's place among all views.
 abbrev pub SeatsAreFlat : Type 0
 SeatsAreFlat =
-    (parents : List ℕ) (words : List Fields) (front : List (List View)) (v : View) (back : List (List View)) (t : ℕ) (kind : Kind) (f : Flat)
+    (parents : List ℕ) (words : List Fields) (front : List (List View)) (v : View) (back : List (List View)) (t : ℕ) (kind : Kind)
+    (f : Flat)
     → IsShape parents → t < length words
     → Tallies parents words (seated_views (front ++ (v ∷ []) ∷ back))
     → Needs parents kind t (word_at words t) v

@@ -1,4 +1,5 @@
--- The tally in plain terms: who the parties of a tier and its unarrived parties are, who claims it, and who advances (not part of Java's API).
+-- The tally in plain terms: who the parties of a tier and its unarrived parties are, who claims it, and who advances (not part of Java's
+-- API).
 use Rattle.std.specs.Prelude.{◌≡◌, ℕ, zero, suc, ◌+◌, ◌<◌, ◌⊎◌, Bool, true, false, Some, List, length, sum_by}
 use Rattle.std.specs.List.{AllByRecursion}
 use Rattle.tier_steps.specs.Word.{Fields, next_phase_of, late, is_empty, is_being_opened}
@@ -24,7 +25,8 @@ climbing t _ = 0
 -- the number of claimed tiers that are children of a tier
 abbrev pub children_on : List ℕ → ℕ → ℕ → ℕ → ℕ
 children_on parents tier zero t = 0
-children_on parents tier (suc claimed) t = only_at (parent_of parents (ancestor parents tier claimed)) 1 t + children_on parents tier claimed t
+children_on parents tier (suc claimed) t =
+    only_at (parent_of parents (ancestor parents tier claimed)) 1 t + children_on parents tier claimed t
 
 -- the children of a tier that are claimed by a token whose join was taken, and that still have no parties
 abbrev pub claimed_children : List ℕ → ℕ → Errand → ℕ
@@ -39,8 +41,8 @@ parties_counted parents words views t =
     + sum_by (λ v. departing t v.errand) views
     + sum_by (λ v. claimed_children parents t v.errand) views
 
--- its unarrived parties: unarrived members there, children with an unarrived party, climbs of both kinds to it, and claimed children of joined
--- tokens
+-- its unarrived parties: unarrived members there, children with an unarrived party, climbs of both kinds to it, and claimed children of
+-- joined tokens
 abbrev pub unarrived_counted : List ℕ → List Fields → List View → ℕ → ℕ
 unarrived_counted parents words views t =
     sum_by (absent_at (root_phase words) t) views

@@ -1,7 +1,22 @@
--- The kinds of step: what each needs of the word of its tier and of the token's view, and the word and the view after it. Joining, arriving,
--- leaving, advancing and ending by force are those of Java SE 21's `Phaser`; the rest is not part of its API.
+-- The kinds of step: what each needs of the word of its tier and of the token's view, and the word and the view after it. Joining,
+-- arriving, leaving, advancing and ending by force are those of Java SE 21's `Phaser`; the rest is not part of its API.
 pub use Rattle.tier_steps.specs.declared.kind.Kind.{Kind}
-pub use Rattle.tier_steps.specs.declared.kind.Kind.TheVariants.{Look, Glance, Refuse, Join, Arrive, Leave, Advance, Force, Claim, Settle, SettleBack, Climb, Refresh}
+pub use
+    Rattle.tier_steps.specs.declared.kind.Kind.TheVariants.{
+      Look,
+      Glance,
+      Refuse,
+      Join,
+      Arrive,
+      Leave,
+      Advance,
+      Force,
+      Claim,
+      Settle,
+      SettleBack,
+      Climb,
+      Refresh,
+    }
 use Rattle.std.specs.Prelude.{◌≡◌, ◌≢◌, ℕ, zero, suc, ◌+◌, ◌-◌, ◌≤◌, ◌<◌, ◌⊎◌, Bool, true, false, ◌==◌, if◌then◌else◌, Some, None, List, length}
 use Rattle.tier_steps.specs.Word.{Fields, IsLegal, joined, arrived_one, left_one, left_root, advanced, refreshed, emptied, claimed_word, settled, forced, is_being_opened}
 use Rattle.tier_steps.specs.View.{View, Errand, Rest, Opening, Climbing, Advancing, OpeningStage, Seeking, Joined, GoingBack, Passage, Arrival, Departure, ancestor}
@@ -12,12 +27,13 @@ passed t Arrival w = arrived_one w
 passed zero Departure w = left_root w
 passed (suc t) Departure w = left_one w
 
--- What the token owes afterwards, by the word before. If it was the last unarrived party of its tier, it climbs, by a departure if it was the
--- last party. At the root it advances.
+-- What the token owes afterwards, by the word before. If it was the last unarrived party of its tier, it climbs, by a departure if it was
+-- the last party. At the root it advances.
 abbrev pub owed : ℕ → ℕ → Passage → Fields → Errand
 owed above zero passage w = if w.unarrived == 1 then Advancing else Rest
 owed above (suc t) Arrival w = if w.unarrived == 1 then Climbing above Arrival else Rest
-owed above (suc t) Departure w = if w.parties == 1 then Climbing above Departure else (if w.unarrived == 1 then Climbing above Arrival else Rest)
+owed above (suc t) Departure w =
+    if w.parties == 1 then Climbing above Departure else (if w.unarrived == 1 then Climbing above Arrival else Rest)
 
 -- a token may let one of its members arrive at the token's tier, or leave it
 pub record CanPass (t : ℕ) (w : Fields) (v : View) : Type 0 where
@@ -73,7 +89,8 @@ pub record IsDue (parents : List ℕ) (tier claimed size : ℕ) (t : ℕ) (v : V
   pub place : tier < length parents
 
 abbrev pub joined_view : ℕ → ℕ → ℕ → Fields → View → View
-joined_view tier claimed size w v = record v { tier = tier; size = size; phase = w.phase; arrived = 0; errand = opening tier claimed Joined size }
+joined_view tier claimed size w v =
+    record v { tier = tier; size = size; phase = w.phase; arrived = 0; errand = opening tier claimed Joined size }
 
 -- an empty tier below the root may be claimed
 pub record IsFree (t : ℕ) (w : Fields) : Type 0 where
@@ -160,7 +177,8 @@ Needs parents (Advance ends) t w v = (t ≡ 0) × CanAdvance w v
 Needs parents Force t w v = t ≡ 0
 Needs parents (Claim tier claimed size) t w v = IsDue parents tier claimed size t v × IsFree t w
 Needs parents (Settle tier claimed size) t w v = (t ≡ ancestor parents tier claimed) × (v.errand ≡ Opening tier (suc claimed) Joined size)
-Needs parents (SettleBack tier claimed size) t w v = (t ≡ ancestor parents tier claimed) × (v.errand ≡ Opening tier (suc claimed) GoingBack size)
+Needs parents (SettleBack tier claimed size) t w v =
+    (t ≡ ancestor parents tier claimed) × (v.errand ≡ Opening tier (suc claimed) GoingBack size)
 Needs parents (Climb passage) t w v = CanClimb t passage w v
 Needs parents Refresh t w v = CanRefresh t w v
 

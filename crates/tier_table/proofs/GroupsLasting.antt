@@ -28,7 +28,9 @@ looks_on {a} {b} {c} some' p q = record {
   tree = q.tree ∙ p.tree;
   view = looked_then some' p.view q.view;
   tries = p.tries + q.tries;
-  tokens = each_then HasLooked HasLooked HasLooked p.tries q.tries (p.tries + q.tries) (λ x y z m n. watched_then (inr m) n) (omega arith) a.tokens b.tokens c.tokens p.tokens q.tokens;
+  tokens =
+      each_then HasLooked HasLooked HasLooked p.tries q.tries (p.tries + q.tries) (λ x y z m n. watched_then (inr m) n) (omega arith)
+      a.tokens b.tokens c.tokens p.tokens q.tokens;
 }
 
 pub before_more : {a b c : GroupHeld} → 0 < b.view.size → IsBefore a b → HaveLookedOn b c → HaveLookedOn a c
@@ -48,17 +50,23 @@ before_long (inl e) = ap (λ (z : GroupHeld). length z.tokens) e
 before_long {a} {b} (inr p) = each_long (Did HasLooked p.tries) a.tokens b.tokens p.tokens
 
 -- what is answered to a group that was looked at before
-pub all_before : (tries : ℕ) (a b : GroupHeld) (r : GroupArrived) → 0 < b.view.size → IsBefore a b → ArrivesAllAtLast tries b r → ArrivesAllAtLast tries a r
+pub all_before : (tries : ℕ) (a b : GroupHeld) (r : GroupArrived) → 0 < b.view.size → IsBefore a b → ArrivesAllAtLast tries b r
+    → ArrivesAllAtLast tries a r
 all_before tries a b (group_arrived.Done new phase led) some' p reported = (reported.0, before_then some' p reported.1, reported.2)
 all_before tries a b (group_arrived.Full new parties) some' p reported = absurd reported
 all_before tries a b (group_arrived.AlreadyArrived new phase) some' p reported = (reported.0, before_then some' p reported.1, reported.2)
 all_before tries a b (group_arrived.Ended new shown) some' p reported = (reported.0, before_then some' p reported.1, reported.2)
 
-pub with_before : (tries joining leaving : ℕ) (a b : GroupHeld) (r : GroupArrived) → 0 < b.view.size → IsBefore a b → ArrivesWithAtLast tries joining leaving b r → ArrivesWithAtLast tries joining leaving a r
-with_before tries joining leaving a b (group_arrived.Done new phase led) some' p reported = (reported.0, before_then some' p reported.1, reported.2)
-with_before tries joining leaving a b (group_arrived.Full new parties) some' p reported = (reported.0, before_then some' p reported.1, reported.2)
-with_before tries joining leaving a b (group_arrived.AlreadyArrived new phase) some' p reported = (reported.0, before_then some' p reported.1, reported.2)
-with_before tries joining leaving a b (group_arrived.Ended new shown) some' p reported = (reported.0, before_then some' p reported.1, reported.2)
+pub with_before : (tries joining leaving : ℕ) (a b : GroupHeld) (r : GroupArrived) → 0 < b.view.size → IsBefore a b
+    → ArrivesWithAtLast tries joining leaving b r → ArrivesWithAtLast tries joining leaving a r
+with_before tries joining leaving a b (group_arrived.Done new phase led) some' p reported =
+    (reported.0, before_then some' p reported.1, reported.2)
+with_before tries joining leaving a b (group_arrived.Full new parties) some' p reported =
+    (reported.0, before_then some' p reported.1, reported.2)
+with_before tries joining leaving a b (group_arrived.AlreadyArrived new phase) some' p reported =
+    (reported.0, before_then some' p reported.1, reported.2)
+with_before tries joining leaving a b (group_arrived.Ended new shown) some' p reported =
+    (reported.0, before_then some' p reported.1, reported.2)
 
 -- a look, and then nothing that counts
 looked_on : {a b c : View} → IsLooked a b → IsSame b c → IsLooked a c
@@ -74,7 +82,9 @@ kept_looked {old} {mid} {new} tries f k = record {
   tree = k.tree ∙ f.tree;
   view = looked_on f.looked k.view.same;
   tries = tries;
-  tokens = each_then Looks OnlyLooks HasLooked 0 tries tries (λ x y z m n. subst (λ (ks : List Kind). MadeOnly is_quiet ks z) m n) (omega arith) old.tokens mid.tokens new.tokens f.tokens k.tokens;
+  tokens =
+      each_then Looks OnlyLooks HasLooked 0 tries tries (λ x y z m n. subst (λ (ks : List Kind). MadeOnly is_quiet ks z) m n) (omega arith)
+      old.tokens mid.tokens new.tokens f.tokens k.tokens;
 }
 
 -- doors off which seats were split, one call after another
@@ -88,7 +98,8 @@ pub waited_first : (a : GroupHeld) → HaveWaited a a
 waited_first a = record { tree = refl; view = same_first a.view; before = inl refl }
 
 -- a wait that goes on
-pub waited_more : {a b c : GroupHeld} (tries : ℕ) → b.view.size ≡ 1 → HaveWaited a b → c.tree ≡ b.tree → IsLooked b.view c.view → c.view.arrived ≡ 1 → Each (Did HasLooked tries) b.tokens c.tokens → HaveWaited a c
+pub waited_more : {a b c : GroupHeld} (tries : ℕ) → b.view.size ≡ 1 → HaveWaited a b → c.tree ≡ b.tree → IsLooked b.view c.view
+    → c.view.arrived ≡ 1 → Each (Did HasLooked tries) b.tokens c.tokens → HaveWaited a c
 waited_more {a} {b} {c} tries one p tree looked all each =
     let size : c.view.size ≡ 1 = looked.size ∙ one in record {
       tree = tree ∙ p.tree;
@@ -100,20 +111,27 @@ whole_tree : (h : Holding) (o : Option GroupHeld) (c : GroupHeld) → IsWhole h 
 whole_tree h None c w = ap (λ (z : GroupHeld). z.tree) w
 whole_tree h (Some o) c w = w.tree
 
-finished_tree : (h : Holding) (o : Option GroupHeld) (c : GroupHeld) (phase : ℕ) (led : Bool) → FinishesAtLast h o c phase led → c.tree ≡ h.tree
+finished_tree : (h : Holding) (o : Option GroupHeld) (c : GroupHeld) (phase : ℕ) (led : Bool) → FinishesAtLast h o c phase led
+    → c.tree ≡ h.tree
 finished_tree h o c phase led f = whole_tree f.0 o c f.4 ∙ f.1.0
 
 -- an answer returns tokens of the same tree
 pub all_tree : (tries : ℕ) (a : GroupHeld) (r : GroupArrived) → ArrivesAllAtLast tries a r → (tokens_arrived r).tree ≡ a.tree
 all_tree tries a (group_arrived.Done new phase led) reported =
-    ⊎_elim (λ z. z.0.0) (λ z. finished_tree z.0.token z.1 new phase led z.3 ∙ z.2.0) reported.2 ∙ before_tree {a = a} {b = reported.0} reported.1
+    ⊎_elim (λ z. z.0.0) (λ z. finished_tree z.0.token z.1 new phase led z.3 ∙ z.2.0) reported.2
+    ∙ before_tree {a = a} {b = reported.0} reported.1
 all_tree tries a (group_arrived.Full new parties) reported = absurd reported
 all_tree tries a (group_arrived.AlreadyArrived new phase) reported = reported.2.0 ∙ before_tree {a = a} {b = reported.0} reported.1
 all_tree tries a (group_arrived.Ended new shown) reported = reported.2.0 ∙ before_tree {a = a} {b = reported.0} reported.1
 
-pub with_tree : (tries joining leaving : ℕ) (a : GroupHeld) (r : GroupArrived) → ArrivesWithAtLast tries joining leaving a r → (tokens_arrived r).tree ≡ a.tree
+pub with_tree : (tries joining leaving : ℕ) (a : GroupHeld) (r : GroupArrived) → ArrivesWithAtLast tries joining leaving a r
+    → (tokens_arrived r).tree ≡ a.tree
 with_tree tries joining leaving a (group_arrived.Done new phase led) reported =
-    ⊎_elim (λ z. z.0.2.same ∙ z.0.1.tree) (λ z. finished_tree z.0.token z.1 new phase led z.3 ∙ (z.2.2.same ∙ z.2.1.tree)) reported.2 ∙ before_tree {a = a} {b = reported.0} reported.1
-with_tree tries joining leaving a (group_arrived.Full new parties) reported = reported.2.2.kept.tree ∙ (reported.2.2.first.tree ∙ before_tree {a = a} {b = reported.0} reported.1)
-with_tree tries joining leaving a (group_arrived.AlreadyArrived new phase) reported = reported.2.0.tree ∙ before_tree {a = a} {b = reported.0} reported.1
-with_tree tries joining leaving a (group_arrived.Ended new shown) reported = reported.2.2.kept.tree ∙ (reported.2.1.tree ∙ before_tree {a = a} {b = reported.0} reported.1)
+    ⊎_elim (λ z. z.0.2.same ∙ z.0.1.tree) (λ z. finished_tree z.0.token z.1 new phase led z.3 ∙ (z.2.2.same ∙ z.2.1.tree)) reported.2
+    ∙ before_tree {a = a} {b = reported.0} reported.1
+with_tree tries joining leaving a (group_arrived.Full new parties) reported =
+    reported.2.2.kept.tree ∙ (reported.2.2.first.tree ∙ before_tree {a = a} {b = reported.0} reported.1)
+with_tree tries joining leaving a (group_arrived.AlreadyArrived new phase) reported =
+    reported.2.0.tree ∙ before_tree {a = a} {b = reported.0} reported.1
+with_tree tries joining leaving a (group_arrived.Ended new shown) reported =
+    reported.2.2.kept.tree ∙ (reported.2.1.tree ∙ before_tree {a = a} {b = reported.0} reported.1)

@@ -23,7 +23,8 @@ use Rattle.tier_table.specs.declared.waiting.AwaitedAdvance.TheVariants as await
 
 -- a registration of this many members at this tier of a tree
 abbrev pub RegistersAtLast : Named → ℕ → ℕ → RegisteredAtLast → Type 0
-RegistersAtLast n tier size (admitted.Joined crew phase) = (crew.tree ≡ n) × IsJoined tier size crew.view × (crew.view.errand ≡ Rest) × (phase ≡ crew.view.phase)
+RegistersAtLast n tier size (admitted.Joined crew phase) =
+    (crew.tree ≡ n) × IsJoined tier size crew.view × (crew.view.errand ≡ Rest) × (phase ≡ crew.view.phase)
 RegistersAtLast n tier size (admitted.Full door count) = (door.tree ≡ n) × Refusal n.key.shape tier size door.view (played.Full count)
 RegistersAtLast n tier size (admitted.Ended door shown) = (door.tree ≡ n) × EndSeen door.view shown
 
@@ -34,22 +35,30 @@ OpensAtLast n tier size (Err door) = door.tree ≡ n
 
 -- an arrival or a departure
 abbrev pub ArrivesAtLast : Passage → Holding → ArrivedAtLast → Type 0
-ArrivesAtLast own h (counted.Done crew phase led) = (crew.tree ≡ h.tree) × HasPassed own h.view crew.view × (crew.view.errand ≡ Rest) × (phase ≡ crew.view.phase) × (led ≡ crew.view.led)
-ArrivesAtLast own h (counted.Left door phase led) = (own ≡ Departure) × (door.tree ≡ h.tree) × HasPassed own h.view door.view × (door.view.errand ≡ Rest) × (phase ≡ door.view.phase) × (led ≡ door.view.led)
-ArrivesAtLast own h (counted.AlreadyArrived crew phase) = (crew.tree ≡ h.tree) × IsLooked h.view crew.view × IsFresh crew.view × (crew.view.arrived ≡ crew.view.size) × (phase ≡ crew.view.phase)
+ArrivesAtLast own h (counted.Done crew phase led) =
+    (crew.tree ≡ h.tree) × HasPassed own h.view crew.view × (crew.view.errand ≡ Rest) × (phase ≡ crew.view.phase) × (led ≡ crew.view.led)
+ArrivesAtLast own h (counted.Left door phase led) =
+    (own ≡ Departure) × (door.tree ≡ h.tree) × HasPassed own h.view door.view × (door.view.errand ≡ Rest) × (phase ≡ door.view.phase)
+    × (led ≡ door.view.led)
+ArrivesAtLast own h (counted.AlreadyArrived crew phase) =
+    (crew.tree ≡ h.tree) × IsLooked h.view crew.view × IsFresh crew.view × (crew.view.arrived ≡ crew.view.size) × (phase ≡ crew.view.phase)
 ArrivesAtLast own h (counted.Ended crew shown) = (crew.tree ≡ h.tree) × IsLooked h.view crew.view × EndSeen crew.view shown
 
 -- one that has counted: no member is counted any more
 abbrev pub ResumesAtLast : Holding → ArrivedAtLast → Type 0
-ResumesAtLast h (counted.Done crew phase led) = (crew.tree ≡ h.tree) × IsSame h.view crew.view × (crew.view.errand ≡ Rest) × (phase ≡ crew.view.phase) × (led ≡ crew.view.led)
-ResumesAtLast h (counted.Left door phase led) = (door.tree ≡ h.tree) × IsSame h.view door.view × (door.view.errand ≡ Rest) × (phase ≡ door.view.phase) × (led ≡ door.view.led)
+ResumesAtLast h (counted.Done crew phase led) =
+    (crew.tree ≡ h.tree) × IsSame h.view crew.view × (crew.view.errand ≡ Rest) × (phase ≡ crew.view.phase) × (led ≡ crew.view.led)
+ResumesAtLast h (counted.Left door phase led) =
+    (door.tree ≡ h.tree) × IsSame h.view door.view × (door.view.errand ≡ Rest) × (phase ≡ door.view.phase) × (led ≡ door.view.led)
 ResumesAtLast h (counted.AlreadyArrived crew phase) = ⊥
 ResumesAtLast h (counted.Ended crew shown) = ⊥
 
 -- a crew that waits until its phase has passed
 abbrev pub AwaitsAdvance : Holding → Holding → AwaitedAdvance → Type 0
-AwaitsAdvance old new (awaited.Passed phase) = IsLooked old.view new.view × IsFresh new.view × HasPassedOn old new × (phase ≡ new.view.phase)
-AwaitsAdvance old new (awaited.Here phase) = IsLooked old.view new.view × IsFresh new.view × (new.view.arrived < new.view.size) × (phase ≡ new.view.phase)
+AwaitsAdvance old new (awaited.Passed phase) =
+    IsLooked old.view new.view × IsFresh new.view × HasPassedOn old new × (phase ≡ new.view.phase)
+AwaitsAdvance old new (awaited.Here phase) =
+    IsLooked old.view new.view × IsFresh new.view × (new.view.arrived < new.view.size) × (phase ≡ new.view.phase)
 AwaitsAdvance old new (awaited.Ended shown) = IsLooked old.view new.view × EndSeen new.view shown
 
 -- the crew before the last look of its wait: it had only looked
@@ -81,8 +90,8 @@ abbrev pub steps_of : Result RegisteredAtLast Holding → List Kind
 steps_of (Ok answer) = (token_admitted answer).steps
 steps_of (Err door) = door.steps
 
--- Which steps the token of an arrival or a departure took: as in a call with tries, however often it was repeated. AlreadyArrived follows the look that begins the
--- call, alone.
+-- Which steps the token of an arrival or a departure took: as in a call with tries, however often it was repeated. AlreadyArrived follows
+-- the look that begins the call, alone.
 abbrev pub PassedBy : Passage → List Kind → ArrivedAtLast → Type 0
 PassedBy own old (counted.Done crew phase led) = LedBy (HasStepped own old) led crew.steps
 PassedBy own old (counted.Left door phase led) = LedBy (HasStepped own old) led door.steps

@@ -32,37 +32,49 @@ pub record HaveLookedOn (old new : GroupHeld) : Type 0 where
 abbrev pub IsBefore : GroupHeld → GroupHeld → Type 0
 IsBefore old last = (last ≡ old) ⊎ HaveLookedOn old last
 
--- the rest of an arrival that was counted: what the token owes, and then its group as a whole; the call advanced the tree only if all had arrived
+-- the rest of an arrival that was counted: what the token owes, and then its group as a whole; the call advanced the tree only if all had
+-- arrived
 abbrev pub FinishesAtLast : Holding → Option GroupHeld → GroupHeld → ℕ → Bool → Type 0
 FinishesAtLast h others new phase led =
-    (crew : Holding) × ResumesAtLast h (counted.Done crew phase led) × (crew.opened ≡ h.opened) × ResumedBy h.steps (counted.Done crew phase led) × IsWhole crew others new
+    (crew : Holding) × ResumesAtLast h (counted.Done crew phase led) × (crew.opened ≡ h.opened)
+    × ResumedBy h.steps (counted.Done crew phase led) × IsWhole crew others new
     × LedAtLast (counted.Done crew phase led)
 
 -- All members have arrived, by one exchange. If they were the last of their tier, what follows was done too.
 abbrev pub AllArriveAtLast : ℕ → GroupHeld → GroupHeld → ℕ → Bool → Type 0
 AllArriveAtLast tries last new phase led =
     (ArrivesAll last tries (arrived.Done new phase) × (led ≡ false))
-    ⊎ ((errand : Going) × (rest : Option GroupHeld) × ArrivesAll last tries (arrived.Owing errand rest) × FinishesAtLast errand.token rest new phase led)
+    ⊎ ((errand : Going) × (rest : Option GroupHeld) × ArrivesAll last tries (arrived.Owing errand rest)
+    × FinishesAtLast errand.token rest new phase led)
 
 -- what an arrival of all members answers
 abbrev pub ArrivesAllAtLast : ℕ → GroupHeld → GroupArrived → Type 0
-ArrivesAllAtLast tries old (group_arrived.Done new phase led) = (last : GroupHeld) × IsBefore old last × AllArriveAtLast tries last new phase led
-ArrivesAllAtLast tries old (group_arrived.AlreadyArrived new phase) = (last : GroupHeld) × IsBefore old last × ArrivesAll last tries (arrived.AlreadyArrived new phase)
-ArrivesAllAtLast tries old (group_arrived.Ended new shown) = (last : GroupHeld) × IsBefore old last × ArrivesAll last tries (arrived.Ended new shown)
+ArrivesAllAtLast tries old (group_arrived.Done new phase led) =
+    (last : GroupHeld) × IsBefore old last × AllArriveAtLast tries last new phase led
+ArrivesAllAtLast tries old (group_arrived.AlreadyArrived new phase) =
+    (last : GroupHeld) × IsBefore old last × ArrivesAll last tries (arrived.AlreadyArrived new phase)
+ArrivesAllAtLast tries old (group_arrived.Ended new shown) =
+    (last : GroupHeld) × IsBefore old last × ArrivesAll last tries (arrived.Ended new shown)
 ArrivesAllAtLast tries old (group_arrived.Full new parties) = ⊥
 
--- New members have joined and arrived, others have left, and the rest has arrived, by one exchange. If they were the last of their tier, what follows was done too.
+-- New members have joined and arrived, others have left, and the rest has arrived, by one exchange. If they were the last of their tier,
+-- what follows was done too.
 abbrev pub AllArriveWithAtLast : ℕ → ℕ → ℕ → GroupHeld → GroupHeld → ℕ → Bool → Type 0
 AllArriveWithAtLast tries joining leaving last new phase led =
     (ArrivesWith tries joining leaving last (arrived_with.Done new phase) × (led ≡ false))
-    ⊎ ((errand : Going) × (rest : Option GroupHeld) × ArrivesWith tries joining leaving last (arrived_with.Owing errand rest) × FinishesAtLast errand.token rest new phase led)
+    ⊎ ((errand : Going) × (rest : Option GroupHeld) × ArrivesWith tries joining leaving last (arrived_with.Owing errand rest)
+    × FinishesAtLast errand.token rest new phase led)
 
 -- what such an arrival answers
 abbrev pub ArrivesWithAtLast : ℕ → ℕ → ℕ → GroupHeld → GroupArrived → Type 0
-ArrivesWithAtLast tries joining leaving old (group_arrived.Done new phase led) = (last : GroupHeld) × IsBefore old last × AllArriveWithAtLast tries joining leaving last new phase led
-ArrivesWithAtLast tries joining leaving old (group_arrived.AlreadyArrived new phase) = (last : GroupHeld) × IsBefore old last × ArrivesWith tries joining leaving last (arrived_with.AlreadyArrived new phase)
-ArrivesWithAtLast tries joining leaving old (group_arrived.Ended new shown) = (last : GroupHeld) × IsBefore old last × ArrivesWith tries joining leaving last (arrived_with.Ended new shown)
-ArrivesWithAtLast tries joining leaving old (group_arrived.Full new parties) = (last : GroupHeld) × IsBefore old last × ArrivesWith tries joining leaving last (arrived_with.Full new parties)
+ArrivesWithAtLast tries joining leaving old (group_arrived.Done new phase led) =
+    (last : GroupHeld) × IsBefore old last × AllArriveWithAtLast tries joining leaving last new phase led
+ArrivesWithAtLast tries joining leaving old (group_arrived.AlreadyArrived new phase) =
+    (last : GroupHeld) × IsBefore old last × ArrivesWith tries joining leaving last (arrived_with.AlreadyArrived new phase)
+ArrivesWithAtLast tries joining leaving old (group_arrived.Ended new shown) =
+    (last : GroupHeld) × IsBefore old last × ArrivesWith tries joining leaving last (arrived_with.Ended new shown)
+ArrivesWithAtLast tries joining leaving old (group_arrived.Full new parties) =
+    (last : GroupHeld) × IsBefore old last × ArrivesWith tries joining leaving last (arrived_with.Full new parties)
 
 -- the group before the last look of its wait: its members are as before
 pub record HaveWaited (old last : GroupHeld) : Type 0 where
@@ -92,11 +104,12 @@ tokens_arrived (group_arrived.Full new parties) = new
 tokens_arrived (group_arrived.AlreadyArrived new phase) = new
 tokens_arrived (group_arrived.Ended new shown) = new
 
--- What follows an arrival of all members in this phase. If the tokens were already seen in another phase than that in which they arrived, this phase has passed; before
--- the last advance all members of all tokens had arrived. Else they wait.
+-- What follows an arrival of all members in this phase. If the tokens were already seen in another phase than that in which they arrived,
+-- this phase has passed; before the last advance all members of all tokens had arrived. Else they wait.
 abbrev pub AwaitsAfter : GroupHeld → ℕ → GroupHeld → AwaitedAdvance → Type 0
 AwaitsAfter mid phase new answer =
-    ((mid.view.phase ≢ phase) × (new ≡ mid) × (answer ≡ awaited.Passed mid.view.phase) × WaitedFor mid.tree phase mid.view.phase) ⊎ AwaitsAll mid new answer
+    ((mid.view.phase ≢ phase) × (new ≡ mid) × (answer ≡ awaited.Passed mid.view.phase) × WaitedFor mid.tree phase mid.view.phase)
+    ⊎ AwaitsAll mid new answer
 
 -- what follows an arrival of all members in a meeting
 abbrev pub MeetsAfter : GroupArrived → GroupHeld → AwaitedAdvance → Type 0

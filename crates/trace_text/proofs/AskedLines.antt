@@ -64,7 +64,8 @@ module _ {C : Type 0} (says : List Word → Result C Code) (brings : C → Bool)
           (e, said.0, rw same at said.1)
       chosen false x c h e = absurd (let wrong : ◌≡◌ {A = Result C Code} (Err TooMany) (Ok c) = e in cc)
 
-  counted_is : (count tokens : ℕ) (r : Result C Code) (c : C) → r ≡ Ok c → count < 4096 → (brings c ≡ true → tokens < 256) → counted brings count tokens r ≡ Ok c
+  counted_is : (count tokens : ℕ) (r : Result C Code) (c : C) → r ≡ Ok c → count < 4096 → (brings c ≡ true → tokens < 256)
+      → counted brings count tokens r ≡ Ok c
   counted_is count tokens r c e h t = let capacity = room_reported (brings c) count tokens h t in rw (e, capacity) refl
 
   -- the commands of lines, after this many
@@ -86,7 +87,8 @@ module _ {C : Type 0} (says : List Word → Result C Code) (brings : C → Bool)
       ≡ (at line (counted brings count tokens (says (words_of l))) >>= λ c. commands_from says brings (line + 1) (count + 1) (tokens_with brings tokens c) ls >>= λ cs. Ok (c ∷ cs))
   this_line line count tokens l ls e = rw e refl
 
-  more_few : (ds cs : List C) (count : ℕ) → 1 + length ds ≡ length cs → count < 4096 → (0 < length ds → count + 1 + length ds ≤ 4096) → count + length cs ≤ 4096
+  more_few : (ds cs : List C) (count : ℕ) → 1 + length ds ≡ length cs → count < 4096 → (0 < length ds → count + 1 + length ds ≤ 4096)
+      → count + length cs ≤ 4096
   more_few [] cs count e h f = omega arith
   more_few (d ∷ ds) cs count e h f = let most : count + 1 + length (d ∷ ds) ≤ 4096 = f (omega arith) in omega arith
 
@@ -112,7 +114,9 @@ module _ {C : Type 0} (says : List Word → Result C Code) (brings : C → Bool)
       → (brings c ≡ true → tokens < 256) × (0 < length (filter brings ds) → tokens_with brings tokens c + length (filter brings ds) ≤ 256)
   less_new c ds tokens most = chosen (brings c) refl
     where
-      chosen : (b : Bool) → brings c ≡ b → (brings c ≡ true → tokens < 256) × (0 < length (filter brings ds) → tokens_with brings tokens c + length (filter brings ds) ≤ 256)
+      chosen : (b : Bool) → brings c ≡ b
+          → (brings c ≡ true → tokens < 256)
+          × (0 < length (filter brings ds) → tokens_with brings tokens c + length (filter brings ds) ≤ 256)
       chosen true h =
           let size : length (filter brings (c ∷ ds)) ≡ length (c ∷ filter brings ds) =
           ap (λ (b : Bool). length (cond {A = List C} b (c ∷ filter brings ds) (filter brings ds))) h in
@@ -127,28 +131,40 @@ module _ {C : Type 0} (says : List Word → Result C Code) (brings : C → Bool)
             rw h all,
       )
 
-  pub commands_said : (line count tokens : ℕ) (ls : List (List ℕ)) (cs : List C) → commands_from says brings line count tokens ls ≡ Ok cs → SaysMore count tokens ls cs
+  pub commands_said : (line count tokens : ℕ) (ls : List (List ℕ)) (cs : List C) → commands_from says brings line count tokens ls ≡ Ok cs
+      → SaysMore count tokens ls cs
   commands_said line count tokens [] cs e =
       let none : [] ≡ cs = cc in
       rw (← none) (record { each = refl; few = λ h. absurd (omega arith); new = λ h. absurd (omega arith) })
   commands_said line count tokens (l ∷ ls) cs e = ⊎_elim
       (λ (skip : is_skipped (words_of l) ≡ true).
       let rest = commands_said (line + 1) count tokens ls cs (sym (next_line line count tokens l ls skip) ∙ e) in
-      let result : SaysMore count tokens (l ∷ ls) cs = record { each = ap (map says) (kept_skipped l ls skip) ∙ rest.each; few = rest.few; new = rest.new } in result)
+      let result : SaysMore count tokens (l ∷ ls) cs =
+      record { each = ap (map says) (kept_skipped l ls skip) ∙ rest.each; few = rest.few; new = rest.new } in
+      result)
       (λ (keep : is_skipped (words_of l) ≡ false).
-      let first = bound (at line (counted brings count tokens (says (words_of l)))) (λ c. commands_from says brings (line + 1) (count + 1) (tokens_with brings tokens c) ls >>= λ ds. Ok (c ∷ ds)) cs
+      let first =
+      bound (at line (counted brings count tokens (says (words_of l))))
+      (λ c. commands_from says brings (line + 1) (count + 1) (tokens_with brings tokens c) ls >>= λ ds. Ok (c ∷ ds)) cs
       (sym (this_line line count tokens l ls keep) ∙ e) in
-      let second = bound (commands_from says brings (line + 1) (count + 1) (tokens_with brings tokens first.0) ls) (λ ds. Ok (first.0 ∷ ds)) cs first.2 in
+      let second =
+      bound (commands_from says brings (line + 1) (count + 1) (tokens_with brings tokens first.0) ls) (λ ds. Ok (first.0 ∷ ds)) cs
+      first.2 in
       let is : first.0 ∷ second.0 ≡ cs = cc in
-      let here = counted_ok count tokens (says (words_of l)) first.0 (at_ok line (counted brings count tokens (says (words_of l))) first.0 first.1) in
+      let here =
+      counted_ok count tokens (says (words_of l)) first.0 (at_ok line (counted brings count tokens (says (words_of l))) first.0 first.1) in
       let rest = commands_said (line + 1) (count + 1) (tokens_with brings tokens first.0) ls second.0 second.1 in
       rw (← is) (one_more count tokens l ls first.0 second.0 keep here.0 here.1 here.2 rest))
       (either (is_skipped (words_of l)))
     where
-      one_more : (count tokens : ℕ) (l : List ℕ) (ls : List (List ℕ)) (c : C) (ds : List C) → is_skipped (words_of l) ≡ false → says (words_of l) ≡ Ok c
-          → count < 4096 → (brings c ≡ true → tokens < 256) → SaysMore (count + 1) (tokens_with brings tokens c) ls ds → SaysMore count tokens (l ∷ ls) (c ∷ ds)
+      one_more : (count tokens : ℕ) (l : List ℕ) (ls : List (List ℕ)) (c : C) (ds : List C) → is_skipped (words_of l) ≡ false
+          → says (words_of l) ≡ Ok c
+          → count < 4096 → (brings c ≡ true → tokens < 256) → SaysMore (count + 1) (tokens_with brings tokens c) ls ds
+          → SaysMore count tokens (l ∷ ls) (c ∷ ds)
       one_more count tokens l ls c ds keep here capacity free rest = let size : 1 + length ds ≡ length (c ∷ ds) = omega arith in record {
-        each = ap (map says) (kept_line l ls keep) ∙ ap (λ (r : Result C Code). r ∷ map says (kept ls)) here ∙ ap (λ (rs : List (Result C Code)). Ok c ∷ rs) rest.each;
+        each =
+            ap (map says) (kept_line l ls keep) ∙ ap (λ (r : Result C Code). r ∷ map says (kept ls)) here
+            ∙ ap (λ (rs : List (Result C Code)). Ok c ∷ rs) rest.each;
         few = λ h. more_few ds (c ∷ ds) count size capacity rest.few;
         new = λ h. more_new c ds tokens free rest.new h;
       }
@@ -157,33 +173,41 @@ module _ {C : Type 0} (says : List Word → Result C Code) (brings : C → Bool)
   no_commands [] e = refl
   no_commands (c ∷ cs) e = absurd (let wrong : ◌≡◌ {A = List (Result C Code)} [] (Ok c ∷ oks cs) = e in cc)
 
-  pub commands_reported : (line count tokens : ℕ) (ls : List (List ℕ)) (cs : List C) → SaysMore count tokens ls cs → commands_from says brings line count tokens ls ≡ Ok cs
+  pub commands_reported : (line count tokens : ℕ) (ls : List (List ℕ)) (cs : List C) → SaysMore count tokens ls cs
+      → commands_from says brings line count tokens ls ≡ Ok cs
   commands_reported line count tokens [] cs s = let none : cs ≡ [] = no_commands cs s.each in rw none refl
   commands_reported line count tokens (l ∷ ls) cs s = ⊎_elim
       (λ (skip : is_skipped (words_of l) ≡ true).
-      let rest : SaysMore count tokens ls cs = record { each = sym (ap (map says) (kept_skipped l ls skip)) ∙ s.each; few = s.few; new = s.new } in
+      let rest : SaysMore count tokens ls cs =
+      record { each = sym (ap (map says) (kept_skipped l ls skip)) ∙ s.each; few = s.few; new = s.new } in
       next_line line count tokens l ls skip ∙ commands_reported (line + 1) count tokens ls cs rest)
       (λ (keep : is_skipped (words_of l) ≡ false).
-      this_line line count tokens l ls keep ∙ one_more line count tokens l ls cs (sym (ap (map says) (kept_line l ls keep)) ∙ s.each) s.few s.new (λ n m ds t. commands_reported (line + 1) n m ls ds t))
+      this_line line count tokens l ls keep
+      ∙ one_more line count tokens l ls cs (sym (ap (map says) (kept_line l ls keep)) ∙ s.each) s.few s.new
+      (λ n m ds t. commands_reported (line + 1) n m ls ds t))
       (either (is_skipped (words_of l)))
     where
       one_more : (line count tokens : ℕ) (l : List ℕ) (ls : List (List ℕ)) (cs : List C) → says (words_of l) ∷ map says (kept ls) ≡ oks cs
           → (0 < length cs → count + length cs ≤ 4096) → (0 < length (filter brings cs) → tokens + length (filter brings cs) ≤ 256)
           → ((n m : ℕ) (ds : List C) → SaysMore n m ls ds → commands_from says brings (line + 1) n m ls ≡ Ok ds)
-          → (at line (counted brings count tokens (says (words_of l))) >>= λ c. commands_from says brings (line + 1) (count + 1) (tokens_with brings tokens c) ls >>= λ ds. Ok (c ∷ ds)) ≡ Ok cs
-      one_more line count tokens l ls [] e few new reported = absurd (let wrong : ◌≡◌ {A = List (Result C Code)} (says (words_of l) ∷ map says (kept ls)) [] = e in cc)
+          → (at line (counted brings count tokens (says (words_of l))) >>= λ c. commands_from says brings (line + 1) (count + 1) (tokens_with brings tokens c) ls >>= λ ds. Ok (c ∷ ds))
+          ≡ Ok cs
+      one_more line count tokens l ls [] e few new reported =
+          absurd (let wrong : ◌≡◌ {A = List (Result C Code)} (says (words_of l) ∷ map says (kept ls)) [] = e in cc)
       one_more line count tokens l ls (c ∷ ds) e few new reported =
           let here : says (words_of l) ≡ Ok c = cc in
           let rest : map says (kept ls) ≡ oks ds = cc in
           let most : count + length (c ∷ ds) ≤ 4096 = few (omega arith) in
           let less = less_new c ds tokens new in
-          let first : counted brings count tokens (says (words_of l)) ≡ Ok c = counted_is count tokens (says (words_of l)) c here (omega arith) less.0 in
+          let first : counted brings count tokens (says (words_of l)) ≡ Ok c =
+          counted_is count tokens (says (words_of l)) c here (omega arith) less.0 in
           let second : commands_from says brings (line + 1) (count + 1) (tokens_with brings tokens c) ls ≡ Ok ds =
           reported (count + 1) (tokens_with brings tokens c) ds (record { each = rest; few = λ h. omega arith; new = less.1 }) in
           rw (first, second) refl
 
   -- from the first line on
-  pub all_said : (line : ℕ) (ls : List (List ℕ)) (cs : List C) → commands_from says brings line 0 0 ls ≡ Ok cs → SaysCommands says brings (kept ls) cs
+  pub all_said : (line : ℕ) (ls : List (List ℕ)) (cs : List C) → commands_from says brings line 0 0 ls ≡ Ok cs
+      → SaysCommands says brings (kept ls) cs
   all_said line ls cs e =
       let s = commands_said line 0 0 ls cs e in
       record { each = s.each; few = whole (length cs) 4096 s.few; tokens = whole (length (filter brings cs)) 256 s.new }
@@ -192,14 +216,16 @@ module _ {C : Type 0} (says : List Word → Result C Code) (brings : C → Bool)
       whole zero most f = omega arith
       whole (suc n) most f = let all : 0 + suc n ≤ most = f (omega arith) in omega arith
 
-  pub all_reported : (line : ℕ) (ls : List (List ℕ)) (cs : List C) → SaysCommands says brings (kept ls) cs → commands_from says brings line 0 0 ls ≡ Ok cs
+  pub all_reported : (line : ℕ) (ls : List (List ℕ)) (cs : List C) → SaysCommands says brings (kept ls) cs
+      → commands_from says brings line 0 0 ls ≡ Ok cs
   all_reported line ls cs s =
       let few : length cs ≤ 4096 = s.few in
       let tokens : length (filter brings cs) ≤ 256 = s.tokens in
       commands_reported line 0 0 ls cs (record { each = s.each; few = λ h. omega arith; new = λ h. omega arith })
 
 -- the place of the head
-skipped_head : (line : ℕ) (l : List ℕ) (ls : List (List ℕ)) → is_skipped (words_of l) ≡ true → asked_from line (l ∷ ls) ≡ asked_from (line + 1) ls
+skipped_head : (line : ℕ) (l : List ℕ) (ls : List (List ℕ)) → is_skipped (words_of l) ≡ true
+    → asked_from line (l ∷ ls) ≡ asked_from (line + 1) ls
 skipped_head line l ls e = rw e refl
 
 head_here : (line : ℕ) (l : List ℕ) (ls : List (List ℕ)) → is_skipped (words_of l) ≡ false
@@ -207,7 +233,8 @@ head_here : (line : ℕ) (l : List ℕ) (ls : List (List ℕ)) → is_skipped (w
 head_here line l ls e = rw e refl
 
 -- what is below a head
-below_said : (words : List Word) (head : Head) (line : ℕ) (ls : List (List ℕ)) (asked : Asked) → head_of words ≡ Ok head → below head line ls ≡ Ok asked
+below_said : (words : List Word) (head : Head) (line : ℕ) (ls : List (List ℕ)) (asked : Asked) → head_of words ≡ Ok head
+    → below head line ls ≡ Ok asked
     → SaysAsked words (kept ls) asked
 below_said words (OfPhaser h) line ls asked e b =
     let cs = bound (commands_from command_of brings_none line 0 0 ls) (λ commands. Ok (AsksPhaser h commands)) asked b in
@@ -224,13 +251,17 @@ below_said words (OfBarrier h) line ls asked e b =
 
 below_reported : (words : List Word) (line : ℕ) (ls : List (List ℕ)) (asked : Asked) → SaysAsked words (kept ls) asked
     → (at line (head_of words) >>= λ head. below head (line + 1) ls) ≡ Ok asked
-below_reported words line ls (AsksPhaser h cs) s = let reported = all_reported command_of brings_none (line + 1) ls cs s.1 in rw (s.0, reported) refl
-below_reported words line ls (AsksTree h cs) s = let reported = all_reported tree_command_of brings_token (line + 1) ls cs s.1 in rw (s.0, reported) refl
-below_reported words line ls (AsksBarrier h cs) s = let reported = all_reported barrier_command_of brings_none (line + 1) ls cs s.1 in rw (s.0, reported) refl
+below_reported words line ls (AsksPhaser h cs) s = let reported = all_reported command_of brings_none (line + 1) ls cs s.1 in
+    rw (s.0, reported) refl
+below_reported words line ls (AsksTree h cs) s = let reported = all_reported tree_command_of brings_token (line + 1) ls cs s.1 in
+    rw (s.0, reported) refl
+below_reported words line ls (AsksBarrier h cs) s = let reported = all_reported barrier_command_of brings_none (line + 1) ls cs s.1 in
+    rw (s.0, reported) refl
 
 -- and the head above them
 pub asked_said : (line : ℕ) (ls : List (List ℕ)) (asked : Asked) → asked_from line ls ≡ Ok asked → SayAsked (kept ls) asked
-asked_said line [] asked e = absurd (let wrong : ◌≡◌ {A = Result Asked Refusal} (Err (record { line = line; code = BadHeader })) (Ok asked) = e in cc)
+asked_said line [] asked e =
+    absurd (let wrong : ◌≡◌ {A = Result Asked Refusal} (Err (record { line = line; code = BadHeader })) (Ok asked) = e in cc)
 asked_said line (l ∷ ls) asked e = ⊎_elim
     (λ (skip : is_skipped (words_of l) ≡ true).
     let rest = asked_said (line + 1) ls asked (sym (skipped_head line l ls skip) ∙ e) in
@@ -238,14 +269,17 @@ asked_said line (l ∷ ls) asked e = ⊎_elim
     (λ (keep : is_skipped (words_of l) ≡ false).
     let first = bound (at line (head_of (words_of l))) (λ head. below head (line + 1) ls) asked (sym (head_here line l ls keep) ∙ e) in
     let says = below_said (words_of l) first.0 (line + 1) ls asked (at_ok line (head_of (words_of l)) first.0 first.1) first.2 in
-    let result : SayAsked (kept (l ∷ ls)) asked = rw (kept_line l ls keep) (record { head = words_of l; rest = kept ls; whole = refl; says = says }) in result)
+    let result : SayAsked (kept (l ∷ ls)) asked =
+    rw (kept_line l ls keep) (record { head = words_of l; rest = kept ls; whole = refl; says = says }) in
+    result)
     (either (is_skipped (words_of l)))
 
 pub asked_reported : (line : ℕ) (ls : List (List ℕ)) (asked : Asked) → SayAsked (kept ls) asked → asked_from line ls ≡ Ok asked
 asked_reported line [] asked s = absurd (let wrong : ◌≡◌ {A = List (List Word)} [] (s.head ∷ s.rest) = s.whole in cc)
 asked_reported line (l ∷ ls) asked s = ⊎_elim
     (λ (skip : is_skipped (words_of l) ≡ true).
-    let rest : SayAsked (kept ls) asked = record { head = s.head; rest = s.rest; whole = sym (kept_skipped l ls skip) ∙ s.whole; says = s.says } in
+    let rest : SayAsked (kept ls) asked =
+    record { head = s.head; rest = s.rest; whole = sym (kept_skipped l ls skip) ∙ s.whole; says = s.says } in
     skipped_head line l ls skip ∙ asked_reported (line + 1) ls asked rest)
     (λ (keep : is_skipped (words_of l) ≡ false).
     let parts : words_of l ∷ kept ls ≡ s.head ∷ s.rest = sym (kept_line l ls keep) ∙ s.whole in

@@ -25,7 +25,8 @@ module _ {C S : Type 0} (text : C → S → List ℕ) (after : C → S → S) wh
   next_text waits rest more c s e =
       ap (λ (cs : List C). waits ++ run_text text after cs s) e ∙ sym (append_assoc waits (text c s) (run_text text after more (after c s)))
 
-  pub runs_more : (old mid new : Option (List ℕ)) (waited waits : List ℕ) (all rest more : List C) (c : C) (s : S) (IsNow IsThen : S → Type 0)
+  pub runs_more : (old mid new : Option (List ℕ)) (waited waits : List ℕ) (all rest more : List C) (c : C) (s : S)
+      (IsNow IsThen : S → Type 0)
       → rest ≡ c ∷ more → RunsOn old mid waited all rest s IsNow
       → ((g : S) → IsNow g → Moves mid new waited waits (Ok tt) (text c g))
       → ((g : S) → IsNow g → IsThen (after c g))
@@ -37,35 +38,48 @@ module _ {C S : Type 0} (text : C → S → List ℕ) (after : C → S → S) wh
       let whole : waited ++ run_text text after rest g ≡ m.0 ++ (waits ++ later) =
       next_text waited rest more c g e ∙ ap (λ (t : List ℕ). t ++ later) m.1 ∙ append_assoc m.0 waits later in
       let split : Passed old mid (run_text text after all s) (m.0 ++ (waits ++ later)) = rw whole at r.written in
-      record { current = after c g; seen = next g r.seen; written = passed_part old mid new (run_text text after all s) m.0 (waits ++ later) split m.2 }
+      record {
+        current = after c g;
+        seen = next g r.seen;
+        written = passed_part old mid new (run_text text after all s) m.0 (waits ++ later) split m.2;
+      }
 
   begun : (old mid new : Option (List ℕ)) (waited : List ℕ) (all rest more : List C) (c : C) (s g : S)
-      → rest ≡ c ∷ more → Passed old mid (run_text text after all s) (waited ++ run_text text after rest g) → AppendsBeginning mid new (waited ++ text c g)
+      → rest ≡ c ∷ more → Passed old mid (run_text text after all s) (waited ++ run_text text after rest g)
+      → AppendsBeginning mid new (waited ++ text c g)
       → AppendsBeginning old new (run_text text after all s)
   begun old mid new waited all rest more c s g e p b =
-      let split : Passed old mid (run_text text after all s) ((waited ++ text c g) ++ run_text text after more (after c g)) = rw (next_text waited rest more c g e) at p in
+      let split : Passed old mid (run_text text after all s) ((waited ++ text c g) ++ run_text text after more (after c g)) =
+      rw (next_text waited rest more c g e) at p in
       passed_begun old mid new (run_text text after all s) (waited ++ text c g) (run_text text after more (after c g)) split b
 
-  pub runs_stopped : (old mid new : Option (List ℕ)) (waited waits : List ℕ) (all rest more : List C) (c : C) (s : S) (IsNow : S → Type 0) (fault : TraceFault)
+  pub runs_stopped : (old mid new : Option (List ℕ)) (waited waits : List ℕ) (all rest more : List C) (c : C) (s : S) (IsNow : S → Type 0)
+      (fault : TraceFault)
       → rest ≡ c ∷ more → RunsOn old mid waited all rest s IsNow
       → ((g : S) → IsNow g → Moves mid new waited waits (Err fault) (text c g))
       → Writes old new (Err fault) (run_text text after all s)
-  runs_stopped old mid new waited waits all rest more c s IsNow Write e r moves = begun old mid new waited all rest more c s r.current e r.written (moves r.current r.seen)
-  runs_stopped old mid new waited waits all rest more c s IsNow Memory e r moves = begun old mid new waited all rest more c s r.current e r.written (moves r.current r.seen)
+  runs_stopped old mid new waited waits all rest more c s IsNow Write e r moves =
+      begun old mid new waited all rest more c s r.current e r.written (moves r.current r.seen)
+  runs_stopped old mid new waited waits all rest more c s IsNow Memory e r moves =
+      begun old mid new waited all rest more c s r.current e r.written (moves r.current r.seen)
   runs_stopped old mid new waited waits all rest more c s IsNow Read e r moves = absurd (moves r.current r.seen)
   runs_stopped old mid new waited waits all rest more c s IsNow (Text t) e r moves = absurd (moves r.current r.seen)
 
   -- the last that waits is written, or a beginning of it
-  pub runs_whole : (old mid new : Option (List ℕ)) (waits : List ℕ) (all rest : List C) (s : S) (IsNow : S → Type 0) (result : Result (Unit {0}) TraceFault)
+  pub runs_whole : (old mid new : Option (List ℕ)) (waits : List ℕ) (all rest : List C) (s : S) (IsNow : S → Type 0)
+      (result : Result (Unit {0}) TraceFault)
       → rest ≡ [] → RunsOn old mid waits all rest s IsNow → Writes mid new result waits → Writes old new result (run_text text after all s)
   runs_whole old mid new waits all rest s IsNow (Ok x) e r done =
-      let last : Passed old mid (run_text text after all s) (waits ++ []) = rw (ap (λ (cs : List C). waits ++ run_text text after cs r.current) e) at r.written in
+      let last : Passed old mid (run_text text after all s) (waits ++ []) =
+      rw (ap (λ (cs : List C). waits ++ run_text text after cs r.current) e) at r.written in
       passed_whole old new (run_text text after all s) (passed_part old mid new (run_text text after all s) waits [] last done)
   runs_whole old mid new waits all rest s IsNow (Err Write) e r done =
-      let last : Passed old mid (run_text text after all s) (waits ++ []) = rw (ap (λ (cs : List C). waits ++ run_text text after cs r.current) e) at r.written in
+      let last : Passed old mid (run_text text after all s) (waits ++ []) =
+      rw (ap (λ (cs : List C). waits ++ run_text text after cs r.current) e) at r.written in
       passed_begun old mid new (run_text text after all s) waits [] last done
   runs_whole old mid new waits all rest s IsNow (Err Memory) e r done =
-      let last : Passed old mid (run_text text after all s) (waits ++ []) = rw (ap (λ (cs : List C). waits ++ run_text text after cs r.current) e) at r.written in
+      let last : Passed old mid (run_text text after all s) (waits ++ []) =
+      rw (ap (λ (cs : List C). waits ++ run_text text after cs r.current) e) at r.written in
       passed_begun old mid new (run_text text after all s) waits [] last done
   runs_whole old mid new waits all rest s IsNow (Err Read) e r done = absurd done
   runs_whole old mid new waits all rest s IsNow (Err (Text t)) e r done = absurd done
@@ -75,7 +89,8 @@ pub exact : {S : Type 0} {now : S} (P : S → Type 0) → P now → (s : S) → 
 exact P p s e = subst P (sym e) p
 
 -- a command without a flush, without memory, and with one
-pub moved_waits : (known : Option (List ℕ)) (waited waits text : List ℕ) → waits ≡ waited ++ text → Moves known known waited waits (Ok tt) text
+pub moved_waits : (known : Option (List ℕ)) (waited waits text : List ℕ) → waits ≡ waited ++ text
+    → Moves known known waited waits (Ok tt) text
 moved_waits known waited waits text e = ([], sym e, Appends-none known)
 
 pub moved_begin : (known : Option (List ℕ)) (waited waits text : List ℕ) → Moves known known waited waits (Err Memory) text
@@ -83,7 +98,8 @@ moved_begin known waited waits text = ([], waited ++ text, refl, Appends-none kn
 
 pub moved_out : (old new : Option (List ℕ)) (waited all waits text : List ℕ) (result : Result (Unit {0}) TraceFault) → all ≡ waited ++ text
     → (result ≡ Ok tt → waits ≡ []) → Writes old new result all → Moves old new waited waits result text
-moved_out old new waited all waits text (Ok x) e none done = (all, sym e ∙ sym (append-nil all) ∙ ap (λ (t : List ℕ). all ++ t) (sym (none refl)), done)
+moved_out old new waited all waits text (Ok x) e none done =
+    (all, sym e ∙ sym (append-nil all) ∙ ap (λ (t : List ℕ). all ++ t) (sym (none refl)), done)
 moved_out old new waited all waits text (Err Write) e none done = rw (← e) done
 moved_out old new waited all waits text (Err Memory) e none done = rw (← e) done
 moved_out old new waited all waits text (Err Read) e none done = absurd done
@@ -103,5 +119,6 @@ on_ok_always (Ok x) p = p
 on_ok_always (Err e) p = tt
 
 -- failures are counted from a point at which there had been none yet
-pub cause_from : {T : Type 0} (old mid new : ℕ) (result : Result T TraceFault) → mid ≡ old → WriteCause mid new result → WriteCause old new result
+pub cause_from : {T : Type 0} (old mid new : ℕ) (result : Result T TraceFault) → mid ≡ old → WriteCause mid new result
+    → WriteCause old new result
 cause_from old mid new result e h = subst (λ (n : ℕ). WriteCause n new result) e h

@@ -41,7 +41,8 @@ first-word b k w ws e = rw e refl
 
 -- ---- phasers
 
-pick : (b : Bool) (f : Form) (rest : Option Form) → (rest ≡ Some form.Await → ⊥) → (f ≡ form.Await → ⊥) → (if b then Some f else rest) ≡ Some form.Await → ⊥
+pick : (b : Bool) (f : Form) (rest : Option Form) → (rest ≡ Some form.Await → ⊥) → (f ≡ form.Await → ⊥)
+    → (if b then Some f else rest) ≡ Some form.Await → ⊥
 pick true f rest none apart e = apart cc
 pick false f rest none apart e = none e
 
@@ -68,7 +69,8 @@ unfit-bulk k w e = go (bytes_eq k (codes "await")) refl
     go true x = rw (x, e) refl
     go false x = rw (x, e) refl
 
-phaser-found : (o : Option Form) (k : Word) (ws : List Word) → form_of k ≡ o → formed o ws ≡ Err BadNumber → IsSome (command_fault true k ws)
+phaser-found : (o : Option Form) (k : Word) (ws : List Word) → form_of k ≡ o → formed o ws ≡ Err BadNumber
+    → IsSome (command_fault true k ws)
 phaser-found None k ws f e = absurd cc
 phaser-found (Some (form.Alone c)) k [] f e = absurd cc
 phaser-found (Some (form.Alone c)) k (w ∷ ws) f e = absurd (not-line e)
@@ -93,12 +95,14 @@ one-found k (w ∷ v ∷ ws) e = absurd (not-line e)
 join-found : (j t n : Word) → call_numbers (JoinWords t n) ≡ None → IsSome (join_fault (j ∷ t ∷ n ∷ []))
 join-found j t n e = go (up_to 4294967295 (number_of t)) (above_zero (up_to most_members (number_of n))) refl refl
   where
-    go : (a b : Option ℕ) → up_to 4294967295 (number_of t) ≡ a → above_zero (up_to most_members (number_of n)) ≡ b → IsSome (join_fault (j ∷ t ∷ n ∷ []))
+    go : (a b : Option ℕ) → up_to 4294967295 (number_of t) ≡ a → above_zero (up_to most_members (number_of n)) ≡ b
+        → IsSome (join_fault (j ∷ t ∷ n ∷ []))
     go None b x y = rw x refl
     go (Some a) None x y = rw (x, y) refl
     go (Some a) (Some b) x y = absurd (let bad : Some _ ≡ None = rw (x, y) at e in cc)
 
-call-found : (k w : Word) (ws : List Word) (o : Option CallWords) → call_words ws ≡ o → with_call w o ≡ Err BadNumber → IsSome (command_fault false k (w ∷ ws))
+call-found : (k w : Word) (ws : List Word) (o : Option CallWords) → call_words ws ≡ o → with_call w o ≡ Err BadNumber
+    → IsSome (command_fault false k (w ∷ ws))
 call-found k w ws None c e = absurd (not-line e)
 call-found k w ws (Some calls) c e = go (up_to 4294967295 (number_of w)) refl
   where
@@ -108,13 +112,17 @@ call-found k w ws (Some calls) c e = go (up_to 4294967295 (number_of w)) refl
       where
         alone : (o : Option TokenCall) (us : List Word) → words.alone_words o us ≡ Some calls → ⊥
         alone None us z = absurd cc
-        alone (Some a) [] z = let same : words.Alone a ≡ calls = cc in let bad : Some a ≡ None = subst (λ (c : CallWords). call_numbers c ≡ None) (sym same) y in absurd cc
+        alone (Some a) [] z = let same : words.Alone a ≡ calls = cc in
+            let bad : Some a ≡ None = subst (λ (c : CallWords). call_numbers c ≡ None) (sym same) y in
+            absurd cc
         alone (Some a) (u ∷ us) z = absurd cc
 
-        by : (b : Bool) (us : List Word) → (if b then words.join_words us else words.alone_words (call_alone j) us) ≡ Some calls → IsSome (join_fault (j ∷ us))
+        by : (b : Bool) (us : List Word) → (if b then words.join_words us else words.alone_words (call_alone j) us) ≡ Some calls
+            → IsSome (join_fault (j ∷ us))
         by true [] z = absurd cc
         by true (t ∷ []) z = absurd cc
-        by true (t ∷ n ∷ []) z = let same : JoinWords t n ≡ calls = cc in join-found j t n (subst (λ (c : CallWords). call_numbers c ≡ None) (sym same) y)
+        by true (t ∷ n ∷ []) z = let same : JoinWords t n ≡ calls = cc in
+            join-found j t n (subst (λ (c : CallWords). call_numbers c ≡ None) (sym same) y)
         by true (t ∷ n ∷ m ∷ us) z = absurd cc
         by false us z = absurd (alone (call_alone j) us z)
 
@@ -141,7 +149,8 @@ tree-found (Some tree.Run) k ws e = one-found k ws (made-err _ (one_number ws) B
 tree-found (Some tree.Do) k ws e = token-found k ws (made-err _ (token_and_call ws) BadNumber e)
 tree-found (Some tree.Show) k ws e = one-found k ws (made-err _ (one_number ws) BadNumber e)
 
-barrier-found : (o : Option BarrierForm) (k : Word) (ws : List Word) → barrier_formed o ws ≡ Err BadNumber → IsSome (command_fault false k ws)
+barrier-found : (o : Option BarrierForm) (k : Word) (ws : List Word) → barrier_formed o ws ≡ Err BadNumber
+    → IsSome (command_fault false k ws)
 barrier-found None k ws e = absurd cc
 barrier-found (Some barrier.Await) k ws e = one-found k ws (made-err _ (one_number ws) BadNumber e)
 barrier-found (Some barrier.Abandon) k ws e = one-found k ws (made-err _ (one_number ws) BadNumber e)

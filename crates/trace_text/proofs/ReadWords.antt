@@ -20,7 +20,8 @@ pub from-map : {A B : Type 0} (f : A → B) (o : Option A) (b : B) → option_ma
 from-map f (Some a) b e = (a, refl, cc)
 from-map {A} {B} f None b e = absurd (let wrong : ◌≡◌ {A = Option B} None (Some b) = e in cc)
 
-pub from-next : {A B : Type 0} (f : A → Option B) (o : Option A) (b : B) → option_and_then f o ≡ Some b → (a : A) × (o ≡ Some a) × (f a ≡ Some b)
+pub from-next : {A B : Type 0} (f : A → Option B) (o : Option A) (b : B) → option_and_then f o ≡ Some b
+    → (a : A) × (o ≡ Some a) × (f a ≡ Some b)
 from-next f (Some a) b e = (a, refl, e)
 from-next {A} {B} f None b e = absurd (let wrong : ◌≡◌ {A = Option B} None (Some b) = e in cc)
 

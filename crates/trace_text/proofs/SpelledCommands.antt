@@ -50,7 +50,8 @@ first_word Bulk = codes "bulk"
 first_word Await = codes "await"
 
 -- a keyword's form, or that of another
-one_word : (w k : Word) (f g : Form) (rest : Option Form) → k ≡ first_word f → cond {A = Option Form} (bytes_eq w k) (Some f) rest ≡ Some g → (w ≡ first_word g) ⊎ (rest ≡ Some g)
+one_word : (w k : Word) (f g : Form) (rest : Option Form) → k ≡ first_word f → cond {A = Option Form} (bytes_eq w k) (Some f) rest ≡ Some g
+    → (w ≡ first_word g) ⊎ (rest ≡ Some g)
 one_word w k f g rest e h = chosen (bytes_eq w k) refl h
   where
     chosen : (b : Bool) → bytes_eq w k ≡ b → cond {A = Option Form} b (Some f) rest ≡ Some g → (w ≡ first_word g) ⊎ (rest ≡ Some g)
@@ -75,7 +76,8 @@ form_said w g e =
     (one_word w (codes "register") (Alone (Call call.Register)) g _ refl e)
 
 -- an answer of a number
-numbered : (o : Option ℤ) (make : ℤ → PhaserCommand) (c : PhaserCommand) → or_else BadNumber (option_map make o) ≡ Ok c → (n : ℤ) × (o ≡ Some n) × (make n ≡ c)
+numbered : (o : Option ℤ) (make : ℤ → PhaserCommand) (c : PhaserCommand) → or_else BadNumber (option_map make o) ≡ Ok c
+    → (n : ℤ) × (o ≡ Some n) × (make n ≡ c)
 numbered None make c e = absurd (let wrong : ◌≡◌ {A = Result PhaserCommand Code} (Err BadNumber) (Ok c) = e in cc)
 numbered (Some n) make c e = (n, refl, cc)
 
@@ -83,17 +85,24 @@ narrow : (o : Option ℤ) (n : ℤ) → of_32_bits o ≡ Some n → (o ≡ Some 
 narrow None n e = absurd (let wrong : ◌≡◌ {A = Option ℤ} None (Some n) = e in cc)
 narrow (Some (pos k)) n e = chosen (nat_lt k (2 ^ 31)) refl e
   where
-    chosen : (b : Bool) → nat_lt k (2 ^ 31) ≡ b → cond {A = Option ℤ} b (Some (pos k)) None ≡ Some n → (◌≡◌ {A = Option ℤ} (Some (pos k)) (Some n)) × FitsSigned w32 n
-    chosen true t h = let same : pos k ≡ n = cc in let fits : FitsSigned w32 (pos k) = grind (arith, common_steps, ints) in (h, rw (← same) fits)
+    chosen : (b : Bool) → nat_lt k (2 ^ 31) ≡ b → cond {A = Option ℤ} b (Some (pos k)) None ≡ Some n
+        → (◌≡◌ {A = Option ℤ} (Some (pos k)) (Some n)) × FitsSigned w32 n
+    chosen true t h = let same : pos k ≡ n = cc in
+        let fits : FitsSigned w32 (pos k) = grind (arith, common_steps, ints) in
+        (h, rw (← same) fits)
     chosen false t h = absurd (let wrong : ◌≡◌ {A = Option ℤ} None (Some n) = h in cc)
 narrow (Some (negsuc k)) n e = chosen (nat_lt k (2 ^ 31)) refl e
   where
-    chosen : (b : Bool) → nat_lt k (2 ^ 31) ≡ b → cond {A = Option ℤ} b (Some (negsuc k)) None ≡ Some n → (◌≡◌ {A = Option ℤ} (Some (negsuc k)) (Some n)) × FitsSigned w32 n
-    chosen true t h = let same : negsuc k ≡ n = cc in let fits : FitsSigned w32 (negsuc k) = grind (arith, common_steps, ints) in (h, rw (← same) fits)
+    chosen : (b : Bool) → nat_lt k (2 ^ 31) ≡ b → cond {A = Option ℤ} b (Some (negsuc k)) None ≡ Some n
+        → (◌≡◌ {A = Option ℤ} (Some (negsuc k)) (Some n)) × FitsSigned w32 n
+    chosen true t h = let same : negsuc k ≡ n = cc in
+        let fits : FitsSigned w32 (negsuc k) = grind (arith, common_steps, ints) in
+        (h, rw (← same) fits)
     chosen false t h = absurd (let wrong : ◌≡◌ {A = Option ℤ} None (Some n) = h in cc)
 
 -- a command alone
-alone : (w : Word) (ws : List Word) (x c : PhaserCommand) → spelled x ≡ w ∷ [] → HasRoom x → formed (Some (Alone x)) ws ≡ Ok c → (w ∷ ws ≡ spelled c) × HasRoom c
+alone : (w : Word) (ws : List Word) (x c : PhaserCommand) → spelled x ≡ w ∷ [] → HasRoom x → formed (Some (Alone x)) ws ≡ Ok c
+    → (w ∷ ws ≡ spelled c) × HasRoom c
 alone w [] x c s r h =
     let same : x ≡ c = cc in
     let P : PhaserCommand → Type 0 = λ y. (w ∷ [] ≡ spelled y) × HasRoom y in
@@ -108,7 +117,8 @@ nothing : (w : Word) (f : Form) → w ≡ [] → form_of w ≡ Some f → {A : T
 nothing w f e t = absurd (let wrong : ◌≡◌ {A = Option Form} None (Some f) = ap form_of (sym e) ∙ t in cc)
 
 -- what a form and the words after it say
-said : (w : Word) (ws : List Word) (f : Form) (c : PhaserCommand) → w ≡ first_word f → form_of w ≡ Some f → formed (Some f) ws ≡ Ok c → (w ∷ ws ≡ spelled c) × HasRoom c
+said : (w : Word) (ws : List Word) (f : Form) (c : PhaserCommand) → w ≡ first_word f → form_of w ≡ Some f → formed (Some f) ws ≡ Ok c
+    → (w ∷ ws ≡ spelled c) × HasRoom c
 said w ws (Alone (Call call.Register)) c e t h = alone w ws (Call call.Register) c (ap (λ (v : Word). v ∷ []) (sym e)) tt h
 said w ws (Alone (Call (call.Bulk n))) c e t h = nothing w (Alone (Call (call.Bulk n))) e t
 said w ws (Alone (Call call.Arrive)) c e t h = alone w ws (Call call.Arrive) c (ap (λ (v : Word). v ∷ []) (sym e)) tt h
@@ -132,7 +142,8 @@ said w (v ∷ []) Await c e t h =
     subst P number.2 (ap (λ (k : Word). k ∷ v ∷ []) e ∙ ap (λ (k : Word). codes "await" ∷ k ∷ []) text.0, small.1)
 said w (v ∷ u ∷ ws) Await c e t h = refused c h
 
-by_form : (w : Word) (ws : List Word) (o : Option Form) (c : PhaserCommand) → form_of w ≡ o → formed o ws ≡ Ok c → (w ∷ ws ≡ spelled c) × HasRoom c
+by_form : (w : Word) (ws : List Word) (o : Option Form) (c : PhaserCommand) → form_of w ≡ o → formed o ws ≡ Ok c
+    → (w ∷ ws ≡ spelled c) × HasRoom c
 by_form w ws None c t h = absurd (let wrong : ◌≡◌ {A = Result PhaserCommand Code} (Err UnknownLine) (Ok c) = h in cc)
 by_form w ws (Some f) c t h = said w ws f c (form_said w f t) t h
 

@@ -34,19 +34,23 @@ above (suc n) h = refl
 
 join-read : (tier n : ℕ) → IsSmall tier → 1 ≤ n → n ≤ 65535 → call_numbers (JoinWords (decimal tier) (decimal n)) ≡ Some (token.Join tier n)
 join-read tier n t low high =
-    ap (λ (o : Option ℕ). option_and_then (λ (t : ℕ). option_map (λ (m : ℕ). token.Join t m) (above_zero (up_to 65535 (number_of (decimal n))))) o)
+    ap
+    (λ (o : Option ℕ). option_and_then (λ (t : ℕ). option_map (λ (m : ℕ). token.Join t m) (above_zero (up_to 65535 (number_of (decimal n))))) o)
     (up-to-read 4294967295 tier (omega arith) t)
     ∙ ap (λ (o : Option ℕ). option_map (λ (m : ℕ). token.Join tier m) (above_zero o)) (up-to-read 65535 n (omega arith) high)
     ∙ ap (λ (o : Option ℕ). option_map (λ (m : ℕ). token.Join tier m) o) (above n low)
 
-with-read : (k : ℕ) (words : CallWords) (c : TokenCall) → IsSmall k → call_numbers words ≡ Some c → with_call (decimal k) (Some words) ≡ Ok (k, c)
+with-read : (k : ℕ) (words : CallWords) (c : TokenCall) → IsSmall k → call_numbers words ≡ Some c
+    → with_call (decimal k) (Some words) ≡ Ok (k, c)
 with-read k words c h e =
-    ap (λ (o : Option ℕ). or_else BadNumber (option_and_then (λ (t : ℕ). option_map (λ (call : TokenCall). (t, call)) (call_numbers words)) o))
+    ap
+    (λ (o : Option ℕ). or_else BadNumber (option_and_then (λ (t : ℕ). option_map (λ (call : TokenCall). (t, call)) (call_numbers words)) o))
     (up-to-read 4294967295 k (omega arith) h)
     ∙ ap (λ (o : Option TokenCall). or_else BadNumber (option_map (λ (call : TokenCall). (k, call)) o)) e
 
 token-read : (k : ℕ) (c : TokenCall) → IsSmall k → CallHasRoom c → token_and_call (decimal k ∷ call_spelled c) ≡ Ok (k, c)
-token-read k (token.Join tier n) h r = with-read k (JoinWords (decimal tier) (decimal n)) (token.Join tier n) h (join-read tier n r.0 r.1 r.2)
+token-read k (token.Join tier n) h r =
+    with-read k (JoinWords (decimal tier) (decimal n)) (token.Join tier n) h (join-read tier n r.0 r.1 r.2)
 token-read k token.Arrive h r = with-read k (Alone token.Arrive) token.Arrive h refl
 token-read k token.Leave h r = with-read k (Alone token.Leave) token.Leave h refl
 token-read k token.Poll h r = with-read k (Alone token.Poll) token.Poll h refl
@@ -91,10 +95,14 @@ join-said w t n c j e =
     let tier = up-to-said 4294967295 a.0 t a.1 in
     let members = up-to-said 65535 b.0 n d.0 in
     let P : TokenCall → Type 0 = λ x. CallSaid (w ∷ t ∷ n ∷ []) x in
-    subst P b.2
-    (ap (λ (x : Word). x ∷ t ∷ n ∷ []) j ∙ ap (λ (x : Word). codes "join" ∷ x ∷ n ∷ []) tier.0 ∙ ap (λ (x : Word). codes "join" ∷ decimal a.0 ∷ x ∷ []) members.0, (tier.1, d.1, members.1))
+    subst P b.2 (
+      ap (λ (x : Word). x ∷ t ∷ n ∷ []) j ∙ ap (λ (x : Word). codes "join" ∷ x ∷ n ∷ []) tier.0
+          ∙ ap (λ (x : Word). codes "join" ∷ decimal a.0 ∷ x ∷ []) members.0,
+      (tier.1, d.1, members.1),
+    )
 
-joined-said : (w : Word) (ws : List Word) (words : CallWords) (c : TokenCall) → w ≡ codes "join" → join_words ws ≡ Some words → call_numbers words ≡ Some c → CallSaid (w ∷ ws) c
+joined-said : (w : Word) (ws : List Word) (words : CallWords) (c : TokenCall) → w ≡ codes "join" → join_words ws ≡ Some words
+    → call_numbers words ≡ Some c → CallSaid (w ∷ ws) c
 joined-said w [] words c j e h = by-none words e
 joined-said w (t ∷ []) words c j e h = by-none words e
 joined-said w (t ∷ n ∷ []) words c j e h =
@@ -110,7 +118,8 @@ alone-said w c =
     (by-word P w (codes "poll") token.Poll c _ (λ e. (ap (λ (x : Word). x ∷ []) e, tt))
     (by-word P w (codes "force") token.Force c _ (λ e. (ap (λ (x : Word). x ∷ []) e, tt)) (λ e. by-none c e))))
 
-others-said : (w : Word) (ws : List Word) (o : Option TokenCall) (words : CallWords) (c : TokenCall) → call_alone w ≡ o → alone_words o ws ≡ Some words
+others-said : (w : Word) (ws : List Word) (o : Option TokenCall) (words : CallWords) (c : TokenCall) → call_alone w ≡ o
+    → alone_words o ws ≡ Some words
     → call_numbers words ≡ Some c → CallSaid (w ∷ ws) c
 others-said w ws None words c o e h = by-none words e
 others-said w (v ∷ ws) (Some x) words c o e h = by-none words e
@@ -123,14 +132,16 @@ call-said : (ws : List Word) (words : CallWords) (c : TokenCall) → call_words 
 call-said [] words c e h = by-none words e
 call-said (w ∷ ws) words c e h = chosen (bytes_eq w (codes "join")) refl e
   where
-    chosen : (b : Bool) → bytes_eq w (codes "join") ≡ b → cond {A = Option CallWords} b (join_words ws) (alone_words (call_alone w) ws) ≡ Some words → CallSaid (w ∷ ws) c
+    chosen : (b : Bool) → bytes_eq w (codes "join") ≡ b
+        → cond {A = Option CallWords} b (join_words ws) (alone_words (call_alone w) ws) ≡ Some words → CallSaid (w ∷ ws) c
     chosen true t k = joined-said w ws words c ((bytes_eq-Decides w (codes "join")).0 t) k h
     chosen false t k = others-said w ws (call_alone w) words c refl k h
 
 abbrev TokenSaid : List Word → ℕ × TokenCall → Type 0
 TokenSaid ws p = (ws ≡ decimal p.0 ∷ call_spelled p.1) × (IsSmall p.0 × CallHasRoom p.1)
 
-with-said : (k : Word) (ws : List Word) (o : Option CallWords) (p : ℕ × TokenCall) → call_words ws ≡ o → with_call k o ≡ Ok p → TokenSaid (k ∷ ws) p
+with-said : (k : Word) (ws : List Word) (o : Option CallWords) (p : ℕ × TokenCall) → call_words ws ≡ o → with_call k o ≡ Ok p
+    → TokenSaid (k ∷ ws) p
 with-said k ws None p o e = absurd (let wrong : ◌≡◌ {A = Result (ℕ × TokenCall) Code} (Err BadLine) (Ok p) = e in cc)
 with-said k ws (Some words) p o e =
     let a = from-next _ (up_to 4294967295 (number_of k)) p (from-or BadNumber _ p e) in
@@ -167,7 +178,8 @@ abbrev TreeSaid : List Word → TreeCommand → Type 0
 TreeSaid words c = (words ≡ tree_spelled c) × TreeHasRoom c
 
 numbered-said : (w key : Word) (ws : List Word) (make : ℕ → TreeCommand) (c : TreeCommand) → w ≡ key
-    → ((k : ℕ) → tree_spelled (make k) ≡ key ∷ decimal k ∷ []) → ((k : ℕ) → IsSmall k → TreeHasRoom (make k)) → made make (one_number ws) ≡ Ok c → TreeSaid (w ∷ ws) c
+    → ((k : ℕ) → tree_spelled (make k) ≡ key ∷ decimal k ∷ []) → ((k : ℕ) → IsSmall k → TreeHasRoom (make k))
+    → made make (one_number ws) ≡ Ok c → TreeSaid (w ∷ ws) c
 numbered-said w key ws make c e spell capacity h =
     let a = from-made make (one_number ws) c h in
     let s = one-said ws a.0 a.1 in
@@ -175,14 +187,16 @@ numbered-said w key ws make c e spell capacity h =
 
 called-said : (w key : Word) (ws : List Word) (make : ℕ → TokenCall → TreeCommand) (c : TreeCommand) → w ≡ key
     → ((k : ℕ) (t : TokenCall) → tree_spelled (make k t) ≡ key ∷ decimal k ∷ call_spelled t)
-    → ((k : ℕ) (t : TokenCall) → IsSmall k → CallHasRoom t → TreeHasRoom (make k t)) → made (λ p. make p.0 p.1) (token_and_call ws) ≡ Ok c → TreeSaid (w ∷ ws) c
+    → ((k : ℕ) (t : TokenCall) → IsSmall k → CallHasRoom t → TreeHasRoom (make k t)) → made (λ p. make p.0 p.1) (token_and_call ws) ≡ Ok c
+    → TreeSaid (w ∷ ws) c
 called-said w key ws make c e spell capacity h =
     let a = from-made (λ p. make p.0 p.1) (token_and_call ws) c h in
     let s = token-said ws a.0 a.1 in
     subst (TreeSaid (w ∷ ws)) a.2
     (ap (λ (x : Word). x ∷ ws) e ∙ ap (λ (x : List Word). key ∷ x) s.0 ∙ sym (spell a.0.0 a.0.1), capacity a.0.0 a.0.1 s.1.0 s.1.1)
 
-tree-formed-said : (w : Word) (ws : List Word) (f : Form) (c : TreeCommand) → w ≡ tree_first f → tree_formed (Some f) ws ≡ Ok c → TreeSaid (w ∷ ws) c
+tree-formed-said : (w : Word) (ws : List Word) (f : Form) (c : TreeCommand) → w ≡ tree_first f → tree_formed (Some f) ws ≡ Ok c
+    → TreeSaid (w ∷ ws) c
 tree-formed-said w [] form.Token c e h = let same : tree.Token ≡ c = cc in subst (TreeSaid (w ∷ [])) same (ap (λ (x : Word). x ∷ []) e, tt)
 tree-formed-said w (v ∷ ws) form.Token c e h = absurd (let wrong : ◌≡◌ {A = Result TreeCommand Code} (Err BadLine) (Ok c) = h in cc)
 tree-formed-said w ws form.Begin c e h = called-said w (codes "begin") ws (λ k t. tree.Begin k t) c e (λ k t. refl) (λ k t a b. (a, b)) h
@@ -192,7 +206,8 @@ tree-formed-said w ws form.Run c e h = numbered-said w (codes "run") ws (λ k. t
 tree-formed-said w ws form.Do c e h = called-said w (codes "do") ws (λ k t. tree.Do k t) c e (λ k t. refl) (λ k t a b. (a, b)) h
 tree-formed-said w ws form.Show c e h = numbered-said w (codes "show") ws (λ k. tree.Show k) c e (λ k. refl) (λ k a. a) h
 
-by-tree-form : (w : Word) (ws : List Word) (o : Option Form) (c : TreeCommand) → tree_form_of w ≡ o → tree_formed o ws ≡ Ok c → TreeSaid (w ∷ ws) c
+by-tree-form : (w : Word) (ws : List Word) (o : Option Form) (c : TreeCommand) → tree_form_of w ≡ o → tree_formed o ws ≡ Ok c
+    → TreeSaid (w ∷ ws) c
 by-tree-form w ws None c t h = absurd (let wrong : ◌≡◌ {A = Result TreeCommand Code} (Err UnknownLine) (Ok c) = h in cc)
 by-tree-form w ws (Some f) c t h = tree-formed-said w ws f c (tree-form-said w f t) h
 
@@ -219,20 +234,26 @@ barrier-form-said w f =
     (by-word P w (codes "show") (barrier_form.Alone barrier.Show) f _ (λ e. (ap (λ (x : Word). x ∷ []) e, tt)) (λ e. by-none f e)))))
 
 caller-said : (w key : Word) (ws : List Word) (make : ℕ → BarrierCommand) (c : BarrierCommand) → w ≡ key
-    → ((k : ℕ) → barrier_spelled (make k) ≡ key ∷ decimal k ∷ []) → ((k : ℕ) → IsSmall k → BarrierHasRoom (make k)) → made make (one_number ws) ≡ Ok c
+    → ((k : ℕ) → barrier_spelled (make k) ≡ key ∷ decimal k ∷ []) → ((k : ℕ) → IsSmall k → BarrierHasRoom (make k))
+    → made make (one_number ws) ≡ Ok c
     → BarrierSaid (w ∷ ws) c
 caller-said w key ws make c e spell capacity h =
     let a = from-made make (one_number ws) c h in
     let s = one-said ws a.0 a.1 in
     subst (BarrierSaid (w ∷ ws)) a.2 (ap (λ (x : Word). x ∷ ws) e ∙ ap (λ (x : List Word). key ∷ x) s.0 ∙ sym (spell a.0), capacity a.0 s.1)
 
-barrier-formed-said : (w : Word) (ws : List Word) (f : BarrierForm) (c : BarrierCommand) → FormSaid w f → barrier_formed (Some f) ws ≡ Ok c → BarrierSaid (w ∷ ws) c
-barrier-formed-said w ws barrier_form.Await c e h = caller-said w (codes "await") ws (λ k. barrier.Call (gate.Await k)) c e (λ k. refl) (λ k a. a) h
-barrier-formed-said w ws barrier_form.Abandon c e h = caller-said w (codes "abandon") ws (λ k. barrier.Call (gate.Abandon k)) c e (λ k. refl) (λ k a. a) h
+barrier-formed-said : (w : Word) (ws : List Word) (f : BarrierForm) (c : BarrierCommand) → FormSaid w f → barrier_formed (Some f) ws ≡ Ok c
+    → BarrierSaid (w ∷ ws) c
+barrier-formed-said w ws barrier_form.Await c e h =
+    caller-said w (codes "await") ws (λ k. barrier.Call (gate.Await k)) c e (λ k. refl) (λ k a. a) h
+barrier-formed-said w ws barrier_form.Abandon c e h =
+    caller-said w (codes "abandon") ws (λ k. barrier.Call (gate.Abandon k)) c e (λ k. refl) (λ k a. a) h
 barrier-formed-said w [] (barrier_form.Alone x) c e h = let same : x ≡ c = cc in subst (BarrierSaid (w ∷ [])) same e
-barrier-formed-said w (v ∷ ws) (barrier_form.Alone x) c e h = absurd (let wrong : ◌≡◌ {A = Result BarrierCommand Code} (Err BadLine) (Ok c) = h in cc)
+barrier-formed-said w (v ∷ ws) (barrier_form.Alone x) c e h =
+    absurd (let wrong : ◌≡◌ {A = Result BarrierCommand Code} (Err BadLine) (Ok c) = h in cc)
 
-by-barrier-form : (w : Word) (ws : List Word) (o : Option BarrierForm) (c : BarrierCommand) → barrier_form_of w ≡ o → barrier_formed o ws ≡ Ok c → BarrierSaid (w ∷ ws) c
+by-barrier-form : (w : Word) (ws : List Word) (o : Option BarrierForm) (c : BarrierCommand) → barrier_form_of w ≡ o
+    → barrier_formed o ws ≡ Ok c → BarrierSaid (w ∷ ws) c
 by-barrier-form w ws None c t h = absurd (let wrong : ◌≡◌ {A = Result BarrierCommand Code} (Err UnknownLine) (Ok c) = h in cc)
 by-barrier-form w ws (Some f) c t h = barrier-formed-said w ws f c (barrier-form-said w f t) h
 

@@ -68,12 +68,16 @@ few_parties n (pos m) e f = chosen (nat_le n 65535) refl
   where
     chosen : (b : Bool) → nat_le n 65535 ≡ b → nat_le n 65535 ≡ true
     chosen true h = h
-    chosen false h = let same : n ≡ m = cc in let many : 65535 < m = grind (arith, common_steps) in absurd (f (inr (grind (arith, common_steps, ints))))
+    chosen false h = let same : n ≡ m = cc in
+        let many : 65535 < m = grind (arith, common_steps) in
+        absurd (f (inr (grind (arith, common_steps, ints))))
 few_parties n (negsuc m) e f = absurd (let wrong : ◌≡◌ {A = ℤ} (pos n) (negsuc m) = e in cc)
 
-pub opened_writes : (old new : Option (List ℕ)) (result : Result (Unit {0}) TraceFault) (plan : CountPlan) (cs : List PhaserCommand) (phase n : ℕ) (parties : ℤ)
+pub opened_writes : (old new : Option (List ℕ)) (result : Result (Unit {0}) TraceFault) (plan : CountPlan) (cs : List PhaserCommand)
+    (phase n : ℕ) (parties : ℤ)
     → pos n ≡ parties → ((parties <ℤ pos 0) ⊎ (pos 65535 <ℤ parties) → ⊥)
-    → Writes old new result (run_text command_text (command_after plan) cs (opened n phase)) → Writes old new result (opened_text plan cs phase parties)
+    → Writes old new result (run_text command_text (command_after plan) cs (opened n phase))
+    → Writes old new result (opened_text plan cs phase parties)
 opened_writes old new result plan cs phase n parties e f w =
     let few : nat_le n 65535 ≡ true = few_parties n parties e f in
     rw (← e, few) w

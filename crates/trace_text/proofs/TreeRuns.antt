@@ -6,7 +6,8 @@ use Rattle.trace_text.specs.TreeAnswers.{advance_reported, going_on, is_underway
 
 next_text : (n token : ℕ) (s : State) → rest_text (suc n) token s
     ≡ advance_reported s token
-    ++ cond (is_underway (answer_to s (going_on s token))) (rest_text n token (after s (going_on s token))) (answer_text (answer_to s (going_on s token)))
+    ++ cond (is_underway (answer_to s (going_on s token))) (rest_text n token (after s (going_on s token)))
+    (answer_text (answer_to s (going_on s token)))
 unfolding rest_text
 next_text n token s = refl
 
@@ -19,7 +20,8 @@ left_one : (i : ℕ) → i < 16 → 16 - i ≡ suc (16 - (i + 1))
 left_one i h = omega arith
 
 -- a step that the call goes on from
-pub goes_text : (out reported total : List ℕ) (i token : ℕ) (s : State) → i < 16 → reported ≡ out ++ advance_reported s token → is_underway (answer_to s (going_on s token)) ≡ true
+pub goes_text : (out reported total : List ℕ) (i token : ℕ) (s : State) → i < 16 → reported ≡ out ++ advance_reported s token
+    → is_underway (answer_to s (going_on s token)) ≡ true
     → out ++ rest_text (16 - i) token s ≡ total → reported ++ rest_text (16 - (i + 1)) token (after s (going_on s token)) ≡ total
 goes_text out reported total i token s h t u e =
     let left : 16 - i ≡ suc (16 - (i + 1)) = left_one i h in
@@ -34,10 +36,12 @@ pub goes_after : (total : State) (i token : ℕ) (s : State) → i < 16 → is_u
 goes_after total i token s h u e =
     let left : 16 - i ≡ suc (16 - (i + 1)) = left_one i h in
     let later : State = rest_after (16 - (i + 1)) token (after s (going_on s token)) in
-    sym (ap (λ n. rest_after n token s) left ∙ next_after (16 - (i + 1)) token s ∙ ap (λ b. cond b later (after s (going_on s token))) u) ∙ e
+    sym (ap (λ n. rest_after n token s) left ∙ next_after (16 - (i + 1)) token s ∙ ap (λ b. cond b later (after s (going_on s token))) u)
+    ∙ e
 
 -- the step that it ends with
-pub ends_text : (out reported total : List ℕ) (i token : ℕ) (s : State) → i < 16 → reported ≡ out ++ advance_reported s token → is_underway (answer_to s (going_on s token)) ≡ false
+pub ends_text : (out reported total : List ℕ) (i token : ℕ) (s : State) → i < 16 → reported ≡ out ++ advance_reported s token
+    → is_underway (answer_to s (going_on s token)) ≡ false
     → out ++ rest_text (16 - i) token s ≡ total → reported ++ answer_text (answer_to s (going_on s token)) ≡ total
 ends_text out reported total i token s h t u e =
     let left : 16 - i ≡ suc (16 - (i + 1)) = left_one i h in

@@ -84,7 +84,8 @@ abbrev pub barrier_of : Option ℕ → List BarrierCommand → ℤ → List ℕ
 barrier_of fails commands (negsuc n) = barrier_fault_text NoParty
 barrier_of fails commands (pos zero) = barrier_fault_text NoParty
 barrier_of fails commands (pos (suc n)) =
-    if nat_le (suc n) 65535 then run_text (barrier_text fails) (barrier_after fails) commands (fresh (suc n)) else barrier_fault_text TooMany
+    if nat_le (suc n) 65535 then run_text (barrier_text fails) (barrier_after fails) commands (fresh (suc n))
+    else barrier_fault_text TooMany
 
 abbrev pub barrier_opened_text : BarrierHead → List BarrierCommand → List ℕ
 barrier_opened_text head commands = barrier_of head.fails commands head.parties

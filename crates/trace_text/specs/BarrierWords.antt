@@ -38,7 +38,8 @@ generation_if (Some w) = option_map Some (not_below_zero (number_of w))
 -- The head that its words give: any number of parties, and a generation of 0 to 9223372036854775807 in which the action fails, or none.
 abbrev pub barrier_head_numbers : BarrierHeadWords → Option BarrierHead
 barrier_head_numbers h =
-    option_and_then (λ parties. option_and_then (λ fails. Some (record { parties = parties; fails = fails })) (generation_if h.fails)) (number_of h.parties)
+    option_and_then (λ parties. option_and_then (λ fails. Some (record { parties = parties; fails = fails })) (generation_if h.fails))
+    (number_of h.parties)
 
 -- too few, too many or misplaced words are reported before numbers
 abbrev pub barrier_numbered : Option BarrierHeadWords → Result BarrierHead Code

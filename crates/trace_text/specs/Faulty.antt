@@ -40,7 +40,8 @@ head_fault k (w ∷ ws) =
 
 -- the tier and the members of a join
 abbrev pub join_fault : List Word → Option ℕ
-join_fault (j ∷ t ∷ n ∷ ws) = if not (fits 4294967295 t) then Some 3 else if is_some (above_zero (up_to most_members (number_of n))) then None else Some 4
+join_fault (j ∷ t ∷ n ∷ ws) =
+    if not (fits 4294967295 t) then Some 3 else if is_some (above_zero (up_to most_members (number_of n))) then None else Some 4
 join_fault _ = None
 
 -- whether a word may be the number behind the first word of a command

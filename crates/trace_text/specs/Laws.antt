@@ -24,7 +24,8 @@ abbrev pub kept : List (List ℕ) → List (List Word)
 kept lines = filter (λ words. not (is_skipped words)) (map words_of lines)
 
 -- These lines are the commands, in order, within the limits.
-pub record SaysCommands {C : Type 0} (says : List Word → Result C Code) (brings : C → Bool) (lines : List (List Word)) (commands : List C) : Type 0 where
+pub record SaysCommands {C : Type 0} (says : List Word → Result C Code) (brings : C → Bool) (lines : List (List Word))
+    (commands : List C) : Type 0 where
   pub each : map says lines ≡ map Ok commands
   pub few : length commands ≤ most_commands
   pub tokens : length (filter brings commands) ≤ 256
@@ -130,7 +131,8 @@ pub record CommandsAreSpelled : Type 0 where
 -- it.
 abbrev pub RefusesByItself : {C : Type 0} → (List Word → Result C Code) → (C → Bool) → Type 0
 RefusesByItself {C} says brings =
-    (line count tokens : ℕ) (this : List ℕ) (below : List (List ℕ)) (code : Code) → is_skipped (words_of this) ≡ false → says (words_of this) ≡ Err code
+    (line count tokens : ℕ) (this : List ℕ) (below : List (List ℕ)) (code : Code) → is_skipped (words_of this) ≡ false
+    → says (words_of this) ≡ Err code
     → commands_from says brings line count tokens (this ∷ below) ≡ Err (record { line = line; code = code })
 
 -- So it is in traces of phasers, of trees and of barriers.

@@ -51,7 +51,8 @@ most_tokens = 256
 -- one more command after `count` commands, `tokens` of which bring a token, if the limits allow it
 abbrev pub counted : {C : Type 0} → (C → Bool) → ℕ → ℕ → Result C Code → Result C Code
 counted brings count tokens (Err code) = Err code
-counted brings count tokens (Ok c) = if nat_lt count most_commands && (not (brings c) || nat_lt tokens most_tokens) then Ok c else Err TooMany
+counted brings count tokens (Ok c) =
+    if nat_lt count most_commands && (not (brings c) || nat_lt tokens most_tokens) then Ok c else Err TooMany
 
 abbrev pub tokens_with : {C : Type 0} → (C → Bool) → ℕ → C → ℕ
 tokens_with brings tokens c = if brings c then tokens + 1 else tokens

@@ -71,7 +71,8 @@ abbrev pub tier_front : ℕ → Fields → List ℕ
 tier_front tier w = codes "tier " ++ decimal tier ++ codes " phase " ++ signed_decimal (shown_of w.phase w.ended)
 
 abbrev pub tier_rest : Fields → List ℕ
-tier_rest w = codes " parties " ++ decimal w.parties ++ codes " unarrived " ++ decimal (if w.parties == 0 then 0 else w.unarrived) ++ state_text w
+tier_rest w =
+    codes " parties " ++ decimal w.parties ++ codes " unarrived " ++ decimal (if w.parties == 0 then 0 else w.unarrived) ++ state_text w
 
 abbrev pub tier_text : ℕ → Fields → List ℕ
 tier_text tier w = tier_front tier w ++ tier_rest w
@@ -118,7 +119,8 @@ unfoldable pub rest_text : ℕ → ℕ → State → List ℕ
 rest_text zero token s = []
 rest_text (suc steps) token s =
     advance_reported s token
-    ++ (if is_underway (answer_to s (going_on s token)) then rest_text steps token (after s (going_on s token)) else answer_text (answer_to s (going_on s token)))
+    ++ (if is_underway (answer_to s (going_on s token)) then rest_text steps token (after s (going_on s token))
+    else answer_text (answer_to s (going_on s token)))
 
 unfoldable pub rest_after : ℕ → ℕ → State → State
 rest_after zero token s = s
@@ -133,7 +135,8 @@ tree_text (command.Go token) s = if_token s token (answer_text (answer_to s (ste
 tree_text (command.Finish token) s = if_token s token (advance_reported s token ++ answer_text (answer_to s (step.Finish token)))
 tree_text (command.Run token) s = if_token s token (rest_text 16 token s)
 tree_text (command.Do token c) s =
-    if_known s token c (if may_begin s token (call_of c) then rest_text 16 token (after s (step.Begin token (call_of c))) else codes "not now\n")
+    if_known s token c
+    (if may_begin s token (call_of c) then rest_text 16 token (after s (step.Begin token (call_of c))) else codes "not now\n")
 tree_text (command.Show tier) s = if nat_lt tier (length s.parents) then tier_text tier (word_at s.words tier) else codes "no tier\n"
 
 abbrev pub tree_after : TreeCommand → State → State

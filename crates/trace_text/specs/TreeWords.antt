@@ -28,7 +28,8 @@ take_keyword keyword (w ∷ ws) = if bytes_eq w keyword then (true, ws) else (fa
 
 abbrev pub words_behind : Word → Option Word → Bool × List Word → Option TreeHeadWords
 words_behind widths phase keep =
-    option_and_then (λ at. ended (record { widths = widths; phase = phase; keep = keep.0; at = at.0 }) at.1) (take_behind (codes "at") keep.1)
+    option_and_then (λ at. ended (record { widths = widths; phase = phase; keep = keep.0; at = at.0 }) at.1)
+    (take_behind (codes "at") keep.1)
 
 abbrev pub words_after_phase : Word → Option Word × List Word → Option TreeHeadWords
 words_after_phase widths phase = words_behind widths phase.0 (take_keyword (codes "keep") phase.1)

@@ -71,7 +71,8 @@ abbrev pub number_if : ℕ → Option Word → Option (Option ℕ)
 number_if most None = Some None
 number_if most (Some w) = option_map Some (up_to most (number_of w))
 
--- The head that its words give: any number of parties, a phase or 0, the fewest parties with which it goes on or 1, and the phase after which it ends.
+-- The head that its words give: any number of parties, a phase or 0, the fewest parties with which it goes on or 1, and the phase after
+-- which it ends.
 abbrev pub head_numbers : HeadWords → Option PhaserHead
 head_numbers h =
     option_and_then (λ parties. option_and_then (λ phase. option_and_then (λ least. option_and_then (λ at.

@@ -13,7 +13,8 @@ pub all_but_last : (n : Named) (xs : List GroupHeld) (x : GroupHeld) → AreOf n
 all_but_last n [] x h = (tt, h.0)
 all_but_last n (y ∷ xs) x h = let r = all_but_last n xs x h.1 in ((h.0, r.0), r.1)
 
-pub of_tree : (n : Named) (phase : ℕ) (leaves counts : List ℕ) (groups : List GroupHeld) → AreAtLeaves n phase leaves counts groups → AreOf n groups
+pub of_tree : (n : Named) (phase : ℕ) (leaves counts : List ℕ) (groups : List GroupHeld) → AreAtLeaves n phase leaves counts groups
+    → AreOf n groups
 of_tree n phase leaves [] groups h = none n groups h
 of_tree n phase [] (count ∷ counts) groups h = none n groups h
 of_tree n phase (leaf ∷ leaves) (zero ∷ counts) groups h = of_tree n phase leaves counts groups h

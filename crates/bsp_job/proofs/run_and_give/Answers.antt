@@ -15,4 +15,5 @@ returns-clause-given c =
     (inr
     (gives c.args.job.now c.args.limit c.in-Ok.report c.in-Ok-text_of.text.items c.give.new.out c.status_of.result c.give.result _ c.in-Ok.ensures c.in-Ok-text_of.ensures
     (c.status_of.ensures ∙ ap (λ (r : ReportValue). status_number r.status) c.report.view_is)
-    (c.len-reported.ensures ∙ sym c.deref.ensures.len ∙ ap length c.deref.ensures.value) (rw (done, c.deref.ensures.value) at c.give.ensures)))
+    (c.len-reported.ensures ∙ sym c.deref.ensures.len ∙ ap length c.deref.ensures.value)
+    (rw (done, c.deref.ensures.value) at c.give.ensures)))

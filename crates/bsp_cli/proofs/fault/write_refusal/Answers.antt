@@ -13,4 +13,5 @@ returns-clause-ok g c =
     let first : List ℕ = codes "refused line " ++ decimal c.args.refusal.line in
     let second : List ℕ = codes " code " ++ decimal (code_number c.args.refusal.code) in
     on_ok c.write_all.result c.write_all.ensures.ok (λ last.
-    Appends-more _ _ _ (first ++ second) (codes "\n") (Appends-more _ _ _ first second c.in_ok-write_field.ensures.ok (rw c.number.ensures at c.in_ok-write_field-2.ensures.ok)) last)
+    Appends-more _ _ _ (first ++ second) (codes "\n")
+    (Appends-more _ _ _ first second c.in_ok-write_field.ensures.ok (rw c.number.ensures at c.in_ok-write_field-2.ensures.ok)) last)

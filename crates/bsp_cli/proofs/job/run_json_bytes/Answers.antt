@@ -14,7 +14,8 @@ returns-clause-runs g c =
 
 pub returns-clause-read_failures : goal.returns-clause-read_failures
 returns-clause-read_failures g c =
-    pool_reads c.args.workers _ _ c.fault_of.result (c.fault_of.ensures c.args.workers c.in-Err.ensures.started) c.in_ok-job.ensures.failures
+    pool_reads c.args.workers _ _ c.fault_of.result (c.fault_of.ensures c.args.workers c.in-Err.ensures.started)
+    c.in_ok-job.ensures.failures
 
 pub returns-clause-write_failures : goal.returns-clause-write_failures
 returns-clause-write_failures g c =

@@ -15,7 +15,8 @@ pub returns-in-Arrived : goal.returns-in-Arrived
 returns-in-Arrived c = λ f a.
     let same = c.word.view_is in
     let small : c.word.inside.parties ≤ 65535 = c.word.invariant.parties in
-    let back : to_z w32 (c.word.inside.parties - c.word.inside.unarrived) ≡ pos (c.word.inside.parties - c.word.inside.unarrived) = omega (arith, ints, small) in
+    let back : to_z w32 (c.word.inside.parties - c.word.inside.unarrived) ≡ pos (c.word.inside.parties - c.word.inside.unarrived) =
+    omega (arith, ints, small) in
     rw c.in-Arrived.is (back ∙ ap (λ (w : Fields). pos (w.parties - w.unarrived)) same ∙ arrived_are f c.args.word c.requires.counted a)
 
 pub returns-in-Unarrived : goal.returns-in-Unarrived

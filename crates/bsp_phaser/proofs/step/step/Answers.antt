@@ -9,5 +9,6 @@ returns c =
     let status : to_z w32 (of_z w32 c.status_of.result) ≡ c.status_of.result = omega (arith, ints, fits) in
     let small : FitsSigned w32 c.answer_of.result = search rules in
     let answer : to_z w32 (of_z w32 c.answer_of.result) ≡ c.answer_of.result = omega (arith, ints, small) in
-    stepped _ _ c.in-Some.word _ _ _ _ _ _ c.in-Some.ensures.found (λ u it. only_word _ _ _ c.in-Some.is (c.word_of.ensures.again u it)) c.number_of.ensures
+    stepped _ _ c.in-Some.word _ _ _ _ _ _ c.in-Some.ensures.found (λ u it. only_word _ _ _ c.in-Some.is (c.word_of.ensures.again u it))
+    c.number_of.ensures
     c.called-after.ensures.flat (status ∙ c.status_of.ensures) (answer ∙ c.answer_of.ensures)

@@ -17,13 +17,15 @@ loop-next-preserved-in_ok-put_row c =
     let after : List Put = puts_given c.in-Some.after.now in
     let left : List Put = puts_given c.in_ok-rest.rest.now in
     let row : List Put = row_puts n.array n.index c.take_row.new.values.items in
-    let put : put_given n ≡ set_at n.array n.index n.value = sets_at n n.array n.index (c.begins_row.ensures c.if-begins_row.true) refl refl in
+    let put : put_given n ≡ set_at n.array n.index n.value =
+    sets_at n n.array n.index (c.begins_row.ensures c.if-begins_row.true) refl refl in
     let cell : in_arrays (set_at n.array n.index n.value) ≡ true =
     (λ i. in_arrays (sym put i)) ∙ (λ i. in_arrays (sym c.put_of.ensures i)) ∙ sym c.has_cell.ensures ∙ c.if-not-has_cell.false in
     let fits : FitsSigned w64 n.value = search rules in
     let back : to_z w64 (of_z w64 n.value) ≡ n.value = to_z-of_z w64 n.value fits in
     let first : c.push.new.self.items ≡ n.value ∷ [] = c.in_ok-push.ensures.items ∙ (λ i. c.buffer-values.ensures.empty i ++ back i ∷ []) in
-    let begun : row_puts n.array n.index c.push.new.self.items ≡ set_at n.array n.index n.value ∷ [] = ap (row_puts n.array n.index) first in
+    let begun : row_puts n.array n.index c.push.new.self.items ≡ set_at n.array n.index n.value ∷ [] =
+    ap (row_puts n.array n.index) first in
     let all : list_all in_arrays row ≡ true = c.in_ok-rest.ensures.cells ∙ ap (list_all in_arrays) begun ∙ (λ i. cell i && true) in
     let cut : puts_given c.loop-next.rest.now ≡ row ++ left =
     ap puts_given c.in-Some.ensures.cases.0 ∙ (λ i. put i ∷ after) ∙ (λ i. sym begun i ++ after) ∙ sym c.in_ok-rest.ensures.row in

@@ -23,10 +23,13 @@ loop-next-preserved c =
     let at : n.index ≡ place = omega (arith, h3, c.from.ensures, c.from-in-Some.ensures, c.len.ensures, c.loop-next.values.ok) in
     let put : put_given n ≡ set_at c.args.array place n.value = sets_at n c.args.array place h1 h2 at in
     let cell : is_cell c.args.arrays.now (set_at c.args.array place n.value) ≡ true =
-    (λ i. is_cell c.args.arrays.now (sym put i)) ∙ (λ i. is_cell c.args.arrays.now (sym c.put_of.ensures i)) ∙ sym c.has_cell.ensures ∙ c.if-not-has_cell.false in
+    (λ i. is_cell c.args.arrays.now (sym put i)) ∙ (λ i. is_cell c.args.arrays.now (sym c.put_of.ensures i)) ∙ sym c.has_cell.ensures
+    ∙ c.if-not-has_cell.false in
     let fits : FitsSigned w64 n.value = search rules in
     let back : to_z w64 (of_z w64 n.value) ≡ n.value = to_z-of_z w64 n.value fits in
-    let new = ap (row_puts c.args.array c.args.first) (c.in_ok-push.ensures.items ∙ (λ i. vs ++ back i ∷ [])) ∙ row_more c.args.array c.args.first vs n.value in
+    let new =
+    ap (row_puts c.args.array c.args.first) (c.in_ok-push.ensures.items ∙ (λ i. vs ++ back i ∷ []))
+    ∙ row_more c.args.array c.args.first vs n.value in
     let one = ap length c.in-Some.ensures.cases.0 in
     record {
       row =
@@ -35,6 +38,8 @@ loop-next-preserved c =
           ∙ (λ i. row ++ sym put i ∷ after)
           ∙ (λ i. row ++ puts_given (sym c.in-Some.ensures.cases.0 i))
           ∙ c.loop-next.invariant.row;
-      cells = ap (list_all (is_cell c.args.arrays.now)) new ∙ row_one (is_cell c.args.arrays.now) row (set_at c.args.array place n.value) cell ∙ c.loop-next.invariant.cells;
+      cells =
+          ap (list_all (is_cell c.args.arrays.now)) new ∙ row_one (is_cell c.args.arrays.now) row (set_at c.args.array place n.value) cell
+          ∙ c.loop-next.invariant.cells;
       fewer = omega (arith, one, c.loop-next.invariant.fewer);
     }

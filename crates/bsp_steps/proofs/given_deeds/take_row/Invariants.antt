@@ -7,8 +7,10 @@ use Rattle.bsp_steps.proofs.given_deeds.take_row.Given as goal
 
 abbrev pub invariant-loop-next : goal.invariant-loop-next
 invariant-loop-next l = record {
-  row : row_puts l.array l.first l.values.items ++ puts_given l.rest ≡ row_puts l.fn.array l.fn.first l.fn.values.items ++ puts_given l.fn.given;
-  cells : list_all (is_cell l.arrays) (row_puts l.array l.first l.values.items) ≡ list_all (is_cell l.fn.arrays) (row_puts l.fn.array l.fn.first l.fn.values.items);
+  row : row_puts l.array l.first l.values.items ++ puts_given l.rest
+      ≡ row_puts l.fn.array l.fn.first l.fn.values.items ++ puts_given l.fn.given;
+  cells : list_all (is_cell l.arrays) (row_puts l.array l.first l.values.items)
+      ≡ list_all (is_cell l.fn.arrays) (row_puts l.fn.array l.fn.first l.fn.values.items);
   fewer : length l.rest ≤ length l.fn.given;
 }
 

@@ -9,6 +9,7 @@ pub returns-clause-limit : goal.returns-clause-limit
 returns-clause-limit c =
     let same = one_text-rows (found_of c.args.matches.now) (codes "limit") in
     c.within.ensures.number
-    ∙ number-read 1000000 1000000 (omega arith) (λ bs r. ParsesUnsigned 32 10 bs r × ExplainsUnsignedError 10 bs r × HasUnsignedDigitsIfOk bs r)
+    ∙ number-read 1000000 1000000 (omega arith)
+    (λ bs r. ParsesUnsigned 32 10 bs r × ExplainsUnsignedError 10 bs r × HasUnsignedDigitsIfOk bs r)
     (one_of (codes "limit") (rows_of (found_of c.args.matches.now))) c.get_one.result (λ u x h. h.0)
     (λ e. c.get_one.ensures.none (same ∙ e)) (λ t e. c.get_one.ensures.value t (same ∙ e))

@@ -7,5 +7,8 @@ use Rattle.bsp_words.proofs.parser.fault_option.Goals as goal
 
 pub returns-clause-rule : goal.returns-clause-rule
 returns-clause-rule c =
-    let numbers : c.range-numbers.result ≡ vp.Signed (pos 1) (pos 8) = rw (c.value_parser.ensures, c.new.ensures.start, c.new.ensures.end) at c.range-numbers.ensures in
-    ap rule_of c.long.ensures ∙ ap (λ (r : Rule). record r { long = Some (codes "fault") }) (c.number_argument.ensures.rule ∙ ap (numbers_rule (codes "fault")) numbers)
+    let numbers : c.range-numbers.result ≡ vp.Signed (pos 1) (pos 8) =
+    rw (c.value_parser.ensures, c.new.ensures.start, c.new.ensures.end) at c.range-numbers.ensures in
+    ap rule_of c.long.ensures
+    ∙ ap (λ (r : Rule). record r { long = Some (codes "fault") })
+    (c.number_argument.ensures.rule ∙ ap (numbers_rule (codes "fault")) numbers)

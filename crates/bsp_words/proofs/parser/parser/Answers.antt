@@ -11,7 +11,8 @@ returns-clause-app c =
     let three = with_subcommand two (text_app (codes "upgrade")).top in
     let four = with_subcommand three run_app.top in
     let five = with_subcommand four draw_app.top in
-    let trace_is = c.with_subcommand-with_trace.ensures.app none (text_app (codes "trace")) c.bare_program.ensures c.trace_command.ensures.app in
+    let trace_is =
+    c.with_subcommand-with_trace.ensures.app none (text_app (codes "trace")) c.bare_program.ensures c.trace_command.ensures.app in
     let check_is = c.with_subcommand-with_check.ensures.app one check_app trace_is c.check_command.ensures.app in
     let upgrade_is = c.with_subcommand-with_upgrade.ensures.app two (text_app (codes "upgrade")) check_is c.upgrade_command.ensures.app in
     let run_is = c.with_subcommand-with_run.ensures.app three run_app upgrade_is c.run_command.ensures.app in

@@ -10,9 +10,11 @@ returns-else-clash-clause-taken g c =
     let words = map g.S.AsStr.text c.args.words.now in
     let is_program = c.in_ok-command.ensures.app in
     let matches = c.in-Ok.ensures.matches (ap is_simple is_program ∙ simple-program) in
-    let fault : fault_of program words ≡ [] = ap (λ (a : App). fault_of a words) (sym is_program) ∙ c.in-Ok.ensures.kinds (ap is_simple_and_free is_program ∙ free-program) in
+    let fault : fault_of program words ≡ [] =
+    ap (λ (a : App). fault_of a words) (sym is_program) ∙ c.in-Ok.ensures.kinds (ap is_simple_and_free is_program ∙ free-program) in
     let rows = matches.1 ∙ ap (λ (a : App). subcommand_of a words) is_program in
-    let clash : clashes_by (subcommand_of program words) ≡ false = sym (ap clashes_by rows) ∙ sym c.in_ok-clash-in-Ok.ensures ∙ c.if-clash.false in
+    let clash : clashes_by (subcommand_of program words) ≡ false =
+    sym (ap clashes_by rows) ∙ sym c.in_ok-clash-in-Ok.ensures ∙ c.if-clash.false in
     taken words fault clash
 
 pub returns-else-clash-clause-asked : goal.returns-else-clash-clause-asked
@@ -44,9 +46,11 @@ returns-then-clash-clause-err g c =
     let words = map g.S.AsStr.text c.args.words.now in
     let is_program = c.in_ok-command.ensures.app in
     let matches = c.in-Ok.ensures.matches (ap is_simple is_program ∙ simple-program) in
-    let fault : fault_of program words ≡ [] = ap (λ (a : App). fault_of a words) (sym is_program) ∙ c.in-Ok.ensures.kinds (ap is_simple_and_free is_program ∙ free-program) in
+    let fault : fault_of program words ≡ [] =
+    ap (λ (a : App). fault_of a words) (sym is_program) ∙ c.in-Ok.ensures.kinds (ap is_simple_and_free is_program ∙ free-program) in
     let rows = matches.1 ∙ ap (λ (a : App). subcommand_of a words) is_program in
-    let clash : clashes_by (subcommand_of program words) ≡ true = sym (ap clashes_by rows) ∙ sym c.in_ok-clash-in-Ok.ensures ∙ c.if-clash.true in
+    let clash : clashes_by (subcommand_of program words) ≡ true =
+    sym (ap clashes_by rows) ∙ sym c.in_ok-clash-in-Ok.ensures ∙ c.if-clash.true in
     clash_refuses words c.refuse_clash.result fault clash c.refuse_clash.ensures
 
 pub returns-in-Err-clause-err : goal.returns-in-Err-clause-err

@@ -12,7 +12,8 @@ loop-left-preserved c =
     let code = c.args.code.now in
     let on = step s code c.loop-left.left c.skip-here.result c.loop-left.place c.in_ok-next.field-0 c.loop-left.doing c.play_at.new.doing
     c.skip-here.ensures c.in_ok-next.ensures (omega (arith, c.loop-left-test.true)) in
-    sym (on ∙ ap (λ (m : Move). after_move c.skip-here.result (m, c.play_at.new.doing) (walked s code (c.loop-left.left - 1))) c.in-To.is) ∙ c.loop-left.invariant
+    sym (on ∙ ap (λ (m : Move). after_move c.skip-here.result (m, c.play_at.new.doing) (walked s code (c.loop-left.left - 1))) c.in-To.is)
+    ∙ c.loop-left.invariant
 
 pub returns-in-Syncs : goal.returns-in-Syncs
 returns-in-Syncs c =
@@ -20,7 +21,10 @@ returns-in-Syncs c =
     let code = c.args.code.now in
     let on = step s code c.loop-left.left c.skip-here.result c.loop-left.place c.in_ok-next.field-0 c.loop-left.doing c.play_at.new.doing
     c.skip-here.ensures c.in_ok-next.ensures (omega (arith, c.loop-left-test.true)) in
-    sym (on ∙ ap (λ (m : Move). after_move c.skip-here.result (m, c.play_at.new.doing) (walked s code (c.loop-left.left - 1))) c.in-Syncs.is) ∙ c.loop-left.invariant
+    sym
+    (on
+    ∙ ap (λ (m : Move). after_move c.skip-here.result (m, c.play_at.new.doing) (walked s code (c.loop-left.left - 1))) c.in-Syncs.is)
+    ∙ c.loop-left.invariant
 
 pub returns-in-Stops : goal.returns-in-Stops
 returns-in-Stops c =
@@ -28,7 +32,10 @@ returns-in-Stops c =
     let code = c.args.code.now in
     let on = step s code c.loop-left.left c.skip-here.result c.loop-left.place c.in_ok-next.field-0 c.loop-left.doing c.play_at.new.doing
     c.skip-here.ensures c.in_ok-next.ensures (omega (arith, c.loop-left-test.true)) in
-    sym (on ∙ ap (λ (m : Move). after_move c.skip-here.result (m, c.play_at.new.doing) (walked s code (c.loop-left.left - 1))) c.in-Stops.is) ∙ c.loop-left.invariant
+    sym
+    (on
+    ∙ ap (λ (m : Move). after_move c.skip-here.result (m, c.play_at.new.doing) (walked s code (c.loop-left.left - 1))) c.in-Stops.is)
+    ∙ c.loop-left.invariant
 
 pub returns-in-Fails : goal.returns-in-Fails
 returns-in-Fails c =
@@ -36,7 +43,10 @@ returns-in-Fails c =
     let code = c.args.code.now in
     let on = step s code c.loop-left.left c.skip-here.result c.loop-left.place c.in_ok-next.field-0 c.loop-left.doing c.play_at.new.doing
     c.skip-here.ensures c.in_ok-next.ensures (omega (arith, c.loop-left-test.true)) in
-    sym (on ∙ ap (λ (m : Move). after_move c.skip-here.result (m, c.play_at.new.doing) (walked s code (c.loop-left.left - 1))) c.in-Fails.is) ∙ c.loop-left.invariant
+    sym
+    (on
+    ∙ ap (λ (m : Move). after_move c.skip-here.result (m, c.play_at.new.doing) (walked s code (c.loop-left.left - 1))) c.in-Fails.is)
+    ∙ c.loop-left.invariant
 
 pub returns : goal.returns
 returns c =

@@ -6,7 +6,8 @@ use Rattle.job_program.proofs.closing.collect_prints.Given as goal
 
 abbrev pub invariant-loop-slot : goal.invariant-loop-slot
 invariant-loop-slot l =
-    (ps : List Plan) → l.prints.items ++ prints_of l.step (delivered (slots_of ps l.rest)) ≡ prints_of l.step (delivered (slots_of ps l.fn.slots))
+    (ps : List Plan)
+    → l.prints.items ++ prints_of l.step (delivered (slots_of ps l.rest)) ≡ prints_of l.step (delivered (slots_of ps l.fn.slots))
 
 abbrev pub decreases-loop-slot : goal.decreases-loop-slot
 decreases-loop-slot l = length l.rest

@@ -8,7 +8,8 @@ use Rattle.job_program.specs.JobMeaning.{start_tasks}
 use Rattle.job_program.proofs.job.start_all.Goals as goal
 
 -- one task more was started
-one_more : (ps : List Plan) (ts us : List TaskValue) (t : TaskValue) (n : ℕ) (path : List ℕ) (s : Start) (rest after : List Start) (all : List Task)
+one_more : (ps : List Plan) (ts us : List TaskValue) (t : TaskValue) (n : ℕ) (path : List ℕ) (s : Start) (rest after : List Start)
+    (all : List Task)
     → us ≡ ts ++ t ∷ [] → task_of ps t ≡ started ps path s.body s.arg → path ≡ n ∷ [] → rest ≡ s ∷ after
     → map (task_of ps) ts ++ start_tasks ps n rest ≡ all → map (task_of ps) us ++ start_tasks ps (n + 1) after ≡ all
 one_more ps ts us t n path s rest after all eu et ep er h =
@@ -25,8 +26,14 @@ one_more ps ts us t n path s rest after all eu et ep er h =
 
 pub loop-start-preserved : goal.loop-start-preserved
 loop-start-preserved c = record {
-  tasks = one_more (plans c.args.bodies.now) c.loop-start.tasks.items c.push.new.self.items c.in_ok-task.task c.loop-start.number c.in_ok-path.path.items
-      c.in-Some.start.now c.loop-start.rest.now c.in-Some.after.now _ c.in_ok-push.ensures.items (c.in_ok-task.ensures ∙ ap (λ (z : ℤ). started (plans c.args.bodies.now) c.in_ok-path.path.items c.in-Some.start.now.body z) (let fits : FitsSigned w64 c.in-Some.start.now.arg = search rules in to_z-of_z w64 c.in-Some.start.now.arg fits)) c.in_ok-path.ensures.ok
+  tasks =
+      one_more (plans c.args.bodies.now) c.loop-start.tasks.items c.push.new.self.items c.in_ok-task.task c.loop-start.number
+      c.in_ok-path.path.items
+      c.in-Some.start.now c.loop-start.rest.now c.in-Some.after.now _ c.in_ok-push.ensures.items
+      (c.in_ok-task.ensures
+      ∙ ap (λ (z : ℤ). started (plans c.args.bodies.now) c.in_ok-path.path.items c.in-Some.start.now.body z)
+      (let fits : FitsSigned w64 c.in-Some.start.now.arg = search rules in to_z-of_z w64 c.in-Some.start.now.arg fits))
+      c.in_ok-path.ensures.ok
       c.in-Some.ensures.cases.0 c.loop-start.invariant.tasks;
   few = omega (arith, c.in-Some.ensures.cases.1, c.loop-start.invariant.few);
 }

@@ -4,10 +4,12 @@ use Rattle.job_program.proofs.Deeds.{log_reported, none_over, one_over, over_pat
 use Rattle.job_program.proofs.landing.land_slots.Goals as goal
 
 pub returns-then-are_all_sets-clause-fault : goal.returns-then-are_all_sets-clause-fault
-returns-then-are_all_sets-clause-fault c = λ ps. none_over_sets ps c.args.slots.now c.args.arrays.now (sym c.are_all_sets.ensures ∙ c.if-are_all_sets.true)
+returns-then-are_all_sets-clause-fault c =
+    λ ps. none_over_sets ps c.args.slots.now c.args.arrays.now (sym c.are_all_sets.ensures ∙ c.if-are_all_sets.true)
 
 pub returns-then-are_all_sets-clause-lands : goal.returns-then-are_all_sets-clause-lands
-returns-then-are_all_sets-clause-lands c = λ e ps. c.write_all.ensures ∙ ap (λ qs. landed qs c.args.arrays.now) (sym (log_reported ps c.args.slots.now))
+returns-then-are_all_sets-clause-lands c =
+    λ e ps. c.write_all.ensures ∙ ap (λ qs. landed qs c.args.arrays.now) (sym (log_reported ps c.args.slots.now))
 
 pub returns-in-None-clause-fault : goal.returns-in-None-clause-fault
 returns-in-None-clause-fault c = λ ps.

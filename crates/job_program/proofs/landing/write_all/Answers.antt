@@ -2,7 +2,9 @@ use Rattle.job_program.proofs.Deeds.{write_next, land_last}
 use Rattle.job_program.proofs.landing.write_all.Goals as goal
 
 pub loop-slot-preserved : goal.loop-slot-preserved
-loop-slot-preserved c = write_next c.loop-slot.arrays c.loop-slot.rest c.in-Some.slot c.in-Some.after c.in-Some.ensures c.land_sets.ensures c.loop-slot.invariant
+loop-slot-preserved c =
+    write_next c.loop-slot.arrays c.loop-slot.rest c.in-Some.slot c.in-Some.after c.in-Some.ensures c.land_sets.ensures
+    c.loop-slot.invariant
 
 pub returns : goal.returns
 returns c = land_last c.loop-slot.rest c.in_default.ensures c.loop-slot.invariant.0

@@ -10,4 +10,12 @@ set_undone-requires-clause-capacity c =
     let next = in_path_order path_in (living_by c.args.done.now.items) in
     let l : length c.collect_living.new.living.items ≡ length (living_by c.args.done.now.items) =
     ap length c.collect_living.ensures.living ∙ length-reverse next ∙ count_in_order path_in (living_by c.args.done.now.items) in
-    omega (arith, l, c.deref.ensures.len, c.reverse.ensures.len, c.collect_living.new.living.ok.0, c.collect_living.ensures.capacity, c.requires.places)
+    omega (
+      arith,
+      l,
+      c.deref.ensures.len,
+      c.reverse.ensures.len,
+      c.collect_living.new.living.ok.0,
+      c.collect_living.ensures.capacity,
+      c.requires.places,
+    )

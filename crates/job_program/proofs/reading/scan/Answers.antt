@@ -5,7 +5,8 @@ use Rattle.job_program.proofs.reading.scan.Goals as goal
 
 pub returns-then-is_of : goal.returns-then-is_of
 returns-then-is_of c =
-    is_place c.args.slots.now c.args.path.now c.loop-slot.place c.in-Some.slot (rest_below _ _ _ _ _ c.in-Some.ensures c.loop-slot.invariant.count)
+    is_place c.args.slots.now c.args.path.now c.loop-slot.place c.in-Some.slot
+    (rest_below _ _ _ _ _ c.in-Some.ensures c.loop-slot.invariant.count)
     (slot_left c.args.slots.now c.loop-slot.rest c.in-Some.after c.loop-slot.place c.in-Some.slot c.loop-slot.invariant.rest c.in-Some.ensures)
     ((bytes_eq-Decides c.in-Some.slot.task.path c.args.path.now).0 (sym c.is_of.ensures ∙ c.if-is_of.true))
 

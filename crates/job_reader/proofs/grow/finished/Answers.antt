@@ -17,4 +17,6 @@ returns c = λ o i none.
     (ap (λ (b : BodyValue). b.code) made)
 
 pub name_texts-requires : goal.name_texts-requires
-name_texts-requires c = ap (λ x. list_all is_free (lent x)) c.deref.ensures.value ∙ ap (list_all is_free) c.requires.1.locals ∙ all-free c.requires.0.locals c.requires.2.body.locals
+name_texts-requires c =
+    ap (λ x. list_all is_free (lent x)) c.deref.ensures.value ∙ ap (list_all is_free) c.requires.1.locals
+    ∙ all-free c.requires.0.locals c.requires.2.body.locals

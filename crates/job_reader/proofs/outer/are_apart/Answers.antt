@@ -12,6 +12,8 @@ loop-word-init c = record {
 
 pub loop-word-preserved : goal.loop-word-preserved
 loop-word-preserved c =
-    let next = apart-next c.loop-word.seen c.insert.new.self c.args.words.now c.loop-word.word-index _ _ c.in_ok-insert.field-0 c.loop-word-test.true
-    c.in_ok-insert.ensures.added c.if-not-branch.false c.in_ok-insert.ensures.updates c.loop-word.invariant.found c.loop-word.invariant.rest in
+    let next =
+    apart-next c.loop-word.seen c.insert.new.self c.args.words.now c.loop-word.word-index _ _ c.in_ok-insert.field-0 c.loop-word-test.true
+    c.in_ok-insert.ensures.added c.if-not-branch.false c.in_ok-insert.ensures.updates c.loop-word.invariant.found
+    c.loop-word.invariant.rest in
     record { found = next.0; rest = next.1 }

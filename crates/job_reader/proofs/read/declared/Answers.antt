@@ -12,9 +12,12 @@ names_of ls = filter_map (λ (l : List ℕ). declared_by (words_of l)) ls
 
 pub loop-line-preserved-else-len-lt-MOST_BODIES : goal.loop-line-preserved-else-len-lt-MOST_BODIES
 loop-line-preserved-else-len-lt-MOST_BODIES c =
-    let full : 64 ≤ length (lent c.loop-line.names.items) = omega (arith, length-lent c.loop-line.names.items, c.len.ensures, c.loop-line.names.ok.0) in
+    let full : 64 ≤ length (lent c.loop-line.names.items) =
+    omega (arith, length-lent c.loop-line.names.items, c.len.ensures, c.loop-line.names.ok.0) in
     record {
-      same = take-full (lent c.loop-line.names.items) (names_of (lines_of c.in-Some.after.now)) (names_of (lines_of c.loop-line.rest.now)) 64 full
+      same =
+          take-full (lent c.loop-line.names.items) (names_of (lines_of c.in-Some.after.now)) (names_of (lines_of c.loop-line.rest.now)) 64
+          full
           ∙ c.loop-line.invariant.same;
       few = c.loop-line.invariant.few;
     }

@@ -10,7 +10,8 @@ use Rattle.job_reader.proofs.read.read_lines.Given as goal
 abbrev pub invariant-loop-this : goal.invariant-loop-this
 invariant-loop-this l = record {
   counted : l.line + length l.rest ≤ l.first + length l.text;
-  at : (a : Above) × IsAt a l.state × KeptAt a.job a.inside × (read_lines (lent l.bodies) l.first (nothing l.format) (lines_of l.text) ≡ read_lines (lent l.bodies) l.line a (lines_of l.rest));
+  at : (a : Above) × IsAt a l.state × KeptAt a.job a.inside
+      × (read_lines (lent l.bodies) l.first (nothing l.format) (lines_of l.text) ≡ read_lines (lent l.bodies) l.line a (lines_of l.rest));
 }
 
 abbrev pub decreases-loop-this : goal.decreases-loop-this

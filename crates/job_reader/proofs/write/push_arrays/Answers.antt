@@ -8,7 +8,8 @@ use Rattle.job_reader.proofs.write.push_arrays.Goals.{in-Some+in_ok-push_array, 
 pub loop-place-preserved : goal.loop-place-preserved
 loop-place-preserved c = elim c.match-get.branch [
   | in-Some+in_ok-push_array w ↦
-      arrays-next c.args.arrays.now c.loop-place.place (w.in-Some.name.now, w.in-Some.cells.now) c.loop-place.out.items c.match-get.out.items
+      arrays-next c.args.arrays.now c.loop-place.place (w.in-Some.name.now, w.in-Some.cells.now) c.loop-place.out.items
+      c.match-get.out.items
       w.in-Some.ensures.seen (ap (λ (v : Vec ℕ Global). v.items) w.out-is ∙ w.in_ok-push_array.ensures)
       ∙ c.loop-place.invariant
   | in_default w ↦

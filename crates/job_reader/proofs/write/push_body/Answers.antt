@@ -17,10 +17,13 @@ returns c =
     let before = c.extend_from_slice-3.new.self.items in
     let front = c.extend_from_slice-2.new.self.items in
     let names : List Word → Names = with_locals c.args.arrays.now c.args.bodies.now in
-    body-text c.args.format (names c.args.body.now.locals) c.args.body.now.name c.args.body.now.locals c.args.body.now.code c.code.ensures.kept.matched
-    c.args.out.now.items c.extend_from_slice.new.self.items front c.push_listed.new.out.items before c.push_code.new.out.items c.extend_from_slice-4.new.self.items
+    body-text c.args.format (names c.args.body.now.locals) c.args.body.now.name c.args.body.now.locals c.args.body.now.code
+    c.code.ensures.kept.matched
+    c.args.out.now.items c.extend_from_slice.new.self.items front c.push_listed.new.out.items before c.push_code.new.out.items
+    c.extend_from_slice-4.new.self.items
     c.in_ok-extend_from_slice.ensures.items
-    (c.in_ok-extend_from_slice-2.ensures.items ∙ ap (λ (x : List ℕ). c.extend_from_slice.new.self.items ++ x) (c.as_bytes.ensures.value ∙ c.name.ensures))
+    (c.in_ok-extend_from_slice-2.ensures.items
+    ∙ ap (λ (x : List ℕ). c.extend_from_slice.new.self.items ++ x) (c.as_bytes.ensures.value ∙ c.name.ensures))
     (c.in_ok-push_listed.ensures ∙ ap (λ (x : List Word). front ++ spaced (listed_in c.args.format x)) c.locals.ensures)
     c.in_ok-extend_from_slice-3.ensures.items
     (c.in_ok-push_code.ensures

@@ -6,7 +6,8 @@ use Rattle.job_schedule.proofs.next.collect.Goals as goal
 
 pub loop-participant-preserved : goal.loop-participant-preserved
 loop-participant-preserved c =
-    put_next_all participant_path (living_participants c.loop-participant.rest.items) (living_participants c.pop.new.self.items) (own_participant c.in-Some.participant ++ map child_participant c.in-Some.participant.children)
+    put_next_all participant_path (living_participants c.loop-participant.rest.items) (living_participants c.pop.new.self.items)
+    (own_participant c.in-Some.participant ++ map child_participant c.in-Some.participant.children)
     c.loop-participant.living.items c.put_living.new.living.items _
     (living_last c.loop-participant.rest.items c.pop.new.self.items c.in-Some.participant c.in-Some.ensures.items)
     c.in_ok-put_living.ensures c.loop-participant.invariant

@@ -17,13 +17,18 @@ returns-in-Ok-clause-run g c =
     let s = c.step.new.self in
     let ok = sym c.is_err.ensures.value ∙ c.if-is_err.false in
     let o : WentOn r s = record {
-      next = ok_is c.step.result ((n : ℕ) (ps : List PrintValue) (rs : List PhaseRecord) → IsAfter n ps rs r → IsAfter (n + 1) ps rs s) ok c.step.ensures.next;
+      next =
+          ok_is c.step.result ((n : ℕ) (ps : List PrintValue) (rs : List PhaseRecord) → IsAfter n ps rs r → IsAfter (n + 1) ps rs s) ok
+          c.step.ensures.next;
       job = c.step.ensures.job.0;
       limit = ok_is c.step.result (s.run.limit ≡ r.run.limit) ok c.step.ensures.job.1;
     } in
     let kept : c.take_records.new.self ≡ emptied s =
-    c.take_records.ensures.kept ∙ ap (λ (x : JobRunValue). record x { run = record x.run { records = [] } }) c.take_prints.ensures.kept in
-    (refl, subst (λ (x : JobRunValue). IsWritten c.args.job.now c.args.limit (c.args.written + 1) x) (sym kept) (written_on c.args.job.now c.args.limit c.args.written r s c.requires.run o))
+    c.take_records.ensures.kept ∙ ap (λ (x : JobRunValue). record x { run = record x.run { records = [] } }) c.take_prints.ensures.kept in (
+      refl,
+      subst (λ (x : JobRunValue). IsWritten c.args.job.now c.args.limit (c.args.written + 1) x) (sym kept)
+          (written_on c.args.job.now c.args.limit c.args.written r s c.requires.run o),
+    )
 
 pub returns-in-Ok-clause-text : goal.returns-in-Ok-clause-text
 returns-in-Ok-clause-text g c =
@@ -32,13 +37,17 @@ returns-in-Ok-clause-text g c =
     let p = program_of c.args.job.now in
     let ok = sym c.is_err.ensures.value ∙ c.if-is_err.false in
     let o : WentOn r s = record {
-      next = ok_is c.step.result ((n : ℕ) (ps : List PrintValue) (rs : List PhaseRecord) → IsAfter n ps rs r → IsAfter (n + 1) ps rs s) ok c.step.ensures.next;
+      next =
+          ok_is c.step.result ((n : ℕ) (ps : List PrintValue) (rs : List PhaseRecord) → IsAfter n ps rs r → IsAfter (n + 1) ps rs s) ok
+          c.step.ensures.next;
       job = c.step.ensures.job.0;
       limit = ok_is c.step.result (s.run.limit ≡ r.run.limit) ok c.step.ensures.job.1;
     } in
     let piece = piece_of c.args.job.now c.args.limit c.args.written r c.requires.run s o in
-    let records : c.take_records.result.items ≡ s.run.records = c.take_records.ensures.given ∙ ap (λ (x : JobRunValue). x.run.records) c.take_prints.ensures.kept in
-    let text : steps_text s.run.prints s.run.records ≡ steps_text c.take_prints.result.items c.take_records.result.items = λ i. steps_text (sym c.take_prints.ensures.given i) (sym records i) in (
+    let records : c.take_records.result.items ≡ s.run.records =
+    c.take_records.ensures.given ∙ ap (λ (x : JobRunValue). x.run.records) c.take_prints.ensures.kept in
+    let text : steps_text s.run.prints s.run.records ≡ steps_text c.take_prints.result.items c.take_records.result.items =
+    λ i. steps_text (sym c.take_prints.ensures.given i) (sym records i) in (
       steps_text c.take_prints.result.items c.take_records.result.items,
       piece_continues p c.args.limit _ piece c.args.written refl ∙ ap (λ (xs : List ℕ). lines_of p c.args.limit c.args.written ++ xs) text,
       c.in-Ok.ensures.text,
@@ -51,12 +60,20 @@ returns-in-Err-clause-text g c =
     let p = program_of c.args.job.now in
     let ok = sym c.is_err.ensures.value ∙ c.if-is_err.false in
     let o : WentOn r s = record {
-      next = ok_is c.step.result ((n : ℕ) (ps : List PrintValue) (rs : List PhaseRecord) → IsAfter n ps rs r → IsAfter (n + 1) ps rs s) ok c.step.ensures.next;
+      next =
+          ok_is c.step.result ((n : ℕ) (ps : List PrintValue) (rs : List PhaseRecord) → IsAfter n ps rs r → IsAfter (n + 1) ps rs s) ok
+          c.step.ensures.next;
       job = c.step.ensures.job.0;
       limit = ok_is c.step.result (s.run.limit ≡ r.run.limit) ok c.step.ensures.job.1;
     } in
     let piece = piece_of c.args.job.now c.args.limit c.args.written r c.requires.run s o in
-    let records : c.take_records.result.items ≡ s.run.records = c.take_records.ensures.given ∙ ap (λ (x : JobRunValue). x.run.records) c.take_prints.ensures.kept in
-    let text : steps_text s.run.prints s.run.records ≡ steps_text c.take_prints.result.items c.take_records.result.items = λ i. steps_text (sym c.take_prints.ensures.given i) (sym records i) in
-    fails_continue p c.args.limit c.args.written (c.args.written + 1) (steps_text c.take_prints.result.items c.take_records.result.items) (g.W.CountedWrite.contents c.args.writer.now) (g.W.CountedWrite.contents c.write_lines.new.writer)
-    c.in-Err.fault (piece_continues p c.args.limit _ piece c.args.written refl ∙ ap (λ (xs : List ℕ). lines_of p c.args.limit c.args.written ++ xs) text) c.in-Err.ensures.text
+    let records : c.take_records.result.items ≡ s.run.records =
+    c.take_records.ensures.given ∙ ap (λ (x : JobRunValue). x.run.records) c.take_prints.ensures.kept in
+    let text : steps_text s.run.prints s.run.records ≡ steps_text c.take_prints.result.items c.take_records.result.items =
+    λ i. steps_text (sym c.take_prints.ensures.given i) (sym records i) in
+    fails_continue p c.args.limit c.args.written (c.args.written + 1) (steps_text c.take_prints.result.items c.take_records.result.items)
+    (g.W.CountedWrite.contents c.args.writer.now) (g.W.CountedWrite.contents c.write_lines.new.writer)
+    c.in-Err.fault
+    (piece_continues p c.args.limit _ piece c.args.written refl
+    ∙ ap (λ (xs : List ℕ). lines_of p c.args.limit c.args.written ++ xs) text)
+    c.in-Err.ensures.text

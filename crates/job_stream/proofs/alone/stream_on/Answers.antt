@@ -9,12 +9,14 @@ use Rattle.job_stream.proofs.alone.stream_on.Goals as goal
 
 pub returns-then-is_some-clause-streams : goal.returns-then-is_some-clause-streams
 returns-then-is_some-clause-streams g c =
-    streams_ended (program_of c.args.job.now) c.args.limit c.loop-written.written (g.W.CountedWrite.contents c.args.writer.now) (g.W.CountedWrite.contents c.loop-written.writer) (g.W.CountedWrite.contents c.finish.new.writer)
+    streams_ended (program_of c.args.job.now) c.args.limit c.loop-written.written (g.W.CountedWrite.contents c.args.writer.now)
+    (g.W.CountedWrite.contents c.loop-written.writer) (g.W.CountedWrite.contents c.finish.new.writer)
     c.finish.result c.loop-written.invariant.out c.finish.ensures.text
 
 pub returns-in-Err-clause-streams : goal.returns-in-Err-clause-streams
 returns-in-Err-clause-streams g c =
-    streams_failed (program_of c.args.job.now) c.args.limit c.loop-written.written (g.W.CountedWrite.contents c.args.writer.now) (g.W.CountedWrite.contents c.loop-written.writer) (g.W.CountedWrite.contents c.advance.new.writer)
+    streams_failed (program_of c.args.job.now) c.args.limit c.loop-written.written (g.W.CountedWrite.contents c.args.writer.now)
+    (g.W.CountedWrite.contents c.loop-written.writer) (g.W.CountedWrite.contents c.advance.new.writer)
     c.in-Err.fault c.loop-written.invariant.out c.in-Err.ensures.text
 
 pub loop-written-preserved : goal.loop-written-preserved
@@ -23,8 +25,12 @@ loop-written-preserved g c =
     record {
       run = subst (λ (n : ℕ). IsWritten c.args.job.now c.args.limit n c.advance.new.run) next c.in-Ok.ensures.run.1;
       out =
-          subst (λ (n : ℕ). Appends (g.W.CountedWrite.contents c.args.writer.now) (g.W.CountedWrite.contents c.advance.new.writer) (lines_of (program_of c.args.job.now) c.args.limit n)) next
-          (goes_on (program_of c.args.job.now) c.args.limit c.loop-written.written c.in-Ok.field-0 (g.W.CountedWrite.contents c.args.writer.now) (g.W.CountedWrite.contents c.loop-written.writer) (g.W.CountedWrite.contents c.advance.new.writer)
+          subst
+          (λ (n : ℕ). Appends (g.W.CountedWrite.contents c.args.writer.now) (g.W.CountedWrite.contents c.advance.new.writer) (lines_of (program_of c.args.job.now) c.args.limit n))
+          next
+          (goes_on (program_of c.args.job.now) c.args.limit c.loop-written.written c.in-Ok.field-0
+          (g.W.CountedWrite.contents c.args.writer.now) (g.W.CountedWrite.contents c.loop-written.writer)
+          (g.W.CountedWrite.contents c.advance.new.writer)
           c.loop-written.invariant.out c.in-Ok.ensures.text);
       failures = c.in-Ok.ensures.failures ∙ c.loop-written.invariant.failures;
     }
@@ -40,6 +46,10 @@ finish-requires-2-clause-ended g c = ends_there (program_of c.args.job.now) c.ar
 pub returns-clause-streams : goal.returns-clause-streams
 returns-clause-streams g c =
     let all : c.loop-written.written ≡ c.args.limit = omega (arith, c.loop-written-test.false, c.loop-written.auto.written-end) in
-    let out = subst (λ (n : ℕ). Appends (g.W.CountedWrite.contents c.args.writer.now) (g.W.CountedWrite.contents c.loop-written.writer) (lines_of (program_of c.args.job.now) c.args.limit n)) all c.loop-written.invariant.out in
-    streams_ended (program_of c.args.job.now) c.args.limit c.args.limit (g.W.CountedWrite.contents c.args.writer.now) (g.W.CountedWrite.contents c.loop-written.writer) (g.W.CountedWrite.contents c.finish-2.new.writer)
+    let out =
+    subst
+    (λ (n : ℕ). Appends (g.W.CountedWrite.contents c.args.writer.now) (g.W.CountedWrite.contents c.loop-written.writer) (lines_of (program_of c.args.job.now) c.args.limit n))
+    all c.loop-written.invariant.out in
+    streams_ended (program_of c.args.job.now) c.args.limit c.args.limit (g.W.CountedWrite.contents c.args.writer.now)
+    (g.W.CountedWrite.contents c.loop-written.writer) (g.W.CountedWrite.contents c.finish-2.new.writer)
     c.finish-2.result out c.finish-2.ensures.text

@@ -10,7 +10,8 @@ loop-place-preserved c = elim c.match-get.branch [
       record {
         tokens =
             next_member c.args.arrays.now c.loop-place.place (w.in-Some.name.now, w.in-Some.cells.now) c.loop-place.out.tokens _ _
-            w.in-Some.ensures.seen (ap (λ (v : Written). v.tokens) w.out-is ∙ w.in_ok-write_array.ensures.tokens) c.loop-place.invariant.tokens;
+            w.in-Some.ensures.seen (ap (λ (v : Written). v.tokens) w.out-is ∙ w.in_ok-write_array.ensures.tokens)
+            c.loop-place.invariant.tokens;
         before = ap (λ (v : Written). v.before) w.out-is ∙ w.in_ok-write_array.ensures.before ∙ c.loop-place.invariant.before;
       }
   | in_default w ↦

@@ -6,7 +6,8 @@ use Rattle.job_view.proofs.json_lists.write_each_print.Given as goal
 
 abbrev pub invariant-loop-print : goal.invariant-loop-print
 invariant-loop-print l = record {
-  tokens : l.out.tokens ++ items_tokens (items_of (map print_json l.rest)) ≡ l.fn.out.tokens ++ items_tokens (items_of (map print_json l.fn.prints));
+  tokens : l.out.tokens ++ items_tokens (items_of (map print_json l.rest))
+      ≡ l.fn.out.tokens ++ items_tokens (items_of (map print_json l.fn.prints));
   before : l.out.before ≡ l.fn.out.before;
 }
 

@@ -6,7 +6,8 @@ use Rattle.job_view.proofs.json_lists.write_numbers.Given as goal
 
 abbrev pub invariant-loop-number : goal.invariant-loop-number
 invariant-loop-number l = record {
-  tokens : l.out.tokens ++ items_tokens (items_of (map natural l.rest)) ≡ l.fn.out.tokens ++ items_tokens (items_of (map natural l.fn.path));
+  tokens : l.out.tokens ++ items_tokens (items_of (map natural l.rest))
+      ≡ l.fn.out.tokens ++ items_tokens (items_of (map natural l.fn.path));
   before : l.out.before ≡ l.fn.out.before;
 }
 

@@ -6,7 +6,8 @@ use Rattle.job_view.proofs.json_lists.write_records.Given as goal
 
 abbrev pub invariant-loop-counts : goal.invariant-loop-counts
 invariant-loop-counts l = record {
-  tokens : l.out.tokens ++ items_tokens (items_of (map superstep_json l.rest)) ≡ l.fn.out.tokens ++ items_tokens (items_of (map superstep_json l.fn.records));
+  tokens : l.out.tokens ++ items_tokens (items_of (map superstep_json l.rest))
+      ≡ l.fn.out.tokens ++ items_tokens (items_of (map superstep_json l.fn.records));
   before : l.out.before ≡ l.fn.out.before;
 }
 

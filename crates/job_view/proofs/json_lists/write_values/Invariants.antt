@@ -6,7 +6,8 @@ use Rattle.job_view.proofs.json_lists.write_values.Given as goal
 
 abbrev pub invariant-loop-cell : goal.invariant-loop-cell
 invariant-loop-cell l = record {
-  tokens : l.out.tokens ++ items_tokens (items_of (map integer l.rest)) ≡ l.fn.out.tokens ++ items_tokens (items_of (map integer l.fn.cells));
+  tokens : l.out.tokens ++ items_tokens (items_of (map integer l.rest))
+      ≡ l.fn.out.tokens ++ items_tokens (items_of (map integer l.fn.cells));
   before : l.out.before ≡ l.fn.out.before;
 }
 

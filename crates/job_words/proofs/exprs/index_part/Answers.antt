@@ -10,7 +10,8 @@ returns-then-i-rest c = index-goes-on _ c.loop-i.i c.if-i-rest.true c.loop-i.inv
 
 pub returns-then-byte-eq93 : goal.returns-then-byte-eq93
 returns-then-byte-eq93 c =
-    index-closes _ c.loop-i.i c.loop-i-test.true c.if-i-rest.false c.loop-i.invariant c.if-byte-eq93.true ∙ ap Some (sym c.split_at.ensures.front)
+    index-closes _ c.loop-i.i c.loop-i-test.true c.if-i-rest.false c.loop-i.invariant c.if-byte-eq93.true
+    ∙ ap Some (sym c.split_at.ensures.front)
 
 pub returns : goal.returns
 returns c = index-none _ c.loop-i.i c.loop-i-test.false c.loop-i.invariant

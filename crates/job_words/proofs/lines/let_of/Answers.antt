@@ -9,9 +9,13 @@ use Rattle.job_words.proofs.lines.let_of.Goals as goal
 
 pub returns-in_err-local : goal.returns-in_err-local
 returns-in_err-local c =
-    let refused = let_refused (names_in c.args.scope.now) (lent c.args.words.now) c.in-Some.name.now c.in-Some-take_word.is'.now (lent c.in-Some-take_word.rest.now)
+    let refused =
+    let_refused (names_in c.args.scope.now) (lent c.args.words.now) c.in-Some.name.now c.in-Some-take_word.is'.now
+    (lent c.in-Some-take_word.rest.now)
     c.expr_of.result c.both-front.result _
     (c.in-Some.ensures ∙ ap (λ (ws : Words). c.in-Some.name.now ∷ ws) c.in-Some-take_word.ensures)
-    (c.both-front.ensures ∙ (ap (λ (x : Result (Unit {0}) Code). both x c.declared_at.result) c.is_equals.ensures ∙ ap (both (is_equals c.in-Some-take_word.is'.now)) c.declared_at.ensures.place))
+    (c.both-front.ensures
+    ∙ (ap (λ (x : Result (Unit {0}) Code). both x c.declared_at.result) c.is_equals.ensures
+    ∙ ap (both (is_equals c.in-Some-take_word.is'.now)) c.declared_at.ensures.place))
     c.expr_of.ensures (sym c.in_err-local.was ∙ c.both.ensures) in
     search (rules, refused)

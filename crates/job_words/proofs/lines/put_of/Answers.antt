@@ -10,9 +10,13 @@ use Rattle.job_words.proofs.lines.put_of.Goals as goal
 
 pub returns-in_err-cell : goal.returns-in_err-cell
 returns-in_err-cell c =
-    let refused = put_refused (names_in c.args.scope.now) c.args.kind (lent c.args.words.now) c.in-Some.cell.now c.in-Some-take_word.is'.now (lent c.in-Some-take_word.rest.now)
+    let refused =
+    put_refused (names_in c.args.scope.now) c.args.kind (lent c.args.words.now) c.in-Some.cell.now c.in-Some-take_word.is'.now
+    (lent c.in-Some-take_word.rest.now)
     c.expr_of.result c.both-front.result _
     (c.in-Some.ensures ∙ ap (λ (ws : Words). c.in-Some.cell.now ∷ ws) c.in-Some-take_word.ensures)
-    (c.both-front.ensures ∙ (ap (λ (x : Result Cell Code). both x c.is_equals.result) c.cell_of.ensures ∙ ap (both (cell_of (names_in c.args.scope.now) c.in-Some.cell.now)) c.is_equals.ensures))
+    (c.both-front.ensures
+    ∙ (ap (λ (x : Result Cell Code). both x c.is_equals.result) c.cell_of.ensures
+    ∙ ap (both (cell_of (names_in c.args.scope.now) c.in-Some.cell.now)) c.is_equals.ensures))
     c.expr_of.ensures (sym c.in_err-cell.was ∙ c.both.ensures) in
     search (rules, refused)

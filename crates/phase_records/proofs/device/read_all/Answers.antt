@@ -14,7 +14,10 @@ loop-preserved g c =
     let l = length-take-le c.in-Ok.n c.read_some.new.buffer c.in-Ok.ensures.bound in
     let e = c.in-Ok-extend_from_slice.ensures in
     record {
-      bytes = subst (λ (xs : List ℕ). Consumes (g.R.CountedRead.remaining c.args.reader.now) (g.R.CountedRead.remaining c.read_some.new.self) xs) (sym {A = List ℕ} e.items)
+      bytes =
+          subst
+          (λ (xs : List ℕ). Consumes (g.R.CountedRead.remaining c.args.reader.now) (g.R.CountedRead.remaining c.read_some.new.self) xs)
+          (sym {A = List ℕ} e.items)
           (came_more _ _ _ c.loop.text.items (take c.in-Ok.n c.read_some.new.buffer) c.loop.invariant.bytes b);
       failures = c.in-Ok.ensures.failures ∙ c.loop.invariant.failures;
       asks = c.in-Ok.ensures.asks ∙ omega (arith, c.loop.invariant.asks);
@@ -24,16 +27,20 @@ loop-preserved g c =
 
 pub returns-in-Err-extend_from_slice-clause-too_long : goal.returns-in-Err-extend_from_slice-clause-too_long
 returns-in-Err-extend_from_slice-clause-too_long g c = λ is.
-    more_behind _ _ _ c.loop.text.items (take c.in-Ok.n c.read_some.new.buffer) c.in-Ok.n c.len.result c.len-in-Err-extend_from_slice.result 1048576
+    more_behind _ _ _ c.loop.text.items (take c.in-Ok.n c.read_some.new.buffer) c.in-Ok.n c.len.result c.len-in-Err-extend_from_slice.result
+    1048576
     c.loop.invariant.bytes c.in-Ok.ensures.bytes.0 (length-take-le c.in-Ok.n c.read_some.new.buffer c.in-Ok.ensures.bound)
-    (omega (arith, c.loop.text.ok.0, c.len.ensures)) (c.len-in-Err-extend_from_slice.ensures ∙ c.in-Err-extend_from_slice.ensures.len ∙ sym c.len.ensures)
+    (omega (arith, c.loop.text.ok.0, c.len.ensures))
+    (c.len-in-Err-extend_from_slice.ensures ∙ c.in-Err-extend_from_slice.ensures.len ∙ sym c.len.ensures)
     c.if-len-n.false (omega (arith, c.len.ensures, c.loop.invariant.high)) (c.without_memory.ensures.too_long (same_fault is))
 
 pub returns-in-Err-extend_from_slice-clause-memory : goal.returns-in-Err-extend_from_slice-clause-memory
 returns-in-Err-extend_from_slice-clause-memory g c = λ is.
-    no_more_behind _ _ _ c.loop.text.items (take c.in-Ok.n c.read_some.new.buffer) c.in-Ok.n c.len.result c.len-in-Err-extend_from_slice.result 1048576
+    no_more_behind _ _ _ c.loop.text.items (take c.in-Ok.n c.read_some.new.buffer) c.in-Ok.n c.len.result
+    c.len-in-Err-extend_from_slice.result 1048576
     c.loop.invariant.bytes c.in-Ok.ensures.bytes.0 (length-take-le c.in-Ok.n c.read_some.new.buffer c.in-Ok.ensures.bound)
-    (omega (arith, c.loop.text.ok.0, c.len.ensures)) (c.len-in-Err-extend_from_slice.ensures ∙ c.in-Err-extend_from_slice.ensures.len ∙ sym c.len.ensures)
+    (omega (arith, c.loop.text.ok.0, c.len.ensures))
+    (c.len-in-Err-extend_from_slice.ensures ∙ c.in-Err-extend_from_slice.ensures.len ∙ sym c.len.ensures)
     c.if-len-n.false (omega (arith, c.len.ensures, c.loop.invariant.high)) (c.without_memory.ensures.memory (same_fault is))
 
 pub returns-then-n-eq0-clause-text : goal.returns-then-n-eq0-clause-text

@@ -12,6 +12,7 @@ loop-cell-init g c = front_none _ _
 
 pub loop-cell-preserved : goal.loop-cell-preserved
 loop-cell-preserved g c =
-    let cell : Took (g.S.Sink.seen c.loop-cell.out) (g.S.Sink.seen c.push_cell.new.out) (cell_text c.in-Some.cell.now) = search (rules, c.push_cell.ensures) in
+    let cell : Took (g.S.Sink.seen c.loop-cell.out) (g.S.Sink.seen c.push_cell.new.out) (cell_text c.in-Some.cell.now) =
+    search (rules, c.push_cell.ensures) in
     front_more _ _ _ _ (cell_text c.in-Some.cell.now) _ _ c.loop-cell.invariant cell
     (ap (λ (vs : List ℤ). flat_map cell_text vs) c.in-Some.ensures.cases.0 ∙ flat_map-cons cell_text c.in-Some.cell.now c.in-Some.after.now)

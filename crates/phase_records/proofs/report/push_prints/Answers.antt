@@ -15,5 +15,7 @@ loop-print-preserved g c =
     record {
       lines = front_more _ _ _ _ (print_line p) _ _ c.loop-print.invariant.lines c.push_print.ensures
           (lines_next c.args.step p c.in-Some.after.now c.loop-print.rest.now c.in-Some.ensures.cases.0 step);
-      others = sym (others_next c.args.step p c.in-Some.after.now c.loop-print.rest.now c.in-Some.ensures.cases.0 step) ∙ c.loop-print.invariant.others;
+      others =
+          sym (others_next c.args.step p c.in-Some.after.now c.loop-print.rest.now c.in-Some.ensures.cases.0 step)
+          ∙ c.loop-print.invariant.others;
     }

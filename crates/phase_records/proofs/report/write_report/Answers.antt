@@ -15,10 +15,14 @@ returns-then-pieces-clause-failures g c =
 
 pub returns-clause-text : goal.returns-clause-text
 returns-clause-text g c =
-    let out = all_out _ _ (report_text c.args.report.now) c.write_pieces.ensures.took (c.in-Ok.ensures.items) c.write_pieces.ensures.empty refl c.if-pieces.false in
+    let out =
+    all_out _ _ (report_text c.args.report.now) c.write_pieces.ensures.took (c.in-Ok.ensures.items) c.write_pieces.ensures.empty refl
+    c.if-pieces.false in
     grind (arith, out.0)
 
 pub returns-clause-failures : goal.returns-clause-failures
 returns-clause-failures g c =
-    let out = all_out _ _ (report_text c.args.report.now) c.write_pieces.ensures.took (c.in-Ok.ensures.items) c.write_pieces.ensures.empty refl c.if-pieces.false in
+    let out =
+    all_out _ _ (report_text c.args.report.now) c.write_pieces.ensures.took (c.in-Ok.ensures.items) c.write_pieces.ensures.empty refl
+    c.if-pieces.false in
     grind (arith, out.1)

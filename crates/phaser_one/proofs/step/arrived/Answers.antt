@@ -20,8 +20,11 @@ returns-clause-flat g c =
     let absent : c.word.inside.unarrived ≡ c.args.word.unarrived = ap (λ (w : Fields). w.unarrived) c.word.view_is in
     let ended : c.args.word.ended ≡ false = sym (ap (λ (w : Fields). w.ended) c.word.view_is) ∙ c.if-ended.false in
     let small : c.args.word.phase ≤ 2147483647 = (let legal : c.word.inside.phase ≤ 2147483647 = c.word.invariant.phase in omega arith) in
-    let shown : to_z w32 (of_z w32 c.shown-shown.result) ≡ shown_of c.args.word.phase c.args.word.ended = same_shown c.shown-shown.result c.args.word.phase c.args.word.ended c.shown-shown.ensures small in
+    let shown : to_z w32 (of_z w32 c.shown-shown.result) ≡ shown_of c.args.word.phase c.args.word.ended =
+    same_shown c.shown-shown.result c.args.word.phase c.args.word.ended c.shown-shown.ensures small in
     let Q : ℕ → Type 0 = λ n. IsSettled c.args.rule.now.plan c.word.inside.phase n (c.word.inside.unarrived - 1) c.settle-word.result in
     let settled : Q (left_by c.args.arrival c.word.inside.parties) = subst Q c.left_of.ensures c.settle-word.ensures.settled in
-    let P : Fields → Type 0 = λ w. IsSettled c.args.rule.now.plan w.phase (left_by c.args.arrival w.parties) (w.unarrived - 1) c.settle-word.result in
-    arrival_follows c.args.arrival c.args.rule.now.plan c.args.word c.settle-word.result _ c.requires.counted ended (omega arith) shown (subst P c.word.view_is settled)
+    let P : Fields → Type 0 =
+    λ w. IsSettled c.args.rule.now.plan w.phase (left_by c.args.arrival w.parties) (w.unarrived - 1) c.settle-word.result in
+    arrival_follows c.args.arrival c.args.rule.now.plan c.args.word c.settle-word.result _ c.requires.counted ended (omega arith) shown
+    (subst P c.word.view_is settled)

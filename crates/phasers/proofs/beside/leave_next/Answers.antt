@@ -3,7 +3,11 @@ use Rattle.tier_table.specs.declared.waiting.AwaitedAdvance.TheVariants as await
 use Rattle.phasers.proofs.beside.leave_next.Goals as goal
 
 pub leave_now-requires-clause-some : goal.leave_now-requires-clause-some
-leave_now-requires-clause-some g c = let reported = c.in-Passed.ensures.answer in let a = reported.0.size in let b = reported.2.nobody in let d = c.size.ensures.some in omega arith
+leave_now-requires-clause-some g c = let reported = c.in-Passed.ensures.answer in
+    let a = reported.0.size in
+    let b = reported.2.nobody in
+    let d = c.size.ensures.some in
+    omega arith
 
 pub returns-in-Passed-clause-answer : goal.returns-in-Passed-clause-answer
 returns-in-Passed-clause-answer g c = record {

@@ -16,7 +16,9 @@ pub loop-preserved : goal.loop-preserved
 loop-preserved g c = (tt, tt, watched_more c.loop.invariant.2 c.in-Ok.ensures.seen)
 
 pub returns-then-phase-now-clause-answer : goal.returns-then-phase-now-clause-answer
-returns-then-phase-now-clause-answer g c = let reported = c.in-Ok.ensures.answer in (watched_more c.loop.invariant.2 c.in-Ok.ensures.seen, reported.1, reported.0, c.if-phase-now.true)
+returns-then-phase-now-clause-answer g c = let reported = c.in-Ok.ensures.answer in
+    (watched_more c.loop.invariant.2 c.in-Ok.ensures.seen, reported.1, reported.0, c.if-phase-now.true)
 
 pub returns-in-Err-clause-answer : goal.returns-in-Err-clause-answer
-returns-in-Err-clause-answer g c = let reported = c.in-Err.ensures.answer in (watched_more c.loop.invariant.2 c.in-Err.ensures.seen, (reported.0, reported.1, search rules))
+returns-in-Err-clause-answer g c = let reported = c.in-Err.ensures.answer in
+    (watched_more c.loop.invariant.2 c.in-Err.ensures.seen, (reported.0, reported.1, search rules))

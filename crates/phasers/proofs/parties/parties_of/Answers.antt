@@ -17,5 +17,9 @@ loop-group-preserved g c =
       moved c.loop-group.parties.items c.push_reserved.new.self.items rest others c.args.groups.items c.in-Some.group step
           (c.push_reserved.ensures.items ∙ ap (λ z. c.loop-group.parties.items ++ (z ∷ [])) c.of.ensures) kept.3,
       all_later (λ group. group.tree ≡ c.args.shared.now) c.in-Some.group rest others step kept.4,
-      let r = kept.5 in let e = ap length step in let l = c.push_reserved.ensures.len in let k = c.push_reserved.ensures.capacity in omega (arith, r, e, l, k),
+      let r = kept.5 in
+          let e = ap length step in
+          let l = c.push_reserved.ensures.len in
+          let k = c.push_reserved.ensures.capacity in
+          omega (arith, r, e, l, k),
     )

@@ -11,7 +11,8 @@ use Rattle.programs.proofs.Reached.{IsWatched, reached_none, none_began, reached
 use Rattle.programs.proofs.alone.run_watched.Goals as goal
 
 -- a run that hasn't ended goes on
-running : {S : Type 0} (v : StepsValue S) (r : Option JobStatus) (b : Bool) → v.failed ≡ false → option_map status_seen r ≡ ended v → is_some r ≡ not b → b ≡ true → IsRunning v
+running : {S : Type 0} (v : StepsValue S) (r : Option JobStatus) (b : Bool) → v.failed ≡ false → option_map status_seen r ≡ ended v
+    → is_some r ≡ not b → b ≡ true → IsRunning v
 running v r b sound e n t = record { sound = sound; going = sym e ∙ ap (option_map status_seen) (none_is r b n t) }
 
 pub loop-steps-init : goal.loop-steps-init
@@ -23,7 +24,9 @@ loop-steps-init g c =
     let path = g.P.Task.OnPath.path_of in
     let law = g.met.P.Program.keeps_paths q in
     let tasks = map meant c.args.tasks.items in
-    subst (λ (v : StepsValue g.row.P-Task.Denot). IsWatched f may c.args.most meant path law c.args.arrays tasks c.args.limit (OfState g.W.Watch.goes) v) (sym c.new-steps.ensures.begun)
+    subst
+    (λ (v : StepsValue g.row.P-Task.Denot). IsWatched f may c.args.most meant path law c.args.arrays tasks c.args.limit (OfState g.W.Watch.goes) v)
+    (sym c.new-steps.ensures.begun)
     (record {
       reached = reached_none f may c.args.most meant path law c.args.arrays tasks c.args.limit c.args.tasks.items refl;
       went = none_began f may c.args.most meant path law c.args.arrays tasks c.args.limit (OfState g.W.Watch.goes);
@@ -43,7 +46,9 @@ returns-then-not-may_go_on g c =
     let h = c.loop-steps.invariant in
     let run = running v c.status.result c.is_none.result h.reached.sound c.status.ensures.status c.is_none.ensures c.if-is_none.true in
     let at = c.may_go_on.ensures.stops c.if-not-may_go_on.true in
-    subst (λ (ts : List g.row.P-Task.Denot). HasRunTo g.W.Watch.stops g.W.Watch.goes f may c.args.most c.args.arrays tasks c.args.limit c.stop.result.report (map meant ts)) (sym c.stop.ensures.tasks)
+    subst
+    (λ (ts : List g.row.P-Task.Denot). HasRunTo g.W.Watch.stops g.W.Watch.goes f may c.args.most c.args.arrays tasks c.args.limit c.stop.result.report (map meant ts))
+    (sym c.stop.ensures.tasks)
     (subst (λ (r : ReportValue). HasRunTo g.W.Watch.stops g.W.Watch.goes f may c.args.most c.args.arrays tasks c.args.limit r (map meant v.tasks)) (sym c.stop.ensures.report)
     (stopped_by f may c.args.most meant path law c.args.arrays tasks c.args.limit g.W.Watch.stops g.W.Watch.goes v h.reached run h.went at))
 
@@ -59,7 +64,9 @@ loop-steps-smaller g c =
     let v = c.loop-steps.steps in
     let h = c.loop-steps.invariant in
     let run = running v c.status.result c.is_none.result h.reached.sound c.status.ensures.status c.is_none.ensures c.if-is_none.true in
-    let t = ok_is c.step.result (HasStepped f may meant v c.step.new.self) (sym c.is_err.ensures.value ∙ c.if-is_err.false) (c.step.ensures.stepped run) in
+    let t =
+    ok_is c.step.result (HasStepped f may meant v c.step.new.self) (sym c.is_err.ensures.value ∙ c.if-is_err.false)
+    (c.step.ensures.stepped run) in
     fewer_left f may c.args.most meant path law c.args.arrays tasks c.args.limit v c.step.new.self run t
 
 pub loop-steps-preserved : goal.loop-steps-preserved
@@ -75,11 +82,16 @@ loop-steps-preserved g c =
     let h = c.loop-steps.invariant in
     let run = running v c.status.result c.is_none.result h.reached.sound c.status.ensures.status c.is_none.ensures c.if-is_none.true in
     let at = c.may_go_on.ensures.goes c.if-not-may_go_on.false in
-    let t = ok_is c.step.result (HasStepped f may meant v c.step.new.self) (sym c.is_err.ensures.value ∙ c.if-is_err.false) (c.step.ensures.stepped run) in
-    let now = seen_now f may c.args.most meant path law c.args.arrays tasks c.args.limit g.W.Watch.goes v h.reached (is_open v run).fault at in
+    let t =
+    ok_is c.step.result (HasStepped f may meant v c.step.new.self) (sym c.is_err.ensures.value ∙ c.if-is_err.false)
+    (c.step.ensures.stepped run) in
+    let now =
+    seen_now f may c.args.most meant path law c.args.arrays tasks c.args.limit g.W.Watch.goes v h.reached (is_open v run).fault at in
     record {
       reached = reached_more f may c.args.most meant path law c.args.arrays tasks c.args.limit v c.step.new.self h.reached run t;
-      went = began_more f may c.args.most meant path law c.args.arrays tasks c.args.limit (OfState g.W.Watch.goes) h.reached.history t.entries h.went now;
+      went =
+          began_more f may c.args.most meant path law c.args.arrays tasks c.args.limit (OfState g.W.Watch.goes) h.reached.history t.entries
+          h.went now;
       ordered = c.step.ensures.ordered;
     }
 
@@ -97,8 +109,11 @@ returns g c =
     let some = some_is c.status.result c.is_none.result c.is_none.ensures c.if-is_none.false in
     let s = status_seen some.0 in
     let over : ended v ≡ Some s = sym c.status.ensures.status ∙ ap (option_map status_seen) some.1 in
-    let report : c.in-Some.ran.report ≡ left_by v s = subst (λ (o : Option Status). IfSome o (λ x. c.in-Some.ran.report ≡ left_by v x)) over c.in-Some.ensures.report in
-    subst (λ (ts : List g.row.P-Task.Denot). HasRunTo g.W.Watch.stops g.W.Watch.goes f may c.args.most c.args.arrays tasks c.args.limit c.in-Some.ran.report (map meant ts)) (sym c.in-Some.ensures.tasks)
+    let report : c.in-Some.ran.report ≡ left_by v s =
+    subst (λ (o : Option Status). IfSome o (λ x. c.in-Some.ran.report ≡ left_by v x)) over c.in-Some.ensures.report in
+    subst
+    (λ (ts : List g.row.P-Task.Denot). HasRunTo g.W.Watch.stops g.W.Watch.goes f may c.args.most c.args.arrays tasks c.args.limit c.in-Some.ran.report (map meant ts))
+    (sym c.in-Some.ensures.tasks)
     (subst (λ (r : ReportValue). HasRunTo g.W.Watch.stops g.W.Watch.goes f may c.args.most c.args.arrays tasks c.args.limit r (map meant v.tasks)) (sym report)
     (to_limit g.W.Watch.stops g.W.Watch.goes f may c.args.most c.args.arrays tasks c.args.limit (left_by v s) (map meant v.tasks)
     (reached_end f may c.args.most meant path law c.args.arrays tasks c.args.limit v s h.reached over) h.went))

@@ -5,7 +5,8 @@ use Rattle.programs.proofs.alone.run_watched.Given as goal
 
 abbrev pub invariant-loop-steps : goal.invariant-loop-steps
 invariant-loop-steps g l =
-    IsWatched (g.P.Program.frame l.program) (g.P.Program.may l.program) l.most (g.P.Program.meant l.program) g.P.Task.OnPath.path_of (g.met.P.Program.keeps_paths l.program)
+    IsWatched (g.P.Program.frame l.program) (g.P.Program.may l.program) l.most (g.P.Program.meant l.program) g.P.Task.OnPath.path_of
+    (g.met.P.Program.keeps_paths l.program)
     l.fn.arrays (map (g.P.Program.meant l.program) l.fn.tasks.items) l.limit (OfState g.W.Watch.goes) l.steps
 
 abbrev pub decreases-loop-steps : goal.decreases-loop-steps

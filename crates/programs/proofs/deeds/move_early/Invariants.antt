@@ -6,7 +6,8 @@ use Rattle.programs.proofs.deeds.move_early.Given as goal
 
 abbrev pub invariant-loop-left : goal.invariant-loop-left
 invariant-loop-left g l = record {
-  moved : HasMovedEarly g.T.OnPath.path_of (option_map (λ p. p.items) l.fn.bound) (reverse l.fn.tasks) l.fn.living.items l.living.items (reverse l.fn.spawns.items) (reverse l.spawns.items) (l.fn.count - l.left);
+  moved : HasMovedEarly g.T.OnPath.path_of (option_map (λ p. p.items) l.fn.bound) (reverse l.fn.tasks) l.fn.living.items l.living.items
+      (reverse l.fn.spawns.items) (reverse l.spawns.items) (l.fn.count - l.left);
   left : l.left ≤ l.fn.count;
   enough : l.left ≤ length l.spawns.items;
   capacity : vec_len l.living + l.left ≤ vec_capacity l.living;

@@ -16,8 +16,11 @@ invariant-loop-deed g l = record {
       (in_path_order g.T.OnPath.path_of (living_with (reverse l.fn.tasks.items) (deeds_with l.fn.each (reverse l.fn.spawns.items))))
       l.living.items (reverse l.waiting.items) (reverse l.tasks.items) (deeds_with l.rest (reverse l.spawns.items));
   within : AreWithin g.T.OnPath.path_of (option_map (λ p. p.items) l.fn.bound) (reverse l.fn.tasks.items)
-      → AreWithin g.T.OnPath.path_of (option_map (λ p. p.items) l.fn.bound) l.living.items × AreWithin g.T.OnPath.path_of (option_map (λ p. p.items) l.fn.bound) (reverse l.tasks.items);
-  capacity : vec_len l.living + vec_len l.waiting + length (living_with (reverse l.tasks.items) (deeds_with l.rest (reverse l.spawns.items))) ≤ vec_capacity l.living;
+      → AreWithin g.T.OnPath.path_of (option_map (λ p. p.items) l.fn.bound) l.living.items
+      × AreWithin g.T.OnPath.path_of (option_map (λ p. p.items) l.fn.bound) (reverse l.tasks.items);
+  capacity : vec_len l.living + vec_len l.waiting
+      + length (living_with (reverse l.tasks.items) (deeds_with l.rest (reverse l.spawns.items)))
+      ≤ vec_capacity l.living;
   wait : vec_len l.waiting + length l.spawns.items ≤ vec_capacity l.waiting;
 }
 

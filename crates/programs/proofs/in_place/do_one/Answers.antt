@@ -11,14 +11,17 @@ returns-in_ok-keep-in-Stops-clause-reported g c =
     let meant = g.P.Program.meant q in
     let path = g.P.Task.OnPath.path_of in
     let h = c.in_ok-do_task.ensures in
-    let done = subst (λ (e : SegmentEnd). IsLeft meant path e c.args.task.now c.do_task.new.task c.args.work.now c.do_task.new.work h.left) c.in-Stops.is h.is in
+    let done =
+    subst (λ (e : SegmentEnd). IsLeft meant path e c.args.task.now c.do_task.new.task c.args.work.now c.do_task.new.work h.left)
+    c.in-Stops.is h.is in
     let reported = c.in_ok-keep-in-Stops.ensures in
     record {
       left = h.left;
       allowed = h.allowed;
       formed = h.formed;
       reported = λ s.
-          kept_one (reads s meant path) false _ h.left _ c.args.task.now c.do_task.new.task c.args.work.now c.do_task.new.work _ _ _ _ _ done.0 done.1 done.2 reported.log
+          kept_one (reads s meant path) false _ h.left _ c.args.task.now c.do_task.new.task c.args.work.now c.do_task.new.work _ _ _ _ _
+          done.0 done.1 done.2 reported.log
           (omega (arith, c.made-puts-in-Stops.ensures.made, c.requires.logged)) reported.deeds reported.prints;
     }
 
@@ -28,14 +31,17 @@ returns-in_ok-keep-in-Stays-clause-reported g c =
     let meant = g.P.Program.meant q in
     let path = g.P.Task.OnPath.path_of in
     let h = c.in_ok-do_task.ensures in
-    let done = subst (λ (e : SegmentEnd). IsLeft meant path e c.args.task.now c.do_task.new.task c.args.work.now c.do_task.new.work h.left) c.in-Stays.is h.is in
+    let done =
+    subst (λ (e : SegmentEnd). IsLeft meant path e c.args.task.now c.do_task.new.task c.args.work.now c.do_task.new.work h.left)
+    c.in-Stays.is h.is in
     let reported = c.in_ok-keep-in-Stays.ensures in
     record {
       left = h.left;
       allowed = h.allowed;
       formed = h.formed;
       reported = λ s.
-          kept_one (reads s meant path) true _ h.left _ c.args.task.now c.do_task.new.task c.args.work.now c.do_task.new.work _ _ _ _ _ done.0 done.1 done.2 reported.log
+          kept_one (reads s meant path) true _ h.left _ c.args.task.now c.do_task.new.task c.args.work.now c.do_task.new.work _ _ _ _ _
+          done.0 done.1 done.2 reported.log
           (omega (arith, c.made-puts.ensures.made, c.requires.logged)) reported.deeds reported.prints;
     }
 
@@ -45,7 +51,9 @@ returns-in-Fails-clause-reported g c =
     let meant = g.P.Program.meant q in
     let path = g.P.Task.OnPath.path_of in
     let h = c.in_ok-do_task.ensures in
-    let done = subst (λ (e : SegmentEnd). IsLeft meant path e c.args.task.now c.do_task.new.task c.args.work.now c.do_task.new.work h.left) c.in-Fails.is h.is in
+    let done =
+    subst (λ (e : SegmentEnd). IsLeft meant path e c.args.task.now c.do_task.new.task c.args.work.now c.do_task.new.work h.left)
+    c.in-Fails.is h.is in
     record {
       left = h.left;
       allowed = h.allowed;

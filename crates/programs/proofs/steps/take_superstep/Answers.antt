@@ -15,7 +15,9 @@ use Rattle.phase_records.specs.declared.record.PhaseRecord.{PhaseRecord}
 pub record-counts-requires : goal.record-counts-requires
 record-counts-requires g c =
     let q = c.args.program.now in
-    let k = calm (g.P.Program.frame q) (g.P.Program.may q) c.args.most (g.P.Program.meant q) g.P.Task.OnPath.path_of (g.met.P.Program.keeps_paths q) c.args.run_state.now _ _ _ _ _ c.in_ok-fault.ensures c.requires.rising c.requires.few c.in-None.is in
+    let k =
+    calm (g.P.Program.frame q) (g.P.Program.may q) c.args.most (g.P.Program.meant q) g.P.Task.OnPath.path_of (g.met.P.Program.keeps_paths q)
+    c.args.run_state.now _ _ _ _ _ c.in_ok-fault.ensures c.requires.rising c.requires.few c.in-None.is in
     let l = few_left c.do_all.new.deeds in
     omega (arith, k.fits.few, l, c.requires.most, c.are_few.ensures.0 c.if-not-are_few.false)
 
@@ -25,7 +27,9 @@ returns-then-not-are_few-clause-taken g c =
     let done = c.in_ok-fault.ensures in
     let p = reads (says_in (g.P.Program.frame q) c.args.most done.entries) (g.P.Program.meant q) g.P.Task.OnPath.path_of in
     let law = g.met.P.Program.keeps_paths q in
-    let k = calm (g.P.Program.frame q) (g.P.Program.may q) c.args.most (g.P.Program.meant q) g.P.Task.OnPath.path_of (g.met.P.Program.keeps_paths q) c.args.run_state.now _ _ _ _ _ c.in_ok-fault.ensures c.requires.rising c.requires.few c.in-None.is in
+    let k =
+    calm (g.P.Program.frame q) (g.P.Program.may q) c.args.most (g.P.Program.meant q) g.P.Task.OnPath.path_of (g.met.P.Program.keeps_paths q)
+    c.args.run_state.now _ _ _ _ _ c.in_ok-fault.ensures c.requires.rising c.requires.few c.in-None.is in
     let us = c.do_all.new.tasks.items in
     let ds = c.do_all.new.deeds in
     let many = are_many c.are_few.result _ _ c.are_few.ensures.1 c.if-not-are_few.true in
@@ -34,10 +38,14 @@ returns-then-not-are_few-clause-taken g c =
       entries = done.entries;
       entered = record { tasks = done.tasks; allowed = done.allowed };
       taken = record {
-        fault = by_many p law k.numbers k.stays c.args.run_state.now us ds k.done.done (omega (arith, l, many)) ∙ ap (ended_by (state_of_run p c.args.run_state.now)) (sym c.too_many.ensures);
+        fault =
+            by_many p law k.numbers k.stays c.args.run_state.now us ds k.done.done (omega (arith, l, many))
+            ∙ ap (ended_by (state_of_run p c.args.run_state.now)) (sym c.too_many.ensures);
         step = refl;
         arrays = refl {A = List (List ℕ × List ℤ)};
-        prints = cut_off c.len-printed.result c.args.run_state.now.prints.items c.do_all.new.prints.items _ _ c.truncate-then-not-are_few.ensures.items (omega (arith, c.len-printed.ensures, c.args.run_state.now.prints.ok.0)) k.done.shown;
+        prints =
+            cut_off c.len-printed.result c.args.run_state.now.prints.items c.do_all.new.prints.items _ _
+            c.truncate-then-not-are_few.ensures.items (omega (arith, c.len-printed.ensures, c.args.run_state.now.prints.ok.0)) k.done.shown;
         records = refl {A = List PhaseRecord};
       };
     }
@@ -45,33 +53,47 @@ returns-then-not-are_few-clause-taken g c =
 pub go_on-requires-clause-same : goal.go_on-requires-clause-same
 go_on-requires-clause-same g c =
     let q = c.args.program.now in
-    let k = calm (g.P.Program.frame q) (g.P.Program.may q) c.args.most (g.P.Program.meant q) g.P.Task.OnPath.path_of (g.met.P.Program.keeps_paths q) c.args.run_state.now _ _ _ _ _ c.in_ok-fault.ensures c.requires.rising c.requires.few c.in-None.is in
+    let k =
+    calm (g.P.Program.frame q) (g.P.Program.may q) c.args.most (g.P.Program.meant q) g.P.Task.OnPath.path_of (g.met.P.Program.keeps_paths q)
+    c.args.run_state.now _ _ _ _ _ c.in_ok-fault.ensures c.requires.rising c.requires.few c.in-None.is in
     k.fits.same
 
 pub go_on-requires-clause-numbered : goal.go_on-requires-clause-numbered
 go_on-requires-clause-numbered g c =
     let q = c.args.program.now in
-    let k = calm (g.P.Program.frame q) (g.P.Program.may q) c.args.most (g.P.Program.meant q) g.P.Task.OnPath.path_of (g.met.P.Program.keeps_paths q) c.args.run_state.now _ _ _ _ _ c.in_ok-fault.ensures c.requires.rising c.requires.few c.in-None.is in
+    let k =
+    calm (g.P.Program.frame q) (g.P.Program.may q) c.args.most (g.P.Program.meant q) g.P.Task.OnPath.path_of (g.met.P.Program.keeps_paths q)
+    c.args.run_state.now _ _ _ _ _ c.in_ok-fault.ensures c.requires.rising c.requires.few c.in-None.is in
     k.fits.numbered
 
 pub make_room-requires : goal.make_room-requires
 make_room-requires g c =
     let q = c.args.program.now in
-    let k = calm (g.P.Program.frame q) (g.P.Program.may q) c.args.most (g.P.Program.meant q) g.P.Task.OnPath.path_of (g.met.P.Program.keeps_paths q) c.args.run_state.now _ _ _ _ _ c.in_ok-fault.ensures c.requires.rising c.requires.few c.in-None.is in
-    let counted = tallied _ (g.met.P.Program.keeps_paths q) k.numbers k.stays c.args.run_state.now c.do_all.new.tasks.items c.do_all.new.deeds c.record-counts.result k.fits c.record-counts.ensures in
+    let k =
+    calm (g.P.Program.frame q) (g.P.Program.may q) c.args.most (g.P.Program.meant q) g.P.Task.OnPath.path_of (g.met.P.Program.keeps_paths q)
+    c.args.run_state.now _ _ _ _ _ c.in_ok-fault.ensures c.requires.rising c.requires.few c.in-None.is in
+    let counted =
+    tallied _ (g.met.P.Program.keeps_paths q) k.numbers k.stays c.args.run_state.now c.do_all.new.tasks.items c.do_all.new.deeds
+    c.record-counts.result k.fits c.record-counts.ensures in
     omega (arith, counted)
 
 pub go_on-requires-clause-count : goal.go_on-requires-clause-count
 go_on-requires-clause-count g c =
     let q = c.args.program.now in
-    let k = calm (g.P.Program.frame q) (g.P.Program.may q) c.args.most (g.P.Program.meant q) g.P.Task.OnPath.path_of (g.met.P.Program.keeps_paths q) c.args.run_state.now _ _ _ _ _ c.in_ok-fault.ensures c.requires.rising c.requires.few c.in-None.is in
-    let counted = tallied _ (g.met.P.Program.keeps_paths q) k.numbers k.stays c.args.run_state.now c.do_all.new.tasks.items c.do_all.new.deeds c.record-counts.result k.fits c.record-counts.ensures in
+    let k =
+    calm (g.P.Program.frame q) (g.P.Program.may q) c.args.most (g.P.Program.meant q) g.P.Task.OnPath.path_of (g.met.P.Program.keeps_paths q)
+    c.args.run_state.now _ _ _ _ _ c.in_ok-fault.ensures c.requires.rising c.requires.few c.in-None.is in
+    let counted =
+    tallied _ (g.met.P.Program.keeps_paths q) k.numbers k.stays c.args.run_state.now c.do_all.new.tasks.items c.do_all.new.deeds
+    c.record-counts.result k.fits c.record-counts.ensures in
     omega (arith, counted)
 
 pub go_on-requires-clause-rising : goal.go_on-requires-clause-rising
 go_on-requires-clause-rising g c =
     let q = c.args.program.now in
-    let k = calm (g.P.Program.frame q) (g.P.Program.may q) c.args.most (g.P.Program.meant q) g.P.Task.OnPath.path_of (g.met.P.Program.keeps_paths q) c.args.run_state.now _ _ _ _ _ c.in_ok-fault.ensures c.requires.rising c.requires.few c.in-None.is in
+    let k =
+    calm (g.P.Program.frame q) (g.P.Program.may q) c.args.most (g.P.Program.meant q) g.P.Task.OnPath.path_of (g.met.P.Program.keeps_paths q)
+    c.args.run_state.now _ _ _ _ _ c.in_ok-fault.ensures c.requires.rising c.requires.few c.in-None.is in
     k.fits.rising
 
 pub returns-in-None-over-clause-taken : goal.returns-in-None-over-clause-taken
@@ -80,7 +102,9 @@ returns-in-None-over-clause-taken g c =
     let done = c.in_ok-fault.ensures in
     let p = reads (says_in (g.P.Program.frame q) c.args.most done.entries) (g.P.Program.meant q) g.P.Task.OnPath.path_of in
     let law = g.met.P.Program.keeps_paths q in
-    let k = calm (g.P.Program.frame q) (g.P.Program.may q) c.args.most (g.P.Program.meant q) g.P.Task.OnPath.path_of (g.met.P.Program.keeps_paths q) c.args.run_state.now _ _ _ _ _ c.in_ok-fault.ensures c.requires.rising c.requires.few c.in-None.is in
+    let k =
+    calm (g.P.Program.frame q) (g.P.Program.may q) c.args.most (g.P.Program.meant q) g.P.Task.OnPath.path_of (g.met.P.Program.keeps_paths q)
+    c.args.run_state.now _ _ _ _ _ c.in_ok-fault.ensures c.requires.rising c.requires.few c.in-None.is in
     let us = c.do_all.new.tasks.items in
     let ds = c.do_all.new.deeds in
     let e = c.record-counts.ensures in
@@ -91,7 +115,9 @@ returns-in-None-over-clause-taken g c =
     record {
       entries = done.entries;
       entered = record { tasks = done.tasks; allowed = done.allowed };
-      taken = by_landing p law k.numbers k.stays c.args.run_state.now c.go_on.new.run_state c.do_all.new.work.puts us ds c.do_all.new.prints.items c.record-counts.result
+      taken =
+          by_landing p law k.numbers k.stays c.args.run_state.now c.go_on.new.run_state c.do_all.new.work.puts us ds
+          c.do_all.new.prints.items c.record-counts.result
           k.done (omega (arith, living, fits_now)) e
           (sym c.in-None-over.is ∙ l.place)
           gone.step
@@ -106,7 +132,9 @@ returns-in-Some-over-clause-taken g c =
     let done = c.in_ok-fault.ensures in
     let p = reads (says_in (g.P.Program.frame q) c.args.most done.entries) (g.P.Program.meant q) g.P.Task.OnPath.path_of in
     let law = g.met.P.Program.keeps_paths q in
-    let k = calm (g.P.Program.frame q) (g.P.Program.may q) c.args.most (g.P.Program.meant q) g.P.Task.OnPath.path_of (g.met.P.Program.keeps_paths q) c.args.run_state.now _ _ _ _ _ c.in_ok-fault.ensures c.requires.rising c.requires.few c.in-None.is in
+    let k =
+    calm (g.P.Program.frame q) (g.P.Program.may q) c.args.most (g.P.Program.meant q) g.P.Task.OnPath.path_of (g.met.P.Program.keeps_paths q)
+    c.args.run_state.now _ _ _ _ _ c.in_ok-fault.ensures c.requires.rising c.requires.few c.in-None.is in
     let us = c.do_all.new.tasks.items in
     let ds = c.do_all.new.deeds in
     let e = c.record-counts.ensures in
@@ -116,13 +144,17 @@ returns-in-Some-over-clause-taken g c =
     record {
       entries = done.entries;
       entered = record { tasks = done.tasks; allowed = done.allowed };
-      taken = by_over p law k.numbers k.stays c.args.run_state.now _ c.do_all.new.work.puts us ds c.do_all.new.prints.items c.in-Some-over.place c.blame_at.result
+      taken =
+          by_over p law k.numbers k.stays c.args.run_state.now _ c.do_all.new.work.puts us ds c.do_all.new.prints.items c.in-Some-over.place
+          c.blame_at.result
           k.done (omega (arith, living, fits_now))
           (sym c.in-Some-over.is ∙ l.place)
-          (c.blame_at.ensures ∙ (λ i. option_map overflow_at (maker p.path (c.deref.ensures.value i) c.do_all.new.deeds c.in-Some-over.place)))
+          (c.blame_at.ensures
+          ∙ (λ i. option_map overflow_at (maker p.path (c.deref.ensures.value i) c.do_all.new.deeds c.in-Some-over.place)))
           refl
           (l.unlanded (is_there c.in-Some-over.is))
-          (cut_off c.len-printed.result c.args.run_state.now.prints.items c.do_all.new.prints.items _ _ c.truncate-in-Some-over.ensures.items (omega (arith, c.len-printed.ensures, c.args.run_state.now.prints.ok.0)) k.done.shown)
+          (cut_off c.len-printed.result c.args.run_state.now.prints.items c.do_all.new.prints.items _ _
+          c.truncate-in-Some-over.ensures.items (omega (arith, c.len-printed.ensures, c.args.run_state.now.prints.ok.0)) k.done.shown)
           c.in_ok-make_room-in-None.ensures.same;
     }
 
@@ -132,10 +164,14 @@ returns-in-Some-clause-taken g c =
     let done = c.in_ok-fault.ensures in
     let p = reads (says_in (g.P.Program.frame q) c.args.most done.entries) (g.P.Program.meant q) g.P.Task.OnPath.path_of in
     let law = g.met.P.Program.keeps_paths q in
-    let n = known (g.P.Program.frame q) (g.P.Program.may q) c.args.most (g.P.Program.meant q) g.P.Task.OnPath.path_of law c.args.run_state.now _ _ _ _ _ done c.requires.rising in
+    let n =
+    known (g.P.Program.frame q) (g.P.Program.may q) c.args.most (g.P.Program.meant q) g.P.Task.OnPath.path_of law c.args.run_state.now _ _ _
+    _ _ done c.requires.rising in
     let few = n.numbers in
     let same = n.stays in
-    let h = faulted p law few same c.args.run_state.now c.in_ok-fault.fault c.in-Some.blame c.do_all.new.work.puts c.do_all.new.tasks.items c.do_all.new.deeds c.do_all.new.prints.items n.reported c.in-Some.is in
+    let h =
+    faulted p law few same c.args.run_state.now c.in_ok-fault.fault c.in-Some.blame c.do_all.new.work.puts c.do_all.new.tasks.items
+    c.do_all.new.deeds c.do_all.new.prints.items n.reported c.in-Some.is in
     record {
       entries = done.entries;
       entered = record { tasks = done.tasks; allowed = done.allowed };
@@ -143,7 +179,9 @@ returns-in-Some-clause-taken g c =
         fault = by_fault p law few same c.args.run_state.now c.in-Some.blame h.0;
         step = refl;
         arrays = refl {A = List (List ℕ × List ℤ)};
-        prints = cut_off c.len-printed.result c.args.run_state.now.prints.items c.do_all.new.prints.items _ h.1.0 c.truncate.ensures.items (omega (arith, c.len-printed.ensures, c.args.run_state.now.prints.ok.0)) h.1.1;
+        prints =
+            cut_off c.len-printed.result c.args.run_state.now.prints.items c.do_all.new.prints.items _ h.1.0 c.truncate.ensures.items
+            (omega (arith, c.len-printed.ensures, c.args.run_state.now.prints.ok.0)) h.1.1;
         records = refl {A = List PhaseRecord};
       };
     }

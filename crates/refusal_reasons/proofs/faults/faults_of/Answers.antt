@@ -7,12 +7,14 @@ use Rattle.refusal_reasons.proofs.faults.faults_of.Goals as goal
 
 pub returns-in_default : goal.returns-in_default
 returns-in_default c =
-    ended c.loop-left.faults.items _ c.loop-left.left c.loop-left.other.items c.deref.result.now c.in_ok-refusal.field-0 c.deref.ensures.value
+    ended c.loop-left.faults.items _ c.loop-left.left c.loop-left.other.items c.deref.result.now c.in_ok-refusal.field-0
+    c.deref.ensures.value
     c.in_ok-refusal.ensures c.in_default.is c.loop-left.invariant
 
 pub returns-in_default-2 : goal.returns-in_default-2
 returns-in_default-2 c =
-    last_fault c.loop-left.faults.items _ c.push.new.self.items c.loop-left.left c.loop-left.other.items c.in-Some.refusal c.loop-left-test.true
+    last_fault c.loop-left.faults.items _ c.push.new.self.items c.loop-left.left c.loop-left.other.items c.in-Some.refusal
+    c.loop-left-test.true
     (refusal_is c.loop-left.other.items c.deref.result.now c.in_ok-refusal.field-0 c.in-Some.refusal c.deref.ensures.value c.in_ok-refusal.ensures c.in-Some.is)
     (ap (λ (text : List ℕ). repaired text c.in-Some.refusal) (sym c.deref-in-loop-left.ensures.value)
     ∙ sym c.in_ok-next.ensures
@@ -21,7 +23,8 @@ returns-in_default-2 c =
 
 pub loop-left-preserved : goal.loop-left-preserved
 loop-left-preserved c =
-    next_fault c.loop-left.faults.items _ c.push.new.self.items c.loop-left.left c.loop-left.other.items c.in-Some-2.next.items c.in-Some.refusal
+    next_fault c.loop-left.faults.items _ c.push.new.self.items c.loop-left.left c.loop-left.other.items c.in-Some-2.next.items
+    c.in-Some.refusal
     c.loop-left-test.true
     (refusal_is c.loop-left.other.items c.deref.result.now c.in_ok-refusal.field-0 c.in-Some.refusal c.deref.ensures.value c.in_ok-refusal.ensures c.in-Some.is)
     (ap (λ (text : List ℕ). repaired text c.in-Some.refusal) (sym c.deref-in-loop-left.ensures.value)

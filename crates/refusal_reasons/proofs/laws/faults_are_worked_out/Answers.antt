@@ -9,7 +9,8 @@ use Rattle.refusal_reasons.specs.Faults as faults
 use Rattle.refusal_reasons.proofs.laws.faults_are_worked_out.Goals as goal
 
 pub returns : goal.returns
-unfolding fmt.digits names.is_reserved reading.job_in reading.outer_of words.index_of words.in_index exprs.cell_of exprs.operand_of exprs.in_operand exprs.operator_of lines.keyword_of lines.line_behind lines.mentions_behind faults.faulty
+unfolding fmt.digits names.is_reserved reading.job_in reading.outer_of words.index_of words.in_index exprs.cell_of exprs.operand_of
+    exprs.in_operand exprs.operator_of lines.keyword_of lines.line_behind lines.mentions_behind faults.faulty
 returns c = record {
   none = refl;
   lines = refl;

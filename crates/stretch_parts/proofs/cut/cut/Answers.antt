@@ -12,5 +12,6 @@ returns-clause-fresh g c =
 pub returns-clause-tasks : goal.returns-clause-tasks
 returns-clause-tasks g c =
     ap tasks_in (c.set_bounds.ensures ∙ c.reverse.ensures.items)
-    ∙ tasks_front 0 c.cut_off.new.rest.items c.cut_off.new.parts.items c.push_reserved.new.self.items c.with_tasks.result c.with_tasks.ensures c.push_reserved.ensures.items
+    ∙ tasks_front 0 c.cut_off.new.rest.items c.cut_off.new.parts.items c.push_reserved.new.self.items c.with_tasks.result
+    c.with_tasks.ensures c.push_reserved.ensures.items
     ∙ c.cut_off.ensures.tasks ∙ none_cut c.args.tasks.items c.args.parts.now.items c.requires.none_yet

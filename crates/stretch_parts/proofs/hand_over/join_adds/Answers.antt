@@ -24,7 +24,8 @@ returns-clause-same g c =
 
 pub returns-clause-sets : goal.returns-clause-sets
 returns-clause-sets g c =
-    on_ok c.give_all_puts.result (λ rest. ap (list_all is_set) (ap puts_in rest ∙ no_puts c.args.parts.now.items)) c.give_all_puts.ensures.rest
+    on_ok c.give_all_puts.result (λ rest. ap (list_all is_set) (ap puts_in rest ∙ no_puts c.args.parts.now.items))
+    c.give_all_puts.ensures.rest
 
 pub returns-clause-rest : goal.returns-clause-rest
 returns-clause-rest g c =

@@ -5,4 +5,5 @@ use Rattle.stretch_parts.specs.Parts.{of_slot}
 use Rattle.stretch_parts.proofs.landing.land_one.Goals as goal
 
 pub returns-in_default : goal.returns-in_default
-returns-in_default g c = sym (ap (λ s. landed (of_slot (λ part. part.puts) s) c.args.arrays.now) c.in_default.is ∙ landed_none c.args.arrays.now)
+returns-in_default g c =
+    sym (ap (λ s. landed (of_slot (λ part. part.puts) s) c.args.arrays.now) c.in_default.is ∙ landed_none c.args.arrays.now)

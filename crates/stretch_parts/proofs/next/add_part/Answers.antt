@@ -9,7 +9,8 @@ use Rattle.stretch_parts.proofs.next.add_part.Goals as goal
 
 pub place-requires-clause-strays : goal.place-requires-clause-strays
 place-requires-clause-strays g c =
-    strays_order g.T.OnPath.path_of (living_with c.args.part.tasks c.args.part.deeds) c.keep_early.new.tasks.items (reverse c.keep_early.new.strays.items)
+    strays_order g.T.OnPath.path_of (living_with c.args.part.tasks c.args.part.deeds) c.keep_early.new.tasks.items
+    (reverse c.keep_early.new.strays.items)
     (c.in_ok-keep_early.ensures.same ∙ c.in_ok-pull_back.ensures.same ∙ c.in_ok-tasks.ensures.next)
 
 pub returns-clause-tasks : goal.returns-clause-tasks
@@ -18,6 +19,9 @@ returns-clause-tasks g c =
     let low = option_map (λ p. p.items) c.first_in-low.result in
     ok_then c.push_piece.result _ _ _ c.push_piece.ensures.tasks
     (λ all.
-    placed q (living_with c.args.part.tasks c.args.part.deeds) c.keep_early.new.tasks.items (reverse c.keep_early.new.strays.items) (all_in c.args.pieces.now.items) (all_in c.place.new.pieces.items)
-    (all_in c.push_piece.new.pieces.items) low (c.in_ok-keep_early.ensures.same ∙ c.in_ok-pull_back.ensures.same ∙ c.in_ok-tasks.ensures.next) c.requires.order
-    (c.first_in-low.ensures ∙ ap (λ ps. slice_get (map q (all_in ps)) 0) c.deref.ensures.value) c.in_ok-keep_early.ensures.end c.in_ok-place.ensures.tasks all)
+    placed q (living_with c.args.part.tasks c.args.part.deeds) c.keep_early.new.tasks.items (reverse c.keep_early.new.strays.items)
+    (all_in c.args.pieces.now.items) (all_in c.place.new.pieces.items)
+    (all_in c.push_piece.new.pieces.items) low
+    (c.in_ok-keep_early.ensures.same ∙ c.in_ok-pull_back.ensures.same ∙ c.in_ok-tasks.ensures.next) c.requires.order
+    (c.first_in-low.ensures ∙ ap (λ ps. slice_get (map q (all_in ps)) 0) c.deref.ensures.value) c.in_ok-keep_early.ensures.end
+    c.in_ok-place.ensures.tasks all)

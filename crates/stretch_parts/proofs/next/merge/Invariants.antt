@@ -5,7 +5,8 @@ use Rattle.stretch_parts.proofs.next.merge.Given as goal
 
 abbrev pub invariant-loop-tasks : goal.invariant-loop-tasks
 invariant-loop-tasks g l = record {
-  merges : Merges g.T.OnPath.path_of (reverse l.fn.tasks.items) (reverse l.fn.strays.items) l.all.items (reverse l.tasks.items) (reverse l.strays.items);
+  merges : Merges g.T.OnPath.path_of (reverse l.fn.tasks.items) (reverse l.fn.strays.items) l.all.items (reverse l.tasks.items)
+      (reverse l.strays.items);
   capacity : vec_len l.tasks + vec_len l.strays + vec_len l.all ≤ vec_capacity l.all;
 }
 

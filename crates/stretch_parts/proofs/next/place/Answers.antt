@@ -10,7 +10,8 @@ returns-then-is_empty-clause-tasks g c =
     let q = g.T.OnPath.path_of in
     let n = none_there (vec_len c.loop-place.strays) c.is_empty.result c.is_empty.ensures c.if-is_empty.true in
     let none = reverse_none c.loop-place.strays.items (omega (arith, n, c.loop-place.strays.ok.0)) in
-    none_left q c.args.pieces.now.items (reverse c.args.strays.now.items) c.loop-place.place c.loop-place.pieces.items (reverse c.loop-place.strays.items) c.loop-place.invariant none
+    none_left q c.args.pieces.now.items (reverse c.args.strays.now.items) c.loop-place.place c.loop-place.pieces.items
+    (reverse c.loop-place.strays.items) c.loop-place.invariant none
 
 pub receive_in-requires-clause-tasks : goal.receive_in-requires-clause-tasks
 receive_in-requires-clause-tasks g c =
@@ -18,7 +19,8 @@ receive_in-requires-clause-tasks g c =
     let ps = c.args.pieces.now.items in
     let ws = reverse c.args.strays.now.items in
     let up : c.loop-place.place ≡ suc (c.loop-place.place - 1) = omega (arith, c.loop-place-test.true) in
-    let now = subst (λ (k : ℕ). IsPlaced q ps ws k c.loop-place.pieces.items (reverse c.loop-place.strays.items)) up c.loop-place.invariant in
+    let now =
+    subst (λ (k : ℕ). IsPlaced q ps ws k c.loop-place.pieces.items (reverse c.loop-place.strays.items)) up c.loop-place.invariant in
     (next_piece q ps ws (c.loop-place.place - 1) c.loop-place.pieces.items (reverse c.loop-place.strays.items) c.index_mut.result.now now c.index_mut.ensures.value).order
 
 pub loop-place-preserved : goal.loop-place-preserved
@@ -27,7 +29,8 @@ loop-place-preserved g c =
     let ps = c.args.pieces.now.items in
     let ws = reverse c.args.strays.now.items in
     let up : c.loop-place.place ≡ suc (c.loop-place.place - 1) = omega (arith, c.loop-place-test.true) in
-    let now = subst (λ (k : ℕ). IsPlaced q ps ws k c.loop-place.pieces.items (reverse c.loop-place.strays.items)) up c.loop-place.invariant in
+    let now =
+    subst (λ (k : ℕ). IsPlaced q ps ws k c.loop-place.pieces.items (reverse c.loop-place.strays.items)) up c.loop-place.invariant in
     (next_piece q ps ws (c.loop-place.place - 1) c.loop-place.pieces.items (reverse c.loop-place.strays.items) c.index_mut.result.now now c.index_mut.ensures.value).placed
     c.receive_in.new.piece (reverse c.receive_in.new.strays.items) c.in_ok-receive_in.ensures.same c.in_ok-receive_in.ensures.tasks
 
@@ -37,7 +40,9 @@ returns-clause-tasks g c =
     let ps = c.args.pieces.now.items in
     let ws = reverse c.args.strays.now.items in
     let zero : c.loop-place.place ≡ 0 = omega (arith, c.loop-place-test.false) in
-    let now = subst (λ (k : ℕ). IsPlaced q ps ws k c.loop-place.pieces.items (reverse c.loop-place.strays.items)) zero c.loop-place.invariant in
+    let now =
+    subst (λ (k : ℕ). IsPlaced q ps ws k c.loop-place.pieces.items (reverse c.loop-place.strays.items)) zero c.loop-place.invariant in
     let some = some_there (vec_len c.loop-place.pieces) c.is_empty-2.result c.is_empty-2.ensures c.if-is_empty-2.false in
-    last_ok q c.add_all.result ps ws c.loop-place.pieces.items c.index_mut-2.result.now c.add_all.new.piece (reverse c.loop-place.strays.items) now
+    last_ok q c.add_all.result ps ws c.loop-place.pieces.items c.index_mut-2.result.now c.add_all.new.piece
+    (reverse c.loop-place.strays.items) now
     (omega (arith, some, c.loop-place.pieces.ok.0)) c.index_mut-2.ensures.value c.add_all.ensures.tasks

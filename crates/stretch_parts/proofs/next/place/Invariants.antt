@@ -3,7 +3,8 @@ use Rattle.stretch_parts.proofs.Pieces.{IsPlaced}
 use Rattle.stretch_parts.proofs.next.place.Given as goal
 
 abbrev pub invariant-loop-place : goal.invariant-loop-place
-invariant-loop-place g l = IsPlaced g.T.OnPath.path_of l.fn.pieces.items (reverse l.fn.strays.items) l.place l.pieces.items (reverse l.strays.items)
+invariant-loop-place g l =
+    IsPlaced g.T.OnPath.path_of l.fn.pieces.items (reverse l.fn.strays.items) l.place l.pieces.items (reverse l.strays.items)
 
 abbrev pub decreases-loop-place : goal.decreases-loop-place
 decreases-loop-place g l = l.place

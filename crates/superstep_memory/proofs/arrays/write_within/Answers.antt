@@ -10,7 +10,8 @@ returns c =
     let those = c.split_at_mut-those.result.0.now in
     let back = c.split_at_mut-those.result.1.now in
     let values = c.args.values.now in
-    let cut : c.args.cells.now ≡ front ++ (those ++ back) = c.split_at_mut-rest.ensures.value ∙ ap (λ (xs : List ℤ). front ++ xs) c.split_at_mut-those.ensures.value in
+    let cut : c.args.cells.now ≡ front ++ (those ++ back) =
+    c.split_at_mut-rest.ensures.value ∙ ap (λ (xs : List ℤ). front ++ xs) c.split_at_mut-those.ensures.value in
     ap (λ (xs : List ℤ). front ++ (xs ++ back)) c.copy_from_slice.ensures.after
     ∙ sym (row_within front those back values c.split_at_mut-those.ensures.front_len)
     ∙ (λ i. row_set (sym cut i) (c.split_at_mut-rest.ensures.front_len i) values)

@@ -18,9 +18,11 @@ overflow_sub-before-else-lot c =
 
 pub unreachable-requires : goal.unreachable-requires
 unreachable-requires c =
-    has_row c.loop-lot.rest.now c.in-Some.earlier.now c.in-Some.lot.now c.loop-lot.left.now c.in-Some.ensures.cases.0 c.if-lot.true c.loop-lot.invariant.rows c.in-None.ensures.cases
+    has_row c.loop-lot.rest.now c.in-Some.earlier.now c.in-Some.lot.now c.loop-lot.left.now c.in-Some.ensures.cases.0 c.if-lot.true
+    c.loop-lot.invariant.rows c.in-None.ensures.cases
 
-before : (c : goal.After-give_back_row) → IsBeforeLast c.loop-lot.rest.now c.loop-lot.left.now c.in-Some.earlier.now c.in-Some.lot.now c.if-lot.left.now c.if-lot.before
+before : (c : goal.After-give_back_row)
+    → IsBeforeLast c.loop-lot.rest.now c.loop-lot.left.now c.in-Some.earlier.now c.in-Some.lot.now c.if-lot.left.now c.if-lot.before
 before c =
     elim c.if-lot.branch [
       | then-lot+in-Some-split_last w ↦
@@ -46,4 +48,6 @@ loop-lot-preserved c =
     }
 
 pub returns : goal.returns
-returns c = λ xs h. nothing_begun (puts_in c.loop-lot.rest.now c.loop-lot.left.now) (none_in c.loop-lot.rest.now c.loop-lot.left.now c.in_default.ensures.cases) (c.loop-lot.invariant.back xs h)
+returns c =
+    λ xs h. nothing_begun (puts_in c.loop-lot.rest.now c.loop-lot.left.now)
+    (none_in c.loop-lot.rest.now c.loop-lot.left.now c.in_default.ensures.cases) (c.loop-lot.invariant.back xs h)

@@ -5,7 +5,9 @@ use Rattle.superstep_memory.specs.Lots.{puts_in}
 use Rattle.superstep_memory.proofs.lots_landing.write_lots.Given as goal
 
 abbrev pub invariant-loop-lot : goal.invariant-loop-lot
-invariant-loop-lot l = (landed (puts_in l.fn.lots l.fn.rows) l.fn.arrays ≡ landed (puts_in l.rest l.left) l.arrays) × (list_all is_set (puts_in l.rest l.left) ≡ true)
+invariant-loop-lot l =
+    (landed (puts_in l.fn.lots l.fn.rows) l.fn.arrays ≡ landed (puts_in l.rest l.left) l.arrays)
+    × (list_all is_set (puts_in l.rest l.left) ≡ true)
 
 abbrev pub decreases-loop-lot : goal.decreases-loop-lot
 decreases-loop-lot l = length l.rest

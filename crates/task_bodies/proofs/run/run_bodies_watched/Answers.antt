@@ -16,15 +16,25 @@ run_watched-requires-clause-few g c =
 pub run_watched-requires-clause-paths : goal.run_watched-requires-clause-paths
 run_watched-requires-clause-paths g c =
     let e = c.in_ok-members.ensures.tasks in
-    (λ i. map path_of (e i)) ∙ numbered_paths [] 0 c.args.tasks.items ∙ ap (λ (ts : List (MemberValue g.row.B-Kept.Denot)). children [] 0 (length ts)) (sym e)
+    (λ i. map path_of (e i)) ∙ numbered_paths [] 0 c.args.tasks.items
+    ∙ ap (λ (ts : List (MemberValue g.row.B-Kept.Denot)). children [] 0 (length ts)) (sym e)
 
 pub returns : goal.returns
 returns g c = record {
   ran =
-      subst (λ (ts : List (MemberValue g.row.B-Kept.Denot)). HasRunTo g.W.Watch.stops g.W.Watch.goes member_frame (BodyMay (g.B.TaskBody.may c.args.body.now)) c.args.most c.args.arrays ts c.args.limit c.in_ok-ran.ran.report c.in_ok-ran.ran.tasks.items)
+      subst
+      (λ (ts : List (MemberValue g.row.B-Kept.Denot)). HasRunTo g.W.Watch.stops g.W.Watch.goes member_frame
+      (BodyMay (g.B.TaskBody.may c.args.body.now)) c.args.most c.args.arrays ts c.args.limit c.in_ok-ran.ran.report
+      c.in_ok-ran.ran.tasks.items)
       (same_of c.in_ok-members.members.items ∙ c.in_ok-members.ensures.tasks)
-      (subst (λ (us : List (MemberValue g.row.B-Kept.Denot)). HasRunTo g.W.Watch.stops g.W.Watch.goes member_frame (BodyMay (g.B.TaskBody.may c.args.body.now)) c.args.most c.args.arrays (map (λ t. t) c.in_ok-members.members.items) c.args.limit c.in_ok-ran.ran.report us)
+      (subst
+      (λ (us : List (MemberValue g.row.B-Kept.Denot)). HasRunTo g.W.Watch.stops g.W.Watch.goes member_frame
+      (BodyMay (g.B.TaskBody.may c.args.body.now)) c.args.most c.args.arrays (map (λ t. t) c.in_ok-members.members.items) c.args.limit
+      c.in_ok-ran.ran.report us)
       (same_of c.in_ok-ran.ran.tasks.items) c.in_ok-ran.ensures);
-  few = not_too_many c.args.most (length c.args.tasks.items) (omega (arith, c.if-len-most.false, c.len-else-len-gt65535.ensures, c.args.tasks.ok.0)) (omega (arith, c.if-len-most.false, c.len-else-len-gt65535.ensures, c.args.tasks.ok.0));
+  few =
+      not_too_many c.args.most (length c.args.tasks.items)
+      (omega (arith, c.if-len-most.false, c.len-else-len-gt65535.ensures, c.args.tasks.ok.0))
+      (omega (arith, c.if-len-most.false, c.len-else-len-gt65535.ensures, c.args.tasks.ok.0));
   fault = tt;
 }

@@ -6,7 +6,8 @@ use Rattle.task_code.proofs.job.are_within.Given as goal
 
 abbrev pub invariant-loop-first : goal.invariant-loop-first
 invariant-loop-first l = record {
-  within : list_all (λ b. list_all (limits.is_line l.arrays l.count) b.code) l.bodies ≡ list_all (λ b. list_all (limits.is_line l.arrays l.count) b.code) l.rest;
+  within : list_all (λ b. list_all (limits.is_line l.arrays l.count) b.code) l.bodies
+      ≡ list_all (λ b. list_all (limits.is_line l.arrays l.count) b.code) l.rest;
   each : AllByRecursion IsBody l.rest → AllByRecursion IsBody l.bodies;
 }
 

@@ -11,7 +11,9 @@ returns-then-set-clause-below c =
     c.operands_of.ensures c.sets_below-set.ensures c.are_below_operands-operands.ensures.below
 
 pub returns-then-set-clause-fits : goal.returns-then-set-clause-fits
-returns-then-set-clause-fits c = subst IsTrue (line_fits c.args.line.now c.operands_of.result c.operands_of.ensures) c.are_below_operands-operands.ensures.fits
+returns-then-set-clause-fits c =
+    subst IsTrue (line_fits c.args.line.now c.operands_of.result c.operands_of.ensures) c.are_below_operands-operands.ensures.fits
 
 pub returns-else-set-clause-fits : goal.returns-else-set-clause-fits
-returns-else-set-clause-fits c = subst IsTrue (line_fits c.args.line.now c.operands_of.result c.operands_of.ensures) c.are_below_operands-operands.ensures.fits
+returns-else-set-clause-fits c =
+    subst IsTrue (line_fits c.args.line.now c.operands_of.result c.operands_of.ensures) c.are_below_operands-operands.ensures.fits

@@ -20,7 +20,8 @@ goes s d new body v deep many most is =
     let e : nat_le 65535 (s.begun + length d.spawns) ≡ false = grind arith in
     sym (λ i. if a i then Fails Depth else if b i || e i then Fails Spawns else Goes (sym is i))
 
-fails_many : (s : Setting) (d : Doing) (body : ℕ) (v : ℤ) → length s.path < 8 → (nat_le 8 (length d.spawns) || nat_le 65535 (s.begun + length d.spawns)) ≡ true
+fails_many : (s : Setting) (d : Doing) (body : ℕ) (v : ℤ) → length s.path < 8
+    → (nat_le 8 (length d.spawns) || nat_le 65535 (s.begun + length d.spawns)) ≡ true
     → Fails Spawns ≡ spawn s d body v
 fails_many s d body v deep many =
     let a : nat_le 8 (length s.path) ≡ false = grind arith in
@@ -54,8 +55,12 @@ returns-then-count-ge8 c = λ locals.
     fails_many (setting c.args.scene.now) (doing ps locals c.args.work.now) c.args.body c.args.arg
     (omega (arith, c.len.ensures.value, c.if-len-ge8.false))
     (elim c.then-count-ge8.branch [
-      | then-count-ge8-via-then-count-ge8 w ↦ first_true (length (map (task_of ps) c.args.work.now.spawns.items)) (c.args.scene.now.spawned + length (map (task_of ps) c.args.work.now.spawns.items)) (omega (arith, mapped, c.len-count.ensures, c.args.work.now.spawns.ok.0, w.if-count-ge8.true))
-      | then-count-ge8-via-else-count-ge8+then-from-count-ge65535 w ↦ second_true (length (map (task_of ps) c.args.work.now.spawns.items)) (c.args.scene.now.spawned + length (map (task_of ps) c.args.work.now.spawns.items)) (omega (arith, mapped, c.len-count.ensures, c.args.work.now.spawns.ok.0, w.from.ensures, w.if-from-count-ge65535.true))
+      | then-count-ge8-via-then-count-ge8 w ↦ first_true (length (map (task_of ps) c.args.work.now.spawns.items))
+          (c.args.scene.now.spawned + length (map (task_of ps) c.args.work.now.spawns.items))
+          (omega (arith, mapped, c.len-count.ensures, c.args.work.now.spawns.ok.0, w.if-count-ge8.true))
+      | then-count-ge8-via-else-count-ge8+then-from-count-ge65535 w ↦ second_true (length (map (task_of ps) c.args.work.now.spawns.items))
+          (c.args.scene.now.spawned + length (map (task_of ps) c.args.work.now.spawns.items))
+          (omega (arith, mapped, c.len-count.ensures, c.args.work.now.spawns.ok.0, w.from.ensures, w.if-from-count-ge65535.true))
     ])
 
 pub returns : goal.returns
@@ -63,11 +68,16 @@ returns c = λ locals.
     let ps = plans c.args.scene.now.bodies.now in
     let old = c.args.work.now.spawns.items in
     let mapped = length-map old (task_of ps) in
-    let count : c.len-count.result ≡ length (map (task_of ps) old) = omega (arith, mapped, c.len-count.ensures, c.args.work.now.spawns.ok.0) in
+    let count : c.len-count.result ≡ length (map (task_of ps) old) =
+    omega (arith, mapped, c.len-count.ensures, c.args.work.now.spawns.ok.0) in
     let fits : FitsSigned w64 c.args.arg = search rules in
     let back = to_z-of_z w64 c.args.arg fits in
-    let first = c.in_ok-begun.ensures ∙ (λ i. started ps (c.args.scene.now.path.now.items ++ (c.args.scene.now.spawned + count i) ∷ []) c.args.body (back i)) in
-    let more = ap (map (task_of ps)) c.in_ok-push.ensures.items ∙ map-append (task_of ps) old (c.in_ok-begun.begun ∷ []) ∙ (λ i. map (task_of ps) old ++ first i ∷ []) in
+    let first =
+    c.in_ok-begun.ensures
+    ∙ (λ i. started ps (c.args.scene.now.path.now.items ++ (c.args.scene.now.spawned + count i) ∷ []) c.args.body (back i)) in
+    let more =
+    ap (map (task_of ps)) c.in_ok-push.ensures.items ∙ map-append (task_of ps) old (c.in_ok-begun.begun ∷ [])
+    ∙ (λ i. map (task_of ps) old ++ first i ∷ []) in
     goes (setting c.args.scene.now) (doing ps locals c.args.work.now) _ c.args.body c.args.arg
     (omega (arith, c.len.ensures.value, c.if-len-ge8.false)) (omega (arith, count, c.if-count-ge8.false))
     (omega (arith, count, c.from.ensures, c.if-from-count-ge65535.false))

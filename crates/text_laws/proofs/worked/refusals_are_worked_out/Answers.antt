@@ -8,7 +8,8 @@ use Rattle.job_reader.specs.Reading as reading
 use Rattle.text_laws.proofs.worked.refusals_are_worked_out.Goals as goal
 
 pub returns : goal.returns
-unfolding fmt.digits names.is_reserved reading.job_in reading.outer_of words.index_of words.in_index exprs.cell_of exprs.operand_of exprs.in_operand exprs.operator_of lines.keyword_of lines.line_behind lines.mentions_behind
+unfolding fmt.digits names.is_reserved reading.job_in reading.outer_of words.index_of words.in_index exprs.cell_of exprs.operand_of
+    exprs.in_operand exprs.operator_of lines.keyword_of lines.line_behind lines.mentions_behind
 returns c = record {
   nesting_first = refl;
   words_before_reserved = refl;

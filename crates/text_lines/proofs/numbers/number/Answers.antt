@@ -11,7 +11,8 @@ pub returns-in-Err-parse-clause-none : goal.returns-in-Err-parse-clause-none
 returns-in-Err-parse-clause-none c = none_unparsed _ c.in-Ok.text.now c.in-Ok.ensures.cases.0 c.in-Err-parse.ensures.value.0
 
 pub returns-in-Err-parse-clause-value : goal.returns-in-Err-parse-clause-value
-returns-in-Err-parse-clause-value c = number_none _ (none_unparsed _ c.in-Ok.text.now c.in-Ok.ensures.cases.0 c.in-Err-parse.ensures.value.0)
+returns-in-Err-parse-clause-value c =
+    number_none _ (none_unparsed _ c.in-Ok.text.now c.in-Ok.ensures.cases.0 c.in-Err-parse.ensures.value.0)
 
 pub returns-else-is_text_of-clause-none : goal.returns-else-is_text_of-clause-none
 returns-else-is_text_of-clause-none c = none_other _ c.in-Ok.text.now c.in-Ok-parse.n c.in-Ok.ensures.cases.0 c.in-Ok-parse.ensures.value.0

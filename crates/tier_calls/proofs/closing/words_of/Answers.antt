@@ -19,9 +19,13 @@ loop-tier-preserved c = (
   λ ws is legal long.
       let lt = c.loop-tier-test.true in
       let w = unpacked _ _ _ c.unwrap.ensures (word_read ws is legal (omega arith) c.word.ensures c.unpack.ensures.again) in
-      c.push_reserved.ensures.items ∙ ((λ i. c.loop-tier.invariant.0 ws is legal long i ++ w i ∷ []) ∙ sym (take_more ws c.loop-tier.tier (omega arith))),
+      c.push_reserved.ensures.items
+      ∙ ((λ i. c.loop-tier.invariant.0 ws is legal long i ++ w i ∷ []) ∙ sym (take_more ws c.loop-tier.tier (omega arith))),
   c.push_reserved.ensures.capacity ∙ c.loop-tier.invariant.1,
-  (let a = ap length c.push_reserved.ensures.items in let b = length-append c.loop-tier.words.items (c.unwrap.result ∷ []) in let d = c.loop-tier.invariant.2 in omega arith),
+  (let a = ap length c.push_reserved.ensures.items in
+      let b = length-append c.loop-tier.words.items (c.unwrap.result ∷ []) in
+      let d = c.loop-tier.invariant.2 in
+      omega arith),
 )
 
 pub returns : goal.returns

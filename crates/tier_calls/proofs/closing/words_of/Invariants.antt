@@ -7,5 +7,6 @@ use Rattle.tier_calls.proofs.closing.words_of.Given as goal
 
 abbrev pub invariant-loop-tier : goal.invariant-loop-tier
 invariant-loop-tier l =
-    ((ws : List Fields) → slots_items l.closed.words ≡ map packed ws → ((t : ℕ) → t < length ws → IsLegal (word_at ws t)) → length ws ≡ l.count → l.words.items ≡ take l.tier ws)
+    ((ws : List Fields) → slots_items l.closed.words ≡ map packed ws → ((t : ℕ) → t < length ws → IsLegal (word_at ws t))
+    → length ws ≡ l.count → l.words.items ≡ take l.tier ws)
     × (vec_capacity l.words ≡ vec_capacity l.fn.words) × (length l.words.items ≡ l.tier)

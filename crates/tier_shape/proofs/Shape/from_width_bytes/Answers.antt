@@ -6,15 +6,18 @@ use Rattle.tier_shape.proofs.Shape.from_width_bytes.Goals as goal
 
 pub returns-clause-bad_text : goal.returns-clause-bad_text
 returns-clause-bad_text c =
-    exact_bad c.args.text.now (λ shape. IsTreeText c.args.text.now shape × IsTiers shape) (λ shape good. (shape, good.0)) c.read_shape.result c.read_shape.ensures
+    exact_bad c.args.text.now (λ shape. IsTreeText c.args.text.now shape × IsTiers shape) (λ shape good. (shape, good.0))
+    c.read_shape.result c.read_shape.ensures
 
 pub returns-clause-too_deep : goal.returns-clause-too_deep
 returns-clause-too_deep c =
-    exact_deep c.args.text.now (λ shape. IsTreeText c.args.text.now shape × IsTiers shape) (λ shape good. (shape, good.0)) c.read_shape.result c.read_shape.ensures
+    exact_deep c.args.text.now (λ shape. IsTreeText c.args.text.now shape × IsTiers shape) (λ shape good. (shape, good.0))
+    c.read_shape.result c.read_shape.ensures
 
 pub returns-clause-too_many : goal.returns-clause-too_many
 returns-clause-too_many c =
-    exact_wide c.args.text.now (λ shape. IsTreeText c.args.text.now shape × IsTiers shape) (λ shape good. (shape, good.0)) c.read_shape.result c.read_shape.ensures
+    exact_wide c.args.text.now (λ shape. IsTreeText c.args.text.now shape × IsTiers shape) (λ shape good. (shape, good.0))
+    c.read_shape.result c.read_shape.ensures
 
 pub returns-clause-spelled_out : goal.returns-clause-spelled_out
 returns-clause-spelled_out c = ok_in_text c.args.text.now c.read_shape.result c.read_shape.ensures

@@ -10,10 +10,12 @@ loop-tier-preserved c =
     elim c.if-is_leaf.branch [
       | then-is_leaf+in_ok-push w ↦
           ap (λ v. v.items) w.leaves-is ∙ w.in_ok-push.ensures.items
-          ∙ keeps_next (is_leaf_of c.args.self.now) c.loop-tier.leaves.items c.loop-tier.tier (sym c.is_leaf.ensures.test ∙ w.if-is_leaf.true) c.loop-tier.invariant
+          ∙ keeps_next (is_leaf_of c.args.self.now) c.loop-tier.leaves.items c.loop-tier.tier
+          (sym c.is_leaf.ensures.test ∙ w.if-is_leaf.true) c.loop-tier.invariant
       | else-is_leaf w ↦
           ap (λ v. v.items) w.leaves-is
-          ∙ drops_next (is_leaf_of c.args.self.now) c.loop-tier.leaves.items c.loop-tier.tier (sym c.is_leaf.ensures.test ∙ w.if-is_leaf.false) c.loop-tier.invariant
+          ∙ drops_next (is_leaf_of c.args.self.now) c.loop-tier.leaves.items c.loop-tier.tier
+          (sym c.is_leaf.ensures.test ∙ w.if-is_leaf.false) c.loop-tier.invariant
     ]
 
 pub returns-clause-some : goal.returns-clause-some

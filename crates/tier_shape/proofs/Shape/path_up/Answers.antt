@@ -10,8 +10,10 @@ loop-at-preserved c =
     let some : 0 < c.loop-at.at = omega arith in
     let within : c.loop-at.at < length c.self.inside.parents.items = c.loop-at.invariant.within in
     let up : c.index-at.result.now ≡ parent_of c.self.inside.parents.items c.loop-at.at = grind (arith, common_steps) in
-    let below : parent_of c.self.inside.parents.items c.loop-at.at < c.loop-at.at = c.self.invariant.shape.earlier c.loop-at.at some within in
-    let goes : path_of c.self.inside.parents.items c.loop-at.at ≡ c.loop-at.at ∷ path_of c.self.inside.parents.items (parent_of c.self.inside.parents.items c.loop-at.at) =
+    let below : parent_of c.self.inside.parents.items c.loop-at.at < c.loop-at.at =
+    c.self.invariant.shape.earlier c.loop-at.at some within in
+    let goes : path_of c.self.inside.parents.items c.loop-at.at
+    ≡ c.loop-at.at ∷ path_of c.self.inside.parents.items (parent_of c.self.inside.parents.items c.loop-at.at) =
     path_goes c.self.inside.parents.items c.loop-at.at c.self.invariant.shape within some in
     rw up (record {
       within = omega arith;

@@ -9,7 +9,8 @@ use Rattle.tier_table.proofs.beginning.register_leaves.Given as goal
 abbrev pub invariant-loop-count : goal.invariant-loop-count
 invariant-loop-count g l = record {
   groups : Completes (AreAtLeaves l.tiers l.phase) l.leaves l.counts l.places l.rest l.groups.items;
-  stops : (tier : ℕ) (answer : GroupRegistered) → Completes (λ p r h. StopsAt 16 l.tiers l.phase p r h tier answer) l.leaves l.counts l.places l.rest l.groups.items;
+  stops : (tier : ℕ) (answer : GroupRegistered)
+      → Completes (λ p r h. StopsAt 16 l.tiers l.phase p r h tier answer) l.leaves l.counts l.places l.rest l.groups.items;
   all_fit : HaveRoom l.counts;
   door : OnlySplit l.fn.door l.door;
   opened : l.door.opened ≡ l.fn.door.opened + length l.groups.items;

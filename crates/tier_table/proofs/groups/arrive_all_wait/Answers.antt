@@ -13,13 +13,20 @@ pub arrive_all_once-requires-clause-rule : goal.arrive_all_once-requires-clause-
 arrive_all_once-requires-clause-rule g c = c.requires.rule
 
 pub loop-preserved : goal.loop-preserved
-loop-preserved g c = (tt, tt, inr (before_more (let a = c.arrive_all_once.ensures.one in omega arith) c.loop.invariant.2 c.in-Err.ensures.answer), λ p e. absurd (c.in-Err.ensures.ended p (c.loop.invariant.3 p e)))
+loop-preserved g c = (
+  tt,
+  tt,
+  inr (before_more (let a = c.arrive_all_once.ensures.one in omega arith) c.loop.invariant.2 c.in-Err.ensures.answer),
+  λ p e. absurd (c.in-Err.ensures.ended p (c.loop.invariant.3 p e)),
+)
 
 pub loop-preserved-derived : goal.loop-preserved-derived
 loop-preserved-derived g c = (tt, tt)
 
 pub returns-in-Ok-clause-answer : goal.returns-in-Ok-clause-answer
-returns-in-Ok-clause-answer g c = all_before 16 c.args.group c.loop.group c.in-Ok.answer (let a = c.arrive_all_once.ensures.one in omega arith) c.loop.invariant.2 c.in-Ok.ensures.answer
+returns-in-Ok-clause-answer g c =
+    all_before 16 c.args.group c.loop.group c.in-Ok.answer (let a = c.arrive_all_once.ensures.one in omega arith) c.loop.invariant.2
+    c.in-Ok.ensures.answer
 
 pub unreachable-requires : goal.unreachable-requires
 unreachable-requires g c = false≢true c.in-None.ensures.steps

@@ -9,4 +9,5 @@ pub returns-in-Busy-clause-answer : goal.returns-in-Busy-clause-answer
 returns-in-Busy-clause-answer g c = let reported = c.in-Busy.ensures.answer in kept_looked 16 reported.first reported.kept
 
 pub returns-in-Owing-clause-answer : goal.returns-in-Owing-clause-answer
-returns-in-Owing-clause-answer g c = (c.args.group, inl refl, inr (c.in-Owing.errand, c.in-Owing.others, c.in-Owing.ensures.answer, c.finish_wait-group.ensures))
+returns-in-Owing-clause-answer g c =
+    (c.args.group, inl refl, inr (c.in-Owing.errand, c.in-Owing.others, c.in-Owing.ensures.answer, c.finish_wait-group.ensures))

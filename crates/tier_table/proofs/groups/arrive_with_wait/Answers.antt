@@ -19,13 +19,21 @@ pub arrive_with_once-requires-clause-rule : goal.arrive_with_once-requires-claus
 arrive_with_once-requires-clause-rule g c = c.requires.rule
 
 pub loop-preserved : goal.loop-preserved
-loop-preserved g c = (tt, tt, inr (before_more (let a = c.arrive_with_once.ensures.one in omega arith) c.loop.invariant.2 c.in-Err.ensures.answer), split_then c.loop.invariant.3 c.arrive_with_once.ensures.door, λ p e. absurd (c.in-Err.ensures.ended p (c.loop.invariant.4 p e)))
+loop-preserved g c = (
+  tt,
+  tt,
+  inr (before_more (let a = c.arrive_with_once.ensures.one in omega arith) c.loop.invariant.2 c.in-Err.ensures.answer),
+  split_then c.loop.invariant.3 c.arrive_with_once.ensures.door,
+  λ p e. absurd (c.in-Err.ensures.ended p (c.loop.invariant.4 p e)),
+)
 
 pub loop-preserved-derived : goal.loop-preserved-derived
 loop-preserved-derived g c = (tt, tt)
 
 pub returns-in-Ok-clause-answer : goal.returns-in-Ok-clause-answer
-returns-in-Ok-clause-answer g c = with_before 16 c.args.joining c.args.leaving c.args.group c.loop.group c.in-Ok.answer (let a = c.arrive_with_once.ensures.one in omega arith) c.loop.invariant.2 c.in-Ok.ensures.answer
+returns-in-Ok-clause-answer g c =
+    with_before 16 c.args.joining c.args.leaving c.args.group c.loop.group c.in-Ok.answer
+    (let a = c.arrive_with_once.ensures.one in omega arith) c.loop.invariant.2 c.in-Ok.ensures.answer
 
 pub returns-in-Ok-clause-door : goal.returns-in-Ok-clause-door
 returns-in-Ok-clause-door g c = split_then c.loop.invariant.3 c.arrive_with_once.ensures.door
@@ -34,7 +42,8 @@ pub unreachable-requires : goal.unreachable-requires
 unreachable-requires g c = false≢true c.in-None.ensures.steps
 
 pub returns-in-Ok-clause-tree : goal.returns-in-Ok-clause-tree
-returns-in-Ok-clause-tree g c = with_tree 16 c.args.joining c.args.leaving c.loop.group c.in-Ok.answer c.in-Ok.ensures.answer ∙ before_tree c.loop.invariant.2
+returns-in-Ok-clause-tree g c =
+    with_tree 16 c.args.joining c.args.leaving c.loop.group c.in-Ok.answer c.in-Ok.ensures.answer ∙ before_tree c.loop.invariant.2
 
 pub returns-in-Ok-clause-ended : goal.returns-in-Ok-clause-ended
 returns-in-Ok-clause-ended g c = λ p e. c.in-Ok.ensures.ended p (c.loop.invariant.4 p e)

@@ -12,20 +12,45 @@ poll_all-requires g c = record { own = c.loop.invariant.2.tree ∙ c.requires.ow
 pub loop-preserved : goal.loop-preserved
 loop-preserved g c =
     let reported = c.in-Waiting.ensures.answer in
-    let kept = c.loop.invariant.2 in
-    (tt, tt, waited_more 1 (kept.view.size ∙ c.size.ensures.one) kept reported.0 reported.1 reported.3 reported.4, λ p e. absurd (c.in-Waiting.ensures.ended p (c.loop.invariant.3 p e)))
+    let kept = c.loop.invariant.2 in (
+      tt,
+      tt,
+      waited_more 1 (kept.view.size ∙ c.size.ensures.one) kept reported.0 reported.1 reported.3 reported.4,
+      λ p e. absurd (c.in-Waiting.ensures.ended p (c.loop.invariant.3 p e)),
+    )
 
 pub loop-preserved-derived : goal.loop-preserved-derived
 loop-preserved-derived g c = (tt, tt)
 
 pub returns-in-Passed-clause-answer : goal.returns-in-Passed-clause-answer
-returns-in-Passed-clause-answer g c = record { last = c.loop.group; waited = c.loop.invariant.2; polls = c.in-Passed.ensures.answer; all = c.in-Passed.ensures.waited; caught_up = c.in-Passed.ensures.caught_up }
+returns-in-Passed-clause-answer g c =
+    record {
+      last = c.loop.group;
+      waited = c.loop.invariant.2;
+      polls = c.in-Passed.ensures.answer;
+      all = c.in-Passed.ensures.waited;
+      caught_up = c.in-Passed.ensures.caught_up;
+    }
 
 pub returns-in-Here-clause-answer : goal.returns-in-Here-clause-answer
-returns-in-Here-clause-answer g c = record { last = c.loop.group; waited = c.loop.invariant.2; polls = c.in-Here.ensures.answer; all = tt; caught_up = c.in-Here.ensures.caught_up }
+returns-in-Here-clause-answer g c =
+    record {
+      last = c.loop.group;
+      waited = c.loop.invariant.2;
+      polls = c.in-Here.ensures.answer;
+      all = tt;
+      caught_up = c.in-Here.ensures.caught_up;
+    }
 
 pub returns-in-Ended-clause-answer : goal.returns-in-Ended-clause-answer
-returns-in-Ended-clause-answer g c = let reported = c.in-Ended.ensures.answer in record { last = c.loop.group; waited = c.loop.invariant.2; polls = (reported.0, reported.1, (reported.2.0, reported.2.1, search rules), reported.3); all = c.in-Ended.ensures.waited; caught_up = tt }
+returns-in-Ended-clause-answer g c = let reported = c.in-Ended.ensures.answer in
+    record {
+      last = c.loop.group;
+      waited = c.loop.invariant.2;
+      polls = (reported.0, reported.1, (reported.2.0, reported.2.1, search rules), reported.3);
+      all = c.in-Ended.ensures.waited;
+      caught_up = tt;
+    }
 
 pub unreachable-requires : goal.unreachable-requires
 unreachable-requires g c = false≢true c.in-None.ensures.steps

@@ -13,7 +13,8 @@ use Rattle.tier_table.proofs.Lasting.{opens_for, refused_for, entered_more, watc
 use Rattle.tier_table.proofs.waiting.join_once.Goals as goal
 
 -- a registration that is held off, or ran out of tries
-held_off : (r : Registered) (h : Holding) (old : List Kind) → ((phase : ℕ) × (cause : Cause) × (r ≡ Held h phase cause)) ⊎ (r ≡ Busy h) → EnteredBy r old (token_of r).steps → HasEntered old h.steps
+held_off : (r : Registered) (h : Holding) (old : List Kind) → ((phase : ℕ) × (cause : Cause) × (r ≡ Held h phase cause)) ⊎ (r ≡ Busy h)
+    → EnteredBy r old (token_of r).steps → HasEntered old h.steps
 held_off r h old (inl e) m = subst (λ (s : Registered). EnteredBy s old (token_of s).steps) e.2 m
 held_off r h old (inr e) m = watched_enters (subst (λ (s : Registered). EnteredBy s old (token_of s).steps) e m)
 
@@ -29,7 +30,12 @@ join-requires-clause-size g c = c.requires.members
 pub returns-in-Joined : goal.returns-in-Joined
 returns-in-Joined g c =
     let reported = c.in-Joined.ensures.answer in
-    record { answer = (reported.0.tree ∙ c.requires.own, reported.1, reported.2, reported.3); unsplit = reported.0.opened; made = c.in-Joined.ensures.made; ended = λ p e. absurd (c.in-Joined.ensures.ended p e) }
+    record {
+      answer = (reported.0.tree ∙ c.requires.own, reported.1, reported.2, reported.3);
+      unsplit = reported.0.opened;
+      made = c.in-Joined.ensures.made;
+      ended = λ p e. absurd (c.in-Joined.ensures.ended p e);
+    }
 
 pub returns-in-Full : goal.returns-in-Full
 returns-in-Full g c =
@@ -37,7 +43,8 @@ returns-in-Full g c =
     record {
       answer = (
         reported.0.tree ∙ c.requires.own,
-        refused_for c.args.tiers.now c.args.door c.args.tier c.args.tier c.args.members c.args.members c.in-Full.next.view (played.Full c.in-Full.count) c.requires.own refl refl
+        refused_for c.args.tiers.now c.args.door c.args.tier c.args.tier c.args.members c.args.members c.in-Full.next.view
+            (played.Full c.in-Full.count) c.requires.own refl refl
             reported.1,
       );
       unsplit = reported.0.opened;
@@ -47,7 +54,13 @@ returns-in-Full g c =
 
 pub returns-in-Ended : goal.returns-in-Ended
 returns-in-Ended g c =
-    let reported = c.in-Ended.ensures.answer in record { answer = (reported.0.tree ∙ c.requires.own, (reported.1.0, reported.1.1, search rules)); unsplit = reported.0.opened; made = c.in-Ended.ensures.made; ended = λ p e. tt }
+    let reported = c.in-Ended.ensures.answer in
+    record {
+      answer = (reported.0.tree ∙ c.requires.own, (reported.1.0, reported.1.1, search rules));
+      unsplit = reported.0.opened;
+      made = c.in-Ended.ensures.made;
+      ended = λ p e. tt;
+    }
 
 pub open_wait-requires : goal.open_wait-requires
 open_wait-requires g c = record { own = c.in-Owing.ensures.answer.0.tree ∙ c.requires.own }
@@ -57,7 +70,9 @@ returns-in-Owing g c =
     let asked = c.in-Owing.ensures.answer.1 in
     let errand = c.in-Owing.opening.token.view.errand in
     record {
-      answer = opens_for c.args.tiers.now (asked_tier errand) c.args.tier (asked_size errand) c.args.members c.open_wait.result asked.place asked.members c.open_wait.ensures.answer;
+      answer =
+          opens_for c.args.tiers.now (asked_tier errand) c.args.tier (asked_size errand) c.args.members c.open_wait.result asked.place
+          asked.members c.open_wait.ensures.answer;
       unsplit = subst (λ (n : ℕ). HasSplit n c.open_wait.result) c.in-Owing.ensures.answer.0.opened c.open_wait.ensures.unsplit;
       made = entered_more c.in-Owing.ensures.made c.open_wait.ensures.made;
       ended = λ p e. absurd (c.in-Owing.ensures.ended p e);

@@ -36,7 +36,8 @@ returns-in-Full g c =
     record {
       answer = (
         reported.0.tree ∙ kept.2,
-        refused_for c.args.tiers.now c.loop.opening.token (asked_tier now) (asked_tier first) (asked_size now) (asked_size first) c.in-Full.door.view
+        refused_for c.args.tiers.now c.loop.opening.token (asked_tier now) (asked_tier first) (asked_size now) (asked_size first)
+            c.in-Full.door.view
             (played.Full c.in-Full.count) kept.2 kept.3 kept.4 reported.1,
       );
       unsplit = reported.0.opened ∙ kept.5;
@@ -45,10 +46,20 @@ returns-in-Full g c =
 
 pub returns-in-Ended : goal.returns-in-Ended
 returns-in-Ended g c =
-    let reported = c.in-Ended.ensures.answer in record { answer = (reported.0.tree ∙ c.loop.invariant.2, (reported.1.0, reported.1.1, search rules)); unsplit = reported.0.opened ∙ c.loop.invariant.5; made = made_then is_entering c.loop.invariant.6 c.in-Ended.ensures.made }
+    let reported = c.in-Ended.ensures.answer in
+    record {
+      answer = (reported.0.tree ∙ c.loop.invariant.2, (reported.1.0, reported.1.1, search rules));
+      unsplit = reported.0.opened ∙ c.loop.invariant.5;
+      made = made_then is_entering c.loop.invariant.6 c.in-Ended.ensures.made;
+    }
 
 pub returns-in-Held : goal.returns-in-Held
-returns-in-Held g c = let reported = c.in-Held.ensures.answer in record { answer = reported.0.tree ∙ c.loop.invariant.2; unsplit = reported.0.opened ∙ c.loop.invariant.5; made = made_then is_entering c.loop.invariant.6 c.in-Held.ensures.made }
+returns-in-Held g c = let reported = c.in-Held.ensures.answer in
+    record {
+      answer = reported.0.tree ∙ c.loop.invariant.2;
+      unsplit = reported.0.opened ∙ c.loop.invariant.5;
+      made = made_then is_entering c.loop.invariant.6 c.in-Held.ensures.made;
+    }
 
 pub open_on-requires : goal.open_on-requires
 open_on-requires g c = record { own = c.loop.invariant.2 }
@@ -56,7 +67,15 @@ open_on-requires g c = record { own = c.loop.invariant.2 }
 pub loop-preserved : goal.loop-preserved
 loop-preserved g c =
     let reported = c.in-Owing.ensures.answer in
-    let kept = c.loop.invariant in (tt, tt, reported.0.tree ∙ kept.2, reported.1.place ∙ kept.3, reported.1.members ∙ kept.4, reported.0.opened ∙ kept.5, made_then is_entering kept.6 c.in-Owing.ensures.made)
+    let kept = c.loop.invariant in (
+      tt,
+      tt,
+      reported.0.tree ∙ kept.2,
+      reported.1.place ∙ kept.3,
+      reported.1.members ∙ kept.4,
+      reported.0.opened ∙ kept.5,
+      made_then is_entering kept.6 c.in-Owing.ensures.made,
+    )
 
 pub loop-preserved-derived : goal.loop-preserved-derived
 loop-preserved-derived g c = (tt, tt)

@@ -9,8 +9,15 @@ loop-init g c = (tt, tt, refl, looked_first c.args.crew.view, λ p e. e, refl, i
 pub loop-preserved : goal.loop-preserved
 loop-preserved g c =
     let kept = c.loop.invariant in
-    let reported = c.in-Err.ensures.answer in
-    (tt, tt, reported.0 ∙ kept.2, looked_then c.pass_once.ensures.some kept.3 reported.1, λ p e. absurd (c.in-Err.ensures.ended p (kept.4 p e)), c.in-Err.ensures.unsplit ∙ kept.5, inr (waited_then kept.6 c.in-Err.ensures.made))
+    let reported = c.in-Err.ensures.answer in (
+      tt,
+      tt,
+      reported.0 ∙ kept.2,
+      looked_then c.pass_once.ensures.some kept.3 reported.1,
+      λ p e. absurd (c.in-Err.ensures.ended p (kept.4 p e)),
+      c.in-Err.ensures.unsplit ∙ kept.5,
+      inr (waited_then kept.6 c.in-Err.ensures.made),
+    )
 
 pub returns-in-Ok-clause-answer : goal.returns-in-Ok-clause-answer
 returns-in-Ok-clause-answer g c =
@@ -37,4 +44,5 @@ pub returns-in-Ok-clause-unsplit : goal.returns-in-Ok-clause-unsplit
 returns-in-Ok-clause-unsplit g c = c.in-Ok.ensures.unsplit ∙ c.loop.invariant.5
 
 pub returns-in-Ok-clause-made : goal.returns-in-Ok-clause-made
-returns-in-Ok-clause-made g c = passes_then c.args.own c.args.crew c.loop.crew c.in-Ok.answer c.loop.invariant.6 c.in-Ok.ensures.answer c.in-Ok.ensures.made
+returns-in-Ok-clause-made g c =
+    passes_then c.args.own c.args.crew c.loop.crew c.in-Ok.answer c.loop.invariant.6 c.in-Ok.ensures.answer c.in-Ok.ensures.made

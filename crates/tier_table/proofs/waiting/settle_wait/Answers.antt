@@ -15,7 +15,10 @@ returns-in_default-clause-answer g c = λ h some tree counted.
     counted_at_last c.args.own h c.args.errand.token c.resume_wait.result tree counted c.resume_wait.ensures.answer c.in_default.not-Left
 
 pub returns-in-Left-clause-made : goal.returns-in-Left-clause-made
-returns-in-Left-clause-made g c = λ old m. steps_at_last c.args.own old c.args.errand.token.steps (Left c.in-Left.door c.in-Left.phase c.in-Left.led) m c.in-Left.ensures.made
+returns-in-Left-clause-made g c =
+    λ old m. steps_at_last c.args.own old c.args.errand.token.steps (Left c.in-Left.door c.in-Left.phase c.in-Left.led) m
+    c.in-Left.ensures.made
 
 pub returns-in_default-clause-made : goal.returns-in_default-clause-made
-returns-in_default-clause-made g c = λ old m. steps_at_last c.args.own old c.args.errand.token.steps c.resume_wait.result m c.resume_wait.ensures.made
+returns-in_default-clause-made g c =
+    λ old m. steps_at_last c.args.own old c.args.errand.token.steps c.resume_wait.result m c.resume_wait.ensures.made

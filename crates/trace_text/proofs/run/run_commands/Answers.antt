@@ -18,7 +18,8 @@ loop-command-preserved g c = record {
 pub returns-in_err-run_command-clause-writes : goal.returns-in_err-run_command-clause-writes
 returns-in_err-run_command-clause-writes g c = λ f s.
     let is : ◌≡◌ {A = Result (Unit {0}) TraceFault} c.from_residual.result (Err c.in_err-run_command.field-0.0) = search rules in
-    rw is (runs_stopped _ _ _ _ _ _ c.run_command.new.out.items _ _ _ _ f _ _ (drop_more _ _ _ c.loop-command-test.true) (c.loop-command.invariant.flat f s)
+    rw is
+    (runs_stopped _ _ _ _ _ _ c.run_command.new.out.items _ _ _ _ f _ _ (drop_more _ _ _ c.loop-command-test.true) (c.loop-command.invariant.flat f s)
     c.in_err-run_command.ensures.moves)
 
 pub returns-clause-writes : goal.returns-clause-writes
@@ -29,10 +30,13 @@ returns-clause-writes g c = λ f s.
 pub returns-in_err-run_command-clause-failures : goal.returns-in_err-run_command-clause-failures
 returns-in_err-run_command-clause-failures g c =
     let is : ◌≡◌ {A = Result (Unit {0}) TraceFault} c.from_residual.result (Err c.in_err-run_command.field-0.0) = search rules in
-    rw is (cause_from {T = Unit {0}} _ _ (g.W.CountedWrite.failures c.run_command.new.writer) (Err c.in_err-run_command.field-0.0) c.loop-command.invariant.failures c.in_err-run_command.ensures.failures)
+    rw is
+    (cause_from {T = Unit {0}} _ _ (g.W.CountedWrite.failures c.run_command.new.writer) (Err c.in_err-run_command.field-0.0)
+    c.loop-command.invariant.failures c.in_err-run_command.ensures.failures)
 
 pub returns-clause-failures : goal.returns-clause-failures
-returns-clause-failures g c = cause_from _ _ (g.W.CountedWrite.failures c.flush.new.writer) c.flush.result c.loop-command.invariant.failures c.flush.ensures.failures
+returns-clause-failures g c =
+    cause_from _ _ (g.W.CountedWrite.failures c.flush.new.writer) c.flush.result c.loop-command.invariant.failures c.flush.ensures.failures
 
 pub loop-command-init : goal.loop-command-init
 loop-command-init g c = record {

@@ -10,7 +10,8 @@ abbrev pub invariant-loop-command : goal.invariant-loop-command
 invariant-loop-command g l =
     record {
       flat : (f : Flat) → IsAlike f (flat_of l.fn.phaser.word)
-          → RunsOn command_text (command_after l.fn.phaser.rule.plan) (g.W.CountedWrite.contents l.fn.writer) (g.W.CountedWrite.contents l.writer)
+          → RunsOn command_text (command_after l.fn.phaser.rule.plan) (g.W.CountedWrite.contents l.fn.writer)
+          (g.W.CountedWrite.contents l.writer)
           l.out.items l.fn.commands (drop l.command-index l.commands) f (λ h. IsAlike h (flat_of l.phaser.word));
       rule : l.phaser.rule ≡ l.fn.phaser.rule;
       failures : g.W.CountedWrite.failures l.writer ≡ g.W.CountedWrite.failures l.fn.writer;

@@ -10,12 +10,14 @@ use Rattle.trace_text.proofs.run.run_opened.Goals as goal
 
 pub returns-in-Ok-clause-writes : goal.returns-in-Ok-clause-writes
 returns-in-Ok-clause-writes g c =
-    let W : CountPlan → Type 0 = λ plan. Writes (g.W.CountedWrite.contents c.args.writer.now) (g.W.CountedWrite.contents c.run_commands.new.writer) c.run_commands.result
+    let W : CountPlan → Type 0 =
+    λ plan. Writes (g.W.CountedWrite.contents c.args.writer.now) (g.W.CountedWrite.contents c.run_commands.new.writer) c.run_commands.result
     (run_text command_text (command_after plan) c.args.commands.now (opened c.in-Ok.phaser.word.parties c.args.head.phase)) in
     let parties : ℤ = to_z w64 (of_z w64 c.args.head.parties) in
     let fits : FitsSigned w64 c.args.head.parties = search rules in
     let back : parties ≡ c.args.head.parties = omega (arith, ints, fits) in
-    let T : ℤ → Type 0 = λ n. Writes (g.W.CountedWrite.contents c.args.writer.now) (g.W.CountedWrite.contents c.run_commands.new.writer) c.run_commands.result
+    let T : ℤ → Type 0 =
+    λ n. Writes (g.W.CountedWrite.contents c.args.writer.now) (g.W.CountedWrite.contents c.run_commands.new.writer) c.run_commands.result
     (opened_text c.args.head.plan c.args.commands.now c.args.head.phase n) in
     subst T back
     (opened_writes _ _ c.run_commands.result c.args.head.plan c.args.commands.now c.args.head.phase c.in-Ok.phaser.word.parties parties

@@ -30,7 +30,10 @@ returns-clause-writes g c =
 pub returns-in_err-run_tree_command-clause-failures : goal.returns-in_err-run_tree_command-clause-failures
 returns-in_err-run_tree_command-clause-failures g c =
     let is : ◌≡◌ {A = Result (Unit {0}) TraceFault} c.from_residual.result (Err c.in_err-run_tree_command.field-0.0) = search rules in
-    rw is (cause_from {T = Unit {0}} _ _ (g.W.CountedWrite.failures c.run_tree_command.new.writer) (Err c.in_err-run_tree_command.field-0.0) c.loop-command.invariant.failures c.in_err-run_tree_command.ensures.failures)
+    rw is
+    (cause_from {T = Unit {0}} _ _ (g.W.CountedWrite.failures c.run_tree_command.new.writer) (Err c.in_err-run_tree_command.field-0.0)
+    c.loop-command.invariant.failures c.in_err-run_tree_command.ensures.failures)
 
 pub returns-clause-failures : goal.returns-clause-failures
-returns-clause-failures g c = cause_from _ _ (g.W.CountedWrite.failures c.flush.new.writer) c.flush.result c.loop-command.invariant.failures c.flush.ensures.failures
+returns-clause-failures g c =
+    cause_from _ _ (g.W.CountedWrite.failures c.flush.new.writer) c.flush.result c.loop-command.invariant.failures c.flush.ensures.failures

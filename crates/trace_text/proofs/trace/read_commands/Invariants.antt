@@ -6,7 +6,8 @@ use Rattle.trace_text.proofs.trace.read_commands.Given as goal
 abbrev pub invariant-loop-this : goal.invariant-loop-this
 invariant-loop-this g l = record {
   same : commands_from g.C.Command.says g.C.Command.brings l.fn.first 0 0 (lines_of l.fn.text)
-      ≡ with_front l.commands.items (commands_from g.C.Command.says g.C.Command.brings l.line (vec_len l.commands) l.tokens (lines_of l.rest));
+      ≡ with_front l.commands.items
+      (commands_from g.C.Command.says g.C.Command.brings l.line (vec_len l.commands) l.tokens (lines_of l.rest));
   small : l.line + length l.rest ≤ l.fn.first + length l.fn.text;
   few : l.tokens ≤ 256;
   range : All g.C.Command.fits l.commands.items;

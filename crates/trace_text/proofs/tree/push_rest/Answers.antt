@@ -17,13 +17,16 @@ always (Ok a) q = q
 always (Err e) q = tt
 
 -- the answer is that of the step
-underway : (s : State) (token : ℕ) (step : Step) (a : Answer) (b : Bool) → step ≡ going_on s token → a ≡ answer_to s step → b ≡ is_underway a
+underway : (s : State) (token : ℕ) (step : Step) (a : Answer) (b : Bool) → step ≡ going_on s token → a ≡ answer_to s step
+    → b ≡ is_underway a
     → is_underway (answer_to s (going_on s token)) ≡ b
 underway s token step a b e f g = sym (g ∙ ap is_underway f ∙ ap (λ x. is_underway (answer_to s x)) e)
 
 pub returns-then-not-is_underway-clause-text : goal.returns-then-not-is_underway-clause-text
 returns-then-not-is_underway-clause-text c =
-    let u = underway c.loop.core c.args.token _ _ _ c.going_on.ensures c.step-answer.ensures.answer c.is_underway.ensures ∙ c.if-not-is_underway.true in
+    let u =
+    underway c.loop.core c.args.token _ _ _ c.going_on.ensures c.step-answer.ensures.answer c.is_underway.ensures
+    ∙ c.if-not-is_underway.true in
     let a : c.step-answer.result ≡ answer_to c.loop.core (going_on c.loop.core c.args.token) =
     c.step-answer.ensures.answer ∙ ap (answer_to c.loop.core) c.going_on.ensures in
     on_ok c.push_answer.result c.push_answer.ensures (λ text.
@@ -32,19 +35,25 @@ returns-then-not-is_underway-clause-text c =
 
 pub returns-then-not-is_underway-clause-after : goal.returns-then-not-is_underway-clause-after
 returns-then-not-is_underway-clause-after c =
-    let u = underway c.loop.core c.args.token _ _ _ c.going_on.ensures c.step-answer.ensures.answer c.is_underway.ensures ∙ c.if-not-is_underway.true in
+    let u =
+    underway c.loop.core c.args.token _ _ _ c.going_on.ensures c.step-answer.ensures.answer c.is_underway.ensures
+    ∙ c.if-not-is_underway.true in
     always c.push_answer.result
     (c.step-answer.ensures.after ∙ ap (after c.loop.core) c.going_on.ensures ∙ ends_after _ _ _ _ c.loop-test.true u c.loop.invariant.after)
 
 pub loop-preserved : goal.loop-preserved
 loop-preserved c =
-    let u = underway c.loop.core c.args.token _ _ _ c.going_on.ensures c.step-answer.ensures.answer c.is_underway.ensures ∙ c.if-not-is_underway.false in
+    let u =
+    underway c.loop.core c.args.token _ _ _ c.going_on.ensures c.step-answer.ensures.answer c.is_underway.ensures
+    ∙ c.if-not-is_underway.false in
     let next : c.step-answer.new.self ≡ after c.loop.core (going_on c.loop.core c.args.token) =
     c.step-answer.ensures.after ∙ ap (after c.loop.core) c.going_on.ensures in
     record {
       text = ap (λ s. c.push_advance_of.new.out.items ++ rest_text (16 - (c.loop.counter + 1)) c.args.token s) next
           ∙ goes_text _ _ _ _ _ _ c.loop-test.true (c.in_ok-push_advance_of.ensures) u c.loop.invariant.text;
-      after = ap (λ s. rest_after (16 - (c.loop.counter + 1)) c.args.token s) next ∙ goes_after _ _ _ _ c.loop-test.true u c.loop.invariant.after;
+      after =
+          ap (λ s. rest_after (16 - (c.loop.counter + 1)) c.args.token s) next
+          ∙ goes_after _ _ _ _ c.loop-test.true u c.loop.invariant.after;
     }
 
 pub returns-clause-text : goal.returns-clause-text

@@ -15,11 +15,31 @@ returns-in-Ok-new-clause-ran g c =
     let limit : b.start.limit ≡ limit_of c.args.advance.plan = b.of_limit ∙ c.limit_in-limit.ensures.limit ∙ ap limit_of c.plan.ensures in
     if_ok c.run_watched.result _ _ c.run_watched.ensures.ran
     (λ ran h.
-    subst (λ (q : g.row.P.Denot). HasRunTo g.W.Watch.stops g.W.Watch.goes (g.P.Program.frame q) (g.P.Program.may q) c.args.most c.args.arrays (map (g.P.Program.meant q) c.args.tasks.items) (limit_of c.args.advance.plan) ran.report (map (g.P.Program.meant q) ran.tasks.items)) b.of_program
-    (subst (λ (n : ℕ). HasRunTo g.W.Watch.stops g.W.Watch.goes (g.P.Program.frame b.start.program) (g.P.Program.may b.start.program) n c.args.arrays (map (g.P.Program.meant b.start.program) c.args.tasks.items) (limit_of c.args.advance.plan) ran.report (map (g.P.Program.meant b.start.program) ran.tasks.items)) b.of_most
-    (subst (λ (xs : List (List ℕ × List ℤ)). HasRunTo g.W.Watch.stops g.W.Watch.goes (g.P.Program.frame b.start.program) (g.P.Program.may b.start.program) b.start.most xs (map (g.P.Program.meant b.start.program) c.args.tasks.items) (limit_of c.args.advance.plan) ran.report (map (g.P.Program.meant b.start.program) ran.tasks.items)) b.of_arrays
-    (subst (λ (ts : List g.row.P-Task.Denot). HasRunTo g.W.Watch.stops g.W.Watch.goes (g.P.Program.frame b.start.program) (g.P.Program.may b.start.program) b.start.most b.start.arrays (map (g.P.Program.meant b.start.program) ts) (limit_of c.args.advance.plan) ran.report (map (g.P.Program.meant b.start.program) ran.tasks.items)) b.of_tasks
-    (subst (λ (n : ℕ). HasRunTo g.W.Watch.stops g.W.Watch.goes (g.P.Program.frame b.start.program) (g.P.Program.may b.start.program) b.start.most b.start.arrays (map (g.P.Program.meant b.start.program) (live_of b.start)) n ran.report (map (g.P.Program.meant b.start.program) ran.tasks.items)) limit
+    subst
+    (λ (q : g.row.P.Denot). HasRunTo g.W.Watch.stops g.W.Watch.goes (g.P.Program.frame q) (g.P.Program.may q) c.args.most c.args.arrays
+    (map (g.P.Program.meant q) c.args.tasks.items) (limit_of c.args.advance.plan) ran.report
+    (map (g.P.Program.meant q) ran.tasks.items))
+    b.of_program
+    (subst
+    (λ (n : ℕ). HasRunTo g.W.Watch.stops g.W.Watch.goes (g.P.Program.frame b.start.program) (g.P.Program.may b.start.program) n
+    c.args.arrays (map (g.P.Program.meant b.start.program) c.args.tasks.items) (limit_of c.args.advance.plan) ran.report
+    (map (g.P.Program.meant b.start.program) ran.tasks.items))
+    b.of_most
+    (subst
+    (λ (xs : List (List ℕ × List ℤ)). HasRunTo g.W.Watch.stops g.W.Watch.goes (g.P.Program.frame b.start.program)
+    (g.P.Program.may b.start.program) b.start.most xs (map (g.P.Program.meant b.start.program) c.args.tasks.items)
+    (limit_of c.args.advance.plan) ran.report (map (g.P.Program.meant b.start.program) ran.tasks.items))
+    b.of_arrays
+    (subst
+    (λ (ts : List g.row.P-Task.Denot). HasRunTo g.W.Watch.stops g.W.Watch.goes (g.P.Program.frame b.start.program)
+    (g.P.Program.may b.start.program) b.start.most b.start.arrays (map (g.P.Program.meant b.start.program) ts)
+    (limit_of c.args.advance.plan) ran.report (map (g.P.Program.meant b.start.program) ran.tasks.items))
+    b.of_tasks
+    (subst
+    (λ (n : ℕ). HasRunTo g.W.Watch.stops g.W.Watch.goes (g.P.Program.frame b.start.program) (g.P.Program.may b.start.program)
+    b.start.most b.start.arrays (map (g.P.Program.meant b.start.program) (live_of b.start)) n ran.report
+    (map (g.P.Program.meant b.start.program) ran.tasks.items))
+    limit
     (h b.start b.log))))))
 
 pub run_watched-requires-clause-opened : goal.run_watched-requires-clause-opened

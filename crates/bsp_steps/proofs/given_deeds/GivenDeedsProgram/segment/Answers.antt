@@ -24,6 +24,7 @@ returns-in-None c =
     let arrays = c.args.arrays.now in
     let deeds = c.args.self.now.deeds.now in
     let h = c.in-None.ensures.lookup in
-    let at : slice_get deeds t.kept.place ≡ None = (λ i. slice_get deeds (sym c.origin.ensures i).place) ∙ slice_none deeds c.origin.result.place (not_below _ _ h.0) in
+    let at : slice_get deeds t.kept.place ≡ None =
+    (λ i. slice_get deeds (sym c.origin.ensures i).place) ∙ slice_none deeds c.origin.result.place (not_below _ _ h.0) in
     has_left deeds arrays c.args._step t t ended.Stops c.args.work.now c.args.work.now
     (subst (IsSo arrays t t ended.Stops c.args.work.now c.args.work.now) (λ i. left_in (sym at i) t.kept) (left_ungiven arrays t c.args.work.now c.requires.none_printed c.requires.none_spawned))

@@ -26,4 +26,6 @@ held p None = tt
 held p (Some x) = (lies state.the_row state_send p x, frees.frees heap (bare (lone (state.the_row).mir)) p)
 
 pub send : IsSend handle.the_row
-send = let O = handle.the_type in owning_send O (pointer_send, tt) (λ d. held d.at d.state) (λ k. quiet (to O) (exits_of k (fields O)) ((struct_send (shape O) (pointer_send, tt)).leaving k))
+send = let O = handle.the_type in
+    owning_send O (pointer_send, tt) (λ d. held d.at d.state)
+    (λ k. quiet (to O) (exits_of k (fields O)) ((struct_send (shape O) (pointer_send, tt)).leaving k))

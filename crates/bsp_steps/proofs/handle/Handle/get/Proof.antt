@@ -60,24 +60,38 @@ module _ {M : Type 1} {𝓤 : Ura M} (𝓛 : Logic 𝓤) (at_mem : Memory → SP
     abbrev Rest : Fml
     Rest = fsep (freeing (bare (lone R.mir)) (block_ptr b o)) (cell_at full_share Hand.mir (word (block_ptr b o) ∷ []) rb ro)
 
-    back : h.at ≡ block_ptr b o → (w : R.Denot) → ent 𝓤 (sep 𝓤 (sem 𝓛 ((mem R).own_at w b o)) (sem 𝓛 Rest)) (sem 𝓛 ((mem Hand).own_at (with_state h w) rb ro))
+    back : h.at ≡ block_ptr b o → (w : R.Denot)
+        → ent 𝓤 (sep 𝓤 (sem 𝓛 ((mem R).own_at w b o)) (sem 𝓛 Rest)) (sem 𝓛 ((mem Hand).own_at (with_state h w) rb ro))
     unfolding part_of
     back at_b w =
         qed 𝓛 (‵ (part_at R full_share w b o) ∷ ‵ Rest ∷ []) ∵ move ! (1 ∷ []) $ fsplit ! $ move ! (2 ∷ []) $ fjoin ! $ handle_in ! b o w $
-        rewrite ! 0 (λ (p : Ptr). ‵ (Hand.own_val (record { at = p; state = Some w }) (word (block_ptr b o) ∷ []))) (sym at_b) refl $ move ! (1 ∷ 0 ∷ []) $ fjoin ! $
-        fpack ! (List Val) (λ us. fsep (cell_at full_share Hand.mir us rb ro) (Hand.own_val (with_state h w) us)) (word (block_ptr b o) ∷ []) $ done !
+        rewrite ! 0 (λ (p : Ptr). ‵ (Hand.own_val (record { at = p; state = Some w }) (word (block_ptr b o) ∷ []))) (sym at_b) refl $ move !
+        (1 ∷ 0 ∷ []) $ fjoin ! $
+        fpack ! (List Val) (λ us. fsep (cell_at full_share Hand.mir us rb ro) (Hand.own_val (with_state h w) us))
+        (word (block_ptr b o) ∷ []) $ done !
 
     exits : (γ' : GName)
-        → ent 𝓤 (sep 𝓤 (sem 𝓛 ((MutRef (named 0) κ R).own_val (record { ref_ptr = (b, o); ghost_name = γ'; now = x }) (vptr b o ∷ []))) (sep 𝓤 (A.lft κ q) (sem 𝓛 (follows Hand R γ γ' (with_state h))))) (Post (vptr b o))
+        → ent 𝓤
+        (sep 𝓤 (sem 𝓛 ((MutRef (named 0) κ R).own_val (record { ref_ptr = (b, o); ghost_name = γ'; now = x }) (vptr b o ∷ []))) (sep 𝓤 (A.lft κ q) (sem 𝓛 (follows Hand R γ γ' (with_state h)))))
+        (Post (vptr b o))
     exits γ' =
-        qed 𝓛 (‵ ((MutRef (named 0) κ R).own_val (record { ref_ptr = (b, o); ghost_name = γ'; now = x }) (vptr b o ∷ [])) ∷ ‵ (flft κ q) ∷ ‵ (follows Hand R γ γ' (with_state h)) ∷ []) ∵
-        suffices ! _ (ends_at 𝓛 F.ended stayed (F.clauses 𝓛 at_mem run) bound (vptr b o) (record { ref_ptr = (b, o); ghost_name = γ'; now = x }) (tt, tt) (tt, tt)) $
+        qed 𝓛
+        (‵ ((MutRef (named 0) κ R).own_val (record { ref_ptr = (b, o); ghost_name = γ'; now = x }) (vptr b o ∷ [])) ∷ ‵ (flft κ q)
+        ∷ ‵ (follows Hand R γ γ' (with_state h)) ∷ [])
+        ∵
+        suffices ! _
+        (ends_at 𝓛 F.ended stayed (F.clauses 𝓛 at_mem run) bound (vptr b o) (record { ref_ptr = (b, o); ghost_name = γ'; now = x }) (tt, tt) (tt, tt))
+        $
         nothing ! $ nothing ! $ fjoin ! $ join ! $ nothing ! $ move ! (2 ∷ 0 ∷ []) $ join ! $ join ! $ frame ! $ says ! (sym es) $ done !
 
-  walk : ent 𝓤 (sep 𝓤 (on_entry 𝓛 F.signature (κ, tt) (q, tt) (record { ref_ptr = (rb, ro); ghost_name = γ; now = h }, tt) (vptr rb ro ∷ [], tt)) (fact 𝓤 (IsSome h.state)))
+  walk : ent 𝓤
+      (sep 𝓤 (on_entry 𝓛 F.signature (κ, tt) (q, tt) (record { ref_ptr = (rb, ro); ghost_name = γ; now = h }, tt) (vptr rb ro ∷ [], tt)) (fact 𝓤 (IsSome h.state)))
       (WpFn 𝓤 H 𝓣.C 𝓣.Λ code.function (vptr rb ro ∷ []) Post)
   walk =
-      qed 𝓛 (((‵ (flft κ q) ⊛ ‵ ftrue) ⊛ ‵ (owns (MutRef (named 0) κ Hand ∷ []) (record { ref_ptr = (rb, ro); ghost_name = γ; now = h }, tt) (vptr rb ro ∷ [], tt))) ∷ raw (fact 𝓤 (IsSome h.state)) ∷ []) ∵
+      qed 𝓛
+      (((‵ (flft κ q) ⊛ ‵ ftrue) ⊛ ‵ (owns (MutRef (named 0) κ Hand ∷ []) (record { ref_ptr = (rb, ro); ghost_name = γ; now = h }, tt) (vptr rb ro ∷ [], tt)))
+      ∷ raw (fact 𝓤 (IsSome h.state)) ∷ [])
+      ∵
       move ! (1 ∷ []) $ heard ! (IsSome h.state) (λ is. split ! $
       enter ! 𝓣.C 𝓣.Λ code.function (vptr rb ro ∷ []) _ $
       alloc_all ! (λ l. pass_all ! refl ((tt, tt), tt) $
@@ -90,8 +104,10 @@ module _ {M : Type 1} {𝓤 : Ura M} (𝓛 : Logic 𝓤) (at_mem : Memory → SP
       exec ! 𝓣.C 𝓣.Λ En (after 3 (code.function).body) (at_ret En Post) $
       sets ! (of_opd ! (get ! refl)) refl (tt, tt) $
       move ! (1 ∷ 2 ∷ []) $ fjoin ! $ move ! (2 ∷ 3 ∷ 4 ∷ 1 ∷ 0 ∷ []) $ group ! 5 $
-      use1 𝓛 (later (some (λ (γ' : GName). raw (Part 𝓛 Hand R (with_state h) (named 0) κ q rb ro b o γ (sem 𝓛 (Rest b o x es)) (back b o x es at_b) x γ'))))
-      (lends_Part 𝓛 Hand R (with_state h) (named 0) κ q rb ro b o γ (sem 𝓛 (Rest b o x es)) (back b o x es at_b) (Hand.coded.code h) (Hand.coded.code h) x) $ await ! tt $ pick ! (λ γ'.
+      use1 𝓛
+      (later (some (λ (γ' : GName). raw (Part 𝓛 Hand R (with_state h) (named 0) κ q rb ro b o γ (sem 𝓛 (Rest b o x es)) (back b o x es at_b) x γ'))))
+      (lends_Part 𝓛 Hand R (with_state h) (named 0) κ q rb ro b o γ (sem 𝓛 (Rest b o x es)) (back b o x es at_b) (Hand.coded.code h) (Hand.coded.code h) x)
+      $ await ! tt $ pick ! (λ γ'.
       returns ! (look_at ! 0 refl) $ free_all ! refl $
       keep ! (0 ∷ []) $ by ! (exits b o x es γ')))))
 

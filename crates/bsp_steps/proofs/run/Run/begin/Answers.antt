@@ -21,4 +21,5 @@ begin_with-requires-clause-few c =
 pub begin_with-requires-clause-paths : goal.begin_with-requires-clause-paths
 begin_with-requires-clause-paths c =
     let e = c.in_ok-tasks.ensures in
-    ap (λ (ts : Tasks). map path_of ts) e ∙ numbered_paths [] 0 (start_origins 0 c.args.count) ∙ ap (λ (ts : Tasks). children [] 0 (length ts)) (sym e)
+    ap (λ (ts : Tasks). map path_of ts) e ∙ numbered_paths [] 0 (start_origins 0 c.args.count)
+    ∙ ap (λ (ts : Tasks). children [] 0 (length ts)) (sym e)

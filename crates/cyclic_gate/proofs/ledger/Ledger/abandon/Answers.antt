@@ -13,5 +13,6 @@ invariant_of-self-2 c =
     let call = Abandon c.args.caller in (
       reached_more c.self.inside.fails call m c.abandon.new.self c.self.invariant.0 c.in_ok-others.ensures.state,
       nobody_room c.abandon.new.self _ _
-          (ap (λ (x : Machine). x.waiting) c.in_ok-others.ensures.state ∙ end_nobody c.self.inside.fails call m (ap (λ a. is_end_of_generation (outcome_of a)) c.in_ok-others.ensures.answer)),
+          (ap (λ (x : Machine). x.waiting) c.in_ok-others.ensures.state
+          ∙ end_nobody c.self.inside.fails call m (ap (λ a. is_end_of_generation (outcome_of a)) c.in_ok-others.ensures.answer)),
     )

@@ -6,6 +6,7 @@ use Rattle.cyclic_gate.proofs.ledger.Ledger.break_off.Goals as goal
 
 pub invariant_of-self : goal.invariant_of-self
 invariant_of-self c = (
-  reached_more c.self.inside.fails BreakOff c.self.inside.state c.break_off-callers.new.self c.self.invariant.0 c.break_off-callers.ensures.state,
+  reached_more c.self.inside.fails BreakOff c.self.inside.state c.break_off-callers.new.self c.self.invariant.0
+      c.break_off-callers.ensures.state,
   nobody_room c.break_off-callers.new.self _ _ (ap (λ (m : Machine). m.waiting) c.break_off-callers.ensures.state),
 )

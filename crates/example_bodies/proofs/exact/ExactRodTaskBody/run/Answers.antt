@@ -8,7 +8,9 @@ loop-place-preserved c =
     let i = c.loop-place.invariant in
     let v : to_z w64 (of_z w64 c.mixed.result) ≡ c.mixed.result = omega (arith, ints, c.mixed.type_inv) in
     record {
-      done = mixed_more c.cells-cells.result.now c.args.piece.now.first c.loop-place.place c.loop-place.values.items c.push.new.self.items c.mixed.result i.low i.done c.mixed.ensures
+      done =
+          mixed_more c.cells-cells.result.now c.args.piece.now.first c.loop-place.place c.loop-place.values.items c.push.new.self.items
+          c.mixed.result i.low i.done c.mixed.ensures
           (c.in_ok-push.ensures.items ∙ (λ j. c.loop-place.values.items ++ v j ∷ []));
       low = omega (arith, i.low);
       high = omega (arith, c.loop-place-test.true);

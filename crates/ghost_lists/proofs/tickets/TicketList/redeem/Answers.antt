@@ -24,10 +24,14 @@ load-requires g c =
     )
 
 pub invariant_of-self : goal.invariant_of-self
-invariant_of-self g c = list_after _ _ _ _ _ _ _ _ c.pass.inside.seat.me.0 c.self.invariant c.join_seat.ensures.2 c.load.ensures.2.0 (c.load.ensures.0 ∙ c.join_seat.ensures.0) (c.load.ensures.1 ∙ c.join_seat.ensures.1)
+invariant_of-self g c =
+    list_after _ _ _ _ _ _ _ _ c.pass.inside.seat.me.0 c.self.invariant c.join_seat.ensures.2 c.load.ensures.2.0
+    (c.load.ensures.0 ∙ c.join_seat.ensures.0) (c.load.ensures.1 ∙ c.join_seat.ensures.1)
 
 pub returns-clause-others : goal.returns-clause-others
 returns-clause-others g c =
     let o = others_after _ _ _ _ _ _ c.pass.inside.seat.me.0 c.self.invariant c.join_seat.ensures.2 c.load.ensures.2.0 c.load.ensures.2.1 in
-    subst (λ p. IfSome p.held (λ t. (u : TicketEntry g.row.T.Denot) → IsOut u c.args.self.now.out → (t ≡ u) ⊎ IsOut u c.load.new.seat.me.0.out)) c.pass.view_is
+    subst
+    (λ p. IfSome p.held (λ t. (u : TicketEntry g.row.T.Denot) → IsOut u c.args.self.now.out → (t ≡ u) ⊎ IsOut u c.load.new.seat.me.0.out))
+    c.pass.view_is
     (subst (λ v. IfSome c.pass.inside.seat.me.0.held (λ t. (u : TicketEntry g.row.T.Denot) → IsOut u v.out → (t ≡ u) ⊎ IsOut u c.load.new.seat.me.0.out)) c.self.view_is o)

@@ -10,14 +10,16 @@ pub index-requires : goal.index-requires
 index-requires c =
     let ts = (arc_value c.self.inside.tasks).items in
     let l = beside_length ts c.self.inside.done.items c.self.invariant in
-    let b : c.args.place < length (beside ts c.self.inside.done.items) = subst (λ (ss : List SlotValue). c.args.place < length ss) (sym c.self.view_is) c.requires in
+    let b : c.args.place < length (beside ts c.self.inside.done.items) =
+    subst (λ (ss : List SlotValue). c.args.place < length ss) (sym c.self.view_is) c.requires in
     omega (arith, l, b, c.self.inside.done.ok.0)
 
 pub returns : goal.returns
 returns c =
     let ts = (arc_value c.self.inside.tasks).items in
     let l = beside_length ts c.self.inside.done.items c.self.invariant in
-    let b : c.args.place < length (beside ts c.self.inside.done.items) = subst (λ (ss : List SlotValue). c.args.place < length ss) (sym c.self.view_is) c.requires in
+    let b : c.args.place < length (beside ts c.self.inside.done.items) =
+    subst (λ (ss : List SlotValue). c.args.place < length ss) (sym c.self.view_is) c.requires in
     let below : c.args.place < length c.self.inside.done.items = omega (arith, l, b) in
     c.is_some.ensures
     ∙ beside_done ts c.self.inside.done.items c.args.place c.index.result.now c.self.invariant below c.index.ensures

@@ -10,7 +10,8 @@ pub index_mut-requires : goal.index_mut-requires
 index_mut-requires c =
     let ts = (arc_value c.self.inside.tasks).items in
     let l = beside_length ts c.self.inside.done.items c.self.invariant in
-    let b : c.args.place < length (beside ts c.self.inside.done.items) = subst (λ (ss : List SlotValue). c.args.place < length ss) (sym c.self.view_is) c.requires in
+    let b : c.args.place < length (beside ts c.self.inside.done.items) =
+    subst (λ (ss : List SlotValue). c.args.place < length ss) (sym c.self.view_is) c.requires in
     omega (arith, l, b, c.self.inside.done.ok.0)
 
 pub returns : goal.returns

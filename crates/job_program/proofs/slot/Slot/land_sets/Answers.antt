@@ -7,4 +7,6 @@ use Rattle.job_program.proofs.slot.Slot.land_sets.Goals as goal
 
 pub returns-in-None : goal.returns-in-None
 returns-in-None c =
-    sym (ap (λ (ps : List Put). landed ps c.args.arrays.now) (ap puts_in (sym c.self.view_is) ∙ ap puts_of c.in-None.is) ∙ landed_none c.args.arrays.now)
+    sym
+    (ap (λ (ps : List Put). landed ps c.args.arrays.now) (ap puts_in (sym c.self.view_is) ∙ ap puts_of c.in-None.is)
+    ∙ landed_none c.args.arrays.now)

@@ -8,5 +8,6 @@ use Rattle.job_program.proofs.steps.JobSteps.new.Goals as goal
 
 pub invariant_of-result : goal.invariant_of-result
 invariant_of-result c =
-    subst (λ (v : StepsValue TaskValue). AreOrdered job_frame (map (task_of (plans c.args.job.now.bodies)) v.tasks)) (sym c.new.ensures.begun)
+    subst (λ (v : StepsValue TaskValue). AreOrdered job_frame (map (task_of (plans c.args.job.now.bodies)) v.tasks))
+    (sym c.new.ensures.begun)
     (c.new.ensures.ordered (record { job = c.args.job }))

@@ -16,5 +16,8 @@ returns-clause-next c =
 
 pub returns-clause-stepped : goal.returns-clause-stepped
 returns-clause-stepped c =
-    subst (λ (r : JobRunValue). IsRunning r.run → OnOk c.step.result (HasStepped r (record { job = c.self.inside.job.now; run = c.step.new.self }))) c.self.view_is
+    subst
+    (λ (r : JobRunValue). IsRunning r.run
+    → OnOk c.step.result (HasStepped r (record { job = c.self.inside.job.now; run = c.step.new.self })))
+    c.self.view_is
     (stepped_of c.self.inside.job.now c.self.inside.steps c.step.new.self c.step.result c.step.ensures.stepped)

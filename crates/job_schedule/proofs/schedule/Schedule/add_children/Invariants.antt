@@ -5,7 +5,8 @@ use Rattle.job_schedule.proofs.schedule.Schedule.add_children.Given as goal
 
 abbrev pub invariant-loop-path : goal.invariant-loop-path
 invariant-loop-path l = record {
-  children : with_children (world_of l.self) l.place (map path_items l.rest) ≡ with_children (world_of l.fn.self) l.place (map path_items l.fn.paths);
+  children : with_children (world_of l.self) l.place (map path_items l.rest)
+      ≡ with_children (world_of l.fn.self) l.place (map path_items l.fn.paths);
   place : l.place < length l.self.participants.items;
   round : l.self.round ≡ l.fn.self.round;
 }

@@ -35,7 +35,8 @@ returns-in-Delivers-clause-kept c =
     subst (IsKept c.deliver.new.self.round) (sym after)
     (delivered_kept c.args.self.now.round c.deliver.new.self.round (world_of c.args.self.now) c.in-Delivers.place
     (has_synced (deed_of (world_of c.args.self.now) (participant_at c.args.self.now.participants.items c.in-Delivers.place).path))
-    (spawned_paths (deed_of (world_of c.args.self.now) (participant_at c.args.self.now.participants.items c.in-Delivers.place).path)) c.has_ended-known.ensures.round refl
+    (spawned_paths (deed_of (world_of c.args.self.now) (participant_at c.args.self.now.participants.items c.in-Delivers.place).path))
+    c.has_ended-known.ensures.round refl
     c.requires.stands a.0 a.1 a.2 taken c.requires.kept))
 
 pub returns-in-Calls-clause-kept : goal.returns-in-Calls-clause-kept

@@ -7,7 +7,8 @@ use Rattle.job_schedule.proofs.schedule.Schedule.start.Goals as goal
 
 pub returns-clause-world : goal.returns-clause-world
 returns-clause-world c =
-    started (world_of c.args.self.now) c.in_ok-token.token c.leaf_at-home.result c.add_token.new.self c.step.new.self c.go_steps.new.core c.args.path.items c.push.new.self.items
+    started (world_of c.args.self.now) c.in_ok-token.token c.leaf_at-home.result c.add_token.new.self c.step.new.self c.go_steps.new.core
+    c.args.path.items c.push.new.self.items
     c.in_ok-token.ensures.added c.in_ok-token.ensures.token
     (c.leaf_at-home.ensures
     ∙ ap (λ (ls : List ℕ). leaf_at ls c.len.result) c.deref.ensures.value

@@ -38,4 +38,5 @@ on_ok (Err e) p f = p
 
 pub returns-clause-reached : goal.returns-clause-reached
 returns-clause-reached c =
-    on_ok c.make.result (returns-clause-after c) (λ after. reached_more (world_of c.args.self.now) (world_of c.make.new.self) c.args.step c.requires.reached after)
+    on_ok c.make.result (returns-clause-after c)
+    (λ after. reached_more (world_of c.args.self.now) (world_of c.make.new.self) c.args.step c.requires.reached after)

@@ -13,5 +13,7 @@ returns-clause-advance g c = λ f a.
     let P : Fields → Type 0 = λ w. IsAlike f (flat_of w) in
     let Q : Fields → Type 0 = λ w. IsAlike (after c.args.self.now.rule.plan c.args.call f) (flat_of w) in
     let before : IsAlike f (flat_of c.self.inside.word) = subst P (sym old) a in
-    let later : IsAlike (after c.args.self.now.rule.plan c.args.call f) (flat_of c.self-2.inside.word) = subst Q (sym new) ((c.call-reply.ensures.flat f a).0) in
-    c.advance_between.ensures ∙ advance_reported c.args.self.now.rule.plan c.args.call f c.self.inside.word c.self-2.inside.word c.self-2.invariant before later
+    let later : IsAlike (after c.args.self.now.rule.plan c.args.call f) (flat_of c.self-2.inside.word) =
+    subst Q (sym new) ((c.call-reply.ensures.flat f a).0) in
+    c.advance_between.ensures
+    ∙ advance_reported c.args.self.now.rule.plan c.args.call f c.self.inside.word c.self-2.inside.word c.self-2.invariant before later

@@ -13,22 +13,28 @@ register_leaves-requires-clause-tiers g c =
 
 pub parties_of-requires-clause-groups : goal.parties_of-requires-clause-groups
 parties_of-requires-clause-groups g c = λ k d h.
-    (all_own c.shared.inside.tiers c.phase-phase.result c.leaves-leaves.result.now c.args.counts.now c.in-Ok-register_leaves.groups.items c.in-Ok-register_leaves.ensures.groups).own k d h ∙ c.shared.view_is
+    (all_own c.shared.inside.tiers c.phase-phase.result c.leaves-leaves.result.now c.args.counts.now c.in-Ok-register_leaves.groups.items c.in-Ok-register_leaves.ensures.groups).own
+    k d h
+    ∙ c.shared.view_is
 
 pub parties_of-requires-clause-capacity : goal.parties_of-requires-clause-capacity
 parties_of-requires-clause-capacity g c =
-    let few = (all_own c.shared.inside.tiers c.phase-phase.result c.leaves-leaves.result.now c.args.counts.now c.in-Ok-register_leaves.groups.items c.in-Ok-register_leaves.ensures.groups).few in
+    let few =
+    (all_own c.shared.inside.tiers c.phase-phase.result c.leaves-leaves.result.now c.args.counts.now c.in-Ok-register_leaves.groups.items c.in-Ok-register_leaves.ensures.groups).few in
     let capacity = c.in-Ok.ensures.exact in
     omega (arith, few, capacity)
 
 pub parties_of-parties-requires-clause-groups : goal.parties_of-parties-requires-clause-groups
 parties_of-parties-requires-clause-groups g c = λ k d h.
     (stopped_own TRIES c.shared.inside.tiers c.phase-phase.result c.leaves-leaves.result.now c.args.counts.now c.in-Err-Stopped.groups.items c.in-Err-Stopped.tier c.in-Err-Stopped.answer
-    (subst (RegistersNot TRIES c.shared.inside.tiers c.phase-phase.result c.leaves-leaves.result.now c.args.counts.now) c.in-Err-Stopped.field-0-is c.in-Err-Stopped.ensures.refused).1).0.own k d h ∙ c.shared.view_is
+    (subst (RegistersNot TRIES c.shared.inside.tiers c.phase-phase.result c.leaves-leaves.result.now c.args.counts.now) c.in-Err-Stopped.field-0-is c.in-Err-Stopped.ensures.refused).1).0.own
+    k d h
+    ∙ c.shared.view_is
 
 pub parties_of-parties-requires-clause-capacity : goal.parties_of-parties-requires-clause-capacity
 parties_of-parties-requires-clause-capacity g c =
-    let few = (stopped_own TRIES c.shared.inside.tiers c.phase-phase.result c.leaves-leaves.result.now c.args.counts.now c.in-Err-Stopped.groups.items c.in-Err-Stopped.tier c.in-Err-Stopped.answer
+    let few =
+    (stopped_own TRIES c.shared.inside.tiers c.phase-phase.result c.leaves-leaves.result.now c.args.counts.now c.in-Err-Stopped.groups.items c.in-Err-Stopped.tier c.in-Err-Stopped.answer
     (subst (RegistersNot TRIES c.shared.inside.tiers c.phase-phase.result c.leaves-leaves.result.now c.args.counts.now) c.in-Err-Stopped.field-0-is c.in-Err-Stopped.ensures.refused).1).0.few in
     let capacity = c.in-Ok.ensures.exact in
     omega (arith, few, capacity)
@@ -36,4 +42,5 @@ parties_of-parties-requires-clause-capacity g c =
 pub of-answer-requires-clause-group : goal.of-answer-requires-clause-group
 of-answer-requires-clause-group g c =
     (stopped_own TRIES c.shared.inside.tiers c.phase-phase.result c.leaves-leaves.result.now c.args.counts.now c.in-Err-Stopped.groups.items c.in-Err-Stopped.tier c.in-Err-Stopped.answer
-    (subst (RegistersNot TRIES c.shared.inside.tiers c.phase-phase.result c.leaves-leaves.result.now c.args.counts.now) c.in-Err-Stopped.field-0-is c.in-Err-Stopped.ensures.refused).1).1 ∙ c.shared.view_is
+    (subst (RegistersNot TRIES c.shared.inside.tiers c.phase-phase.result c.leaves-leaves.result.now c.args.counts.now) c.in-Err-Stopped.field-0-is c.in-Err-Stopped.ensures.refused).1).1
+    ∙ c.shared.view_is

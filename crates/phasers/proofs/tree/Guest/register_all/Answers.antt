@@ -11,5 +11,7 @@ returns g c =
       answer =
           subst (λ (r : GroupRegistered). RegistersAllAtLast 16 c.args.self.tree c.args.tier c.args.members r) (sym c.of.ensures)
           (subst (λ (n : Named). RegistersAllAtLast 16 n c.args.tier c.args.members c.register_all_wait-answer.result) own c.register_all_wait-answer.ensures.answer);
-      ended = λ p e. subst HasEndedRegistering (sym c.of.ensures) (c.register_all_wait-answer.ensures.ended p (ap (λ (h : Holding). h.view.end_seen) c.open_door-door.ensures.counted ∙ ap (λ (h : Holding). h.view.end_seen) c.self.view_is ∙ e));
+      ended =
+          λ p e. subst HasEndedRegistering (sym c.of.ensures)
+          (c.register_all_wait-answer.ensures.ended p (ap (λ (h : Holding). h.view.end_seen) c.open_door-door.ensures.counted ∙ ap (λ (h : Holding). h.view.end_seen) c.self.view_is ∙ e));
     }

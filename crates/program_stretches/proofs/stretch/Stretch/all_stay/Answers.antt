@@ -15,4 +15,5 @@ returns-clause-same g c = λ t done none.
     let stay = c.all_stay.ensures.0 t in
     subst (λ (s : StretchValue g.row.P.Denot g.row.P-Task.Denot). living_with s.part.tasks s.part.deeds ≡ s.part.tasks) c.self.view_is
     (part_stays (m v.program) (g.met.P.Program.keeps_paths v.program) v.arrays v.step (live_of h.start) h.rising v.part h.part
-    (ap (λ (s : StretchValue g.row.P.Denot g.row.P-Task.Denot). s.part.done) c.self.view_is ∙ done) (ap (λ (s : StretchValue g.row.P.Denot g.row.P-Task.Denot). s.part.fault) c.self.view_is ∙ none) stay.0 stay.1)
+    (ap (λ (s : StretchValue g.row.P.Denot g.row.P-Task.Denot). s.part.done) c.self.view_is ∙ done)
+    (ap (λ (s : StretchValue g.row.P.Denot g.row.P-Task.Denot). s.part.fault) c.self.view_is ∙ none) stay.0 stay.1)

@@ -23,7 +23,8 @@ invariant_of-self g c =
       rising = h.rising;
       part =
           run_is_part (m q) _ (live_of h.start) c.self.inside.step c.run_part.result c.self.inside.part c.run_part.new.part h.part
-          (ap (λ (s : StretchValue g.row.P.Denot g.row.P-Task.Denot). s.part.done) c.self.view_is ∙ c.requires) c.run_part.ensures.place c.run_part.ensures.done
+          (ap (λ (s : StretchValue g.row.P.Denot g.row.P-Task.Denot). s.part.done) c.self.view_is ∙ c.requires) c.run_part.ensures.place
+          c.run_part.ensures.done
           (subst (λ (a : List (List ℕ × List ℤ)). OnOk c.run_part.result (HasRun (m q) a c.self.inside.step c.self.inside.part.tasks c.run_part.new.part)) c.deref.ensures c.run_part.ensures.ran)
           c.run_part.ensures.count c.run_part.ensures.lost;
     }
@@ -33,7 +34,11 @@ returns-clause-paths g c =
     let h = c.self.invariant in
     let m = reading_of g.P.Program.frame g.P.Program.may g.P.Program.meant g.P.Task.OnPath.path_of in
     let q = c.self.inside.program.now in
-    subst (λ (s : StretchValue g.row.P.Denot g.row.P-Task.Denot). OnOk c.run_part.result (c.run_part.new.part.fault ≡ None → map g.P.Task.OnPath.path_of c.run_part.new.part.tasks ≡ map g.P.Task.OnPath.path_of s.part.tasks)) c.self.view_is
+    subst
+    (λ (s : StretchValue g.row.P.Denot g.row.P-Task.Denot). OnOk c.run_part.result
+    (c.run_part.new.part.fault ≡ None
+    → map g.P.Task.OnPath.path_of c.run_part.new.part.tasks ≡ map g.P.Task.OnPath.path_of s.part.tasks))
+    c.self.view_is
     (run_keeps (m q) (g.met.P.Program.keeps_paths q) _ c.self.inside.step (live_of h.start) h.rising c.run_part.result c.self.inside.part c.run_part.new.part h.part
     (ap (λ (s : StretchValue g.row.P.Denot g.row.P-Task.Denot). s.part.done) c.self.view_is ∙ c.requires)
     (subst (λ (a : List (List ℕ × List ℤ)). OnOk c.run_part.result (HasRun (m q) a c.self.inside.step c.self.inside.part.tasks c.run_part.new.part)) c.deref.ensures c.run_part.ensures.ran)

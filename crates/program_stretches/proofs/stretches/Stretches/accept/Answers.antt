@@ -20,7 +20,10 @@ pub index_mut-requires : goal.index_mut-requires
 index_mut-requires g c =
     let v = stretches_of c.self.inside in
     let s = stretch_of c.stretch.inside in
-    let t = subst (λ (x : StretchValue g.row.P.Denot g.row.P-Task.Denot). Accepts v x) (sym c.stretch.view_is) (subst (λ (x : StretchesValue g.row.P.Denot g.row.P-Task.Denot). Accepts x c.args.stretch) (sym c.self.view_is) (if_none c.refuses.result (Accepts c.args.self.now c.args.stretch) _ c.refuses.ensures c.in_default.is)) in
+    let t =
+    subst (λ (x : StretchValue g.row.P.Denot g.row.P-Task.Denot). Accepts v x) (sym c.stretch.view_is)
+    (subst (λ (x : StretchesValue g.row.P.Denot g.row.P-Task.Denot). Accepts x c.args.stretch) (sym c.self.view_is)
+    (if_none c.refuses.result (Accepts c.args.self.now c.args.stretch) _ c.refuses.ensures c.in_default.is)) in
     let l = there_inside v.parts s.number None t.taken in
     omega (arith, l, c.self.inside.parts.ok.0)
 
@@ -30,10 +33,16 @@ invariant_of-self g c =
     let v = stretches_of c.self.inside in
     let s = stretch_of c.stretch.inside in
     let h = c.self.invariant in
-    let t = subst (λ (x : StretchValue g.row.P.Denot g.row.P-Task.Denot). Accepts v x) (sym c.stretch.view_is) (subst (λ (x : StretchesValue g.row.P.Denot g.row.P-Task.Denot). Accepts x c.args.stretch) (sym c.self.view_is) (if_none c.refuses.result (Accepts c.args.self.now c.args.stretch) _ c.refuses.ensures c.in_default.is)) in
+    let t =
+    subst (λ (x : StretchValue g.row.P.Denot g.row.P-Task.Denot). Accepts v x) (sym c.stretch.view_is)
+    (subst (λ (x : StretchesValue g.row.P.Denot g.row.P-Task.Denot). Accepts x c.args.stretch) (sym c.self.view_is)
+    (if_none c.refuses.result (Accepts c.args.self.now c.args.stretch) _ c.refuses.ensures c.in_default.is)) in
     let o = is_open m v h.run s.number None t.taken in
-    let own = own_back m g.P.Program.ready v h.run o s c.stretch.invariant c.compare.ensures.before.since c.compare.ensures.before.is t.step in
-    let same : stretches_of (record c.self.inside { writer = c.compare.new.self; parts = with_item c.self.inside.parts s.number (Some s.part) }) ≡ with_slot v s.number (Some s.part) =
+    let own =
+    own_back m g.P.Program.ready v h.run o s c.stretch.invariant c.compare.ensures.before.since c.compare.ensures.before.is t.step in
+    let same : stretches_of
+    (record c.self.inside { writer = c.compare.new.self; parts = with_item c.self.inside.parts s.number (Some s.part) })
+    ≡ with_slot v s.number (Some s.part) =
     (λ i. record v { name = (c.compare.ensures.same i).name; log = (c.compare.ensures.same i).log; parts = slice_set v.parts s.number (Some s.part) }) in
     record {
       run = subst (IsRunSoFar m) (sym same) (run_slot m v s.number (Some s.part) h.run o own);

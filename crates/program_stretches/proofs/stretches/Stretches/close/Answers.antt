@@ -18,13 +18,20 @@ end-requires-clause-ends g c =
     let law = g.met.P.Program.keeps_paths v.program in
     let h = c.self.invariant.run in
     let run = ap (λ (x : StretchesValue g.row.P.Denot g.row.P-Task.Denot). status_in x) c.self.view_is ∙ c.requires.running in
-    let covered : covers true v.count 0 v.parts ≡ true = sym (c.cover.ensures ∙ ap (covers true v.count 0) c.deref.ensures.value) ∙ c.if-not-cover.false in
+    let covered : covers true v.count 0 v.parts ≡ true =
+    sym (c.cover.ensures ∙ ap (covers true v.count 0) c.deref.ensures.value) ∙ c.if-not-cover.false in
     let gone = ap (λ x. x.items) c.replace-parts.ensures.after ∙ c.new.ensures.items in
     let parts = ap (λ x. x.items) c.replace-parts.ensures.value in
-    let found : fault_in v.parts ≡ Some c.in-Some.blame = sym (c.find_fault.ensures ∙ ap fault_in (c.deref-2.ensures.value ∙ parts)) ∙ c.in-Some.is in
+    let found : fault_in v.parts ≡ Some c.in-Some.blame =
+    sym (c.find_fault.ensures ∙ ap fault_in (c.deref-2.ensures.value ∙ parts)) ∙ c.in-Some.is in
     let o = open_now m v h covered run in
     subst (λ (ps : List (Option (PartValue g.row.P-Task.Denot))). EndsBy m (record v { parts = ps }) c.in-Some.blame) (sym gone)
-    (record { live = map (m v.program).meant (live_of o.start); begun = after_with m v [] _ (begun_now m v h covered run); count = o.count; step = (fault_now m v h covered run law c.in-Some.blame found).step })
+    (record {
+      live = map (m v.program).meant (live_of o.start);
+      begun = after_with m v [] _ (begun_now m v h covered run);
+      count = o.count;
+      step = (fault_now m v h covered run law c.in-Some.blame found).step;
+    })
 
 pub returns-in-Some-clause-closed : goal.returns-in-Some-clause-closed
 returns-in-Some-clause-closed g c =
@@ -33,15 +40,18 @@ returns-in-Some-clause-closed g c =
     let law = g.met.P.Program.keeps_paths v.program in
     let h = c.self.invariant.run in
     let run = ap (λ (x : StretchesValue g.row.P.Denot g.row.P-Task.Denot). status_in x) c.self.view_is ∙ c.requires.running in
-    let covered : covers true v.count 0 v.parts ≡ true = sym (c.cover.ensures ∙ ap (covers true v.count 0) c.deref.ensures.value) ∙ c.if-not-cover.false in
+    let covered : covers true v.count 0 v.parts ≡ true =
+    sym (c.cover.ensures ∙ ap (covers true v.count 0) c.deref.ensures.value) ∙ c.if-not-cover.false in
     let gone = ap (λ x. x.items) c.replace-parts.ensures.after ∙ c.new.ensures.items in
     let parts = ap (λ x. x.items) c.replace-parts.ensures.value in
-    let found : fault_in v.parts ≡ Some c.in-Some.blame = sym (c.find_fault.ensures ∙ ap fault_in (c.deref-2.ensures.value ∙ parts)) ∙ c.in-Some.is in
+    let found : fault_in v.parts ≡ Some c.in-Some.blame =
+    sym (c.find_fault.ensures ∙ ap fault_in (c.deref-2.ensures.value ∙ parts)) ∙ c.in-Some.is in
     let o = open_now m v h covered run in
     subst (λ (x : StretchesValue g.row.P.Denot g.row.P-Task.Denot). IsClosed m x c.end.new.self Faulted) c.self.view_is
     (closed_from m v [] c.end.new.self Faulted
     (closed_end m (record v { parts = [] }) law run o.start o.older o.is c.in-Some.blame c.end.new.self
-    (c.end.ensures ∙ (λ i. record v { parts = gone i; fault = Some c.in-Some.blame })) Faulted (fault_now m v h covered run law c.in-Some.blame found) (λ x live k. (c.in-Some.blame, k))))
+    (c.end.ensures ∙ (λ i. record v { parts = gone i; fault = Some c.in-Some.blame })) Faulted
+    (fault_now m v h covered run law c.in-Some.blame found) (λ x live k. (c.in-Some.blame, k))))
 
 pub invariant_of-self : goal.invariant_of-self
 invariant_of-self g c =
@@ -50,11 +60,17 @@ invariant_of-self g c =
     let law = g.met.P.Program.keeps_paths v.program in
     let h = c.self.invariant.run in
     let run = ap (λ (x : StretchesValue g.row.P.Denot g.row.P-Task.Denot). status_in x) c.self.view_is ∙ c.requires.running in
-    let covered : covers true v.count 0 v.parts ≡ true = sym (c.cover.ensures ∙ ap (covers true v.count 0) c.deref.ensures.value) ∙ c.if-not-cover.false in
+    let covered : covers true v.count 0 v.parts ≡ true =
+    sym (c.cover.ensures ∙ ap (covers true v.count 0) c.deref.ensures.value) ∙ c.if-not-cover.false in
     let gone = ap (λ x. x.items) c.replace-parts.ensures.after ∙ c.new.ensures.items in
     let o = open_now m v h covered run in
     record {
-      run = record { live = map (m v.program).meant (live_of o.start); after = after_with m v c.replace-parts.new.dest.items _ (begun_now m v h covered run); opened = inl gone };
+      run =
+          record {
+            live = map (m v.program).meant (live_of o.start);
+            after = after_with m v c.replace-parts.new.dest.items _ (begun_now m v h covered run);
+            opened = inl gone;
+          };
       same = c.self.invariant.same;
       is_ready = c.self.invariant.is_ready;
       pieces = c.self.invariant.pieces;
@@ -69,11 +85,17 @@ invariant_of-self-in_default g c =
     let law = g.met.P.Program.keeps_paths v.program in
     let h = c.self.invariant.run in
     let run = ap (λ (x : StretchesValue g.row.P.Denot g.row.P-Task.Denot). status_in x) c.self.view_is ∙ c.requires.running in
-    let covered : covers true v.count 0 v.parts ≡ true = sym (c.cover.ensures ∙ ap (covers true v.count 0) c.deref.ensures.value) ∙ c.if-not-cover.false in
+    let covered : covers true v.count 0 v.parts ≡ true =
+    sym (c.cover.ensures ∙ ap (covers true v.count 0) c.deref.ensures.value) ∙ c.if-not-cover.false in
     let gone = ap (λ x. x.items) c.replace-parts.ensures.after ∙ c.new.ensures.items in
     let o = open_now m v h covered run in
     record {
-      run = record { live = map (m v.program).meant (live_of o.start); after = after_with m v c.replace-parts.new.dest.items _ (begun_now m v h covered run); opened = inl gone };
+      run =
+          record {
+            live = map (m v.program).meant (live_of o.start);
+            after = after_with m v c.replace-parts.new.dest.items _ (begun_now m v h covered run);
+            opened = inl gone;
+          };
       same = c.self.invariant.same;
       is_ready = c.self.invariant.is_ready;
       pieces = c.self.invariant.pieces;
@@ -88,11 +110,14 @@ take_superstep-requires-clause-run g c =
     let law = g.met.P.Program.keeps_paths v.program in
     let h = c.self.invariant.run in
     let run = ap (λ (x : StretchesValue g.row.P.Denot g.row.P-Task.Denot). status_in x) c.self.view_is ∙ c.requires.running in
-    let covered : covers true v.count 0 v.parts ≡ true = sym (c.cover.ensures ∙ ap (covers true v.count 0) c.deref.ensures.value) ∙ c.if-not-cover.false in
+    let covered : covers true v.count 0 v.parts ≡ true =
+    sym (c.cover.ensures ∙ ap (covers true v.count 0) c.deref.ensures.value) ∙ c.if-not-cover.false in
     let gone = ap (λ x. x.items) c.replace-parts.ensures.after ∙ c.new.ensures.items in
     let parts = ap (λ x. x.items) c.replace-parts.ensures.value in
     let quiet : fault_in v.parts ≡ None = sym (c.find_fault.ensures ∙ ap fault_in (c.deref-2.ensures.value ∙ parts)) ∙ c.in_default.is in
-    subst (λ (ss : List (Option (PartValue g.row.P-Task.Denot))). HaveRun m (record v { parts = c.replace-parts.new.dest.items }) (puts_in ss) (tasks_in ss) (deeds_in ss) (prints_in ss)) (sym parts)
+    subst
+    (λ (ss : List (Option (PartValue g.row.P-Task.Denot))). HaveRun m (record v { parts = c.replace-parts.new.dest.items }) (puts_in ss) (tasks_in ss) (deeds_in ss) (prints_in ss))
+    (sym parts)
     (subst (λ (ps : List (Option (PartValue g.row.P-Task.Denot))). HaveRun m (record v { parts = ps }) (puts_in v.parts) (tasks_in v.parts) (deeds_in v.parts) (prints_in v.parts)) (sym gone)
     (run_now m v h covered run quiet))
 
@@ -110,7 +135,8 @@ take_superstep-requires-clause-each g c =
     let law = g.met.P.Program.keeps_paths v.program in
     let h = c.self.invariant.run in
     let run = ap (λ (x : StretchesValue g.row.P.Denot g.row.P-Task.Denot). status_in x) c.self.view_is ∙ c.requires.running in
-    let covered : covers true v.count 0 v.parts ≡ true = sym (c.cover.ensures ∙ ap (covers true v.count 0) c.deref.ensures.value) ∙ c.if-not-cover.false in
+    let covered : covers true v.count 0 v.parts ≡ true =
+    sym (c.cover.ensures ∙ ap (covers true v.count 0) c.deref.ensures.value) ∙ c.if-not-cover.false in
     let parts = ap (λ x. x.items) c.replace-parts.ensures.value in
     let quiet : fault_in v.parts ≡ None = sym (c.find_fault.ensures ∙ ap fault_in (c.deref-2.ensures.value ∙ parts)) ∙ c.in_default.is in
     let o = open_now m v h covered run in
@@ -124,7 +150,8 @@ take_superstep-requires-clause-can g c =
     let law = g.met.P.Program.keeps_paths v.program in
     let h = c.self.invariant.run in
     let run = ap (λ (x : StretchesValue g.row.P.Denot g.row.P-Task.Denot). status_in x) c.self.view_is ∙ c.requires.running in
-    let covered : covers true v.count 0 v.parts ≡ true = sym (c.cover.ensures ∙ ap (covers true v.count 0) c.deref.ensures.value) ∙ c.if-not-cover.false in
+    let covered : covers true v.count 0 v.parts ≡ true =
+    sym (c.cover.ensures ∙ ap (covers true v.count 0) c.deref.ensures.value) ∙ c.if-not-cover.false in
     let parts = ap (λ x. x.items) c.replace-parts.ensures.value in
     let quiet : fault_in v.parts ≡ None = sym (c.find_fault.ensures ∙ ap fault_in (c.deref-2.ensures.value ∙ parts)) ∙ c.in_default.is in
     let o = open_now m v h covered run in

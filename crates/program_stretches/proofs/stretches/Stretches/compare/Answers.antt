@@ -29,4 +29,5 @@ returns-clause-same g c =
 
 pub returns-clause-before : goal.returns-clause-before
 returns-clause-before g c =
-    subst (λ (l : List (SuperstepStartValue g.row.P.Denot g.row.P-Task.Denot)). WasBefore c.args.earlier.log l) (ap (λ (x : StretchesValue g.row.P.Denot g.row.P-Task.Denot). x.log) c.self.view_is) c.compare.ensures.before
+    subst (λ (l : List (SuperstepStartValue g.row.P.Denot g.row.P-Task.Denot)). WasBefore c.args.earlier.log l)
+    (ap (λ (x : StretchesValue g.row.P.Denot g.row.P-Task.Denot). x.log) c.self.view_is) c.compare.ensures.before

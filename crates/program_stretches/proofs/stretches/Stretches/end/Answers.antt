@@ -16,7 +16,9 @@ invariant_of-self g c =
     record {
       run = record {
         live = e.live;
-        after = after_next m v _ e.live e.live (g.met.P.Program.keeps_paths v.program) e.begun run e.count e.step refl refl refl refl refl e.begun.count e.begun.few;
+        after =
+            after_next m v _ e.live e.live (g.met.P.Program.keeps_paths v.program) e.begun run e.count e.step refl refl refl refl refl
+            e.begun.count e.begun.few;
         opened = inl (ap (λ (x : StretchesValue g.row.P.Denot g.row.P-Task.Denot). x.parts) c.self.view_is ∙ c.requires.none);
       };
       same = h.same;

@@ -10,7 +10,14 @@ use Rattle.program_stretches.proofs.stretches.Stretches.new.Goals as goal
 pub invariant_of-result : goal.invariant_of-result
 invariant_of-result g c =
     let ready = c.in-Ok.ensures in
-    let o : SuperstepStartValue g.row.P.Denot g.row.P-Task.Denot = record { program = c.args.program.now; most = c.args.most; limit = c.args.limit; arrays = arc_value c.in-Ok.ready.shared; parts = c.in-Ok.ready.parts.items } in
+    let o : SuperstepStartValue g.row.P.Denot g.row.P-Task.Denot =
+    record {
+      program = c.args.program.now;
+      most = c.args.most;
+      limit = c.args.limit;
+      arrays = arc_value c.in-Ok.ready.shared;
+      parts = c.in-Ok.ready.parts.items;
+    } in
     let noted = c.note.ensures.noted in
     let log = ap (λ w. w.log) noted ∙ ap (λ w. o ∷ w.log) c.write-writer.ensures in
     let parts = ap (λ (x : SuperstepStartValue g.row.P.Denot g.row.P-Task.Denot). x.parts) (c.parts.view_is ∙ c.note.ensures.same) in
@@ -18,7 +25,8 @@ invariant_of-result g c =
     record {
       run = run_begun (reading_of g.P.Program.frame g.P.Program.may g.P.Program.meant g.P.Task.OnPath.path_of) _ o log refl refl refl
           (ready.arrays.0 ∙ sym ready.arrays.1) parts ready.fresh
-          (ap (map g.P.Task.OnPath.path_of) ready.tasks ∙ c.requires.paths ∙ ap (λ (ts : List g.row.P-Task.Denot). children [] 0 (length ts)) (sym ready.tasks))
+          (ap (map g.P.Task.OnPath.path_of) ready.tasks ∙ c.requires.paths
+          ∙ ap (λ (ts : List g.row.P-Task.Denot). children [] 0 (length ts)) (sym ready.tasks))
           (ready.count ∙ sym l) (let few = c.requires.few in omega (arith, l, few))
           refl c.new.ensures.items c.new-2.ensures.items refl refl;
       same = sym (ap (λ w. w.name) noted ∙ ap (λ w. w.name) c.write-writer.ensures);
@@ -31,7 +39,14 @@ invariant_of-result g c =
 pub returns : goal.returns
 returns g c =
     let ready = c.in-Ok.ensures in
-    let o : SuperstepStartValue g.row.P.Denot g.row.P-Task.Denot = record { program = c.args.program.now; most = c.args.most; limit = c.args.limit; arrays = arc_value c.in-Ok.ready.shared; parts = c.in-Ok.ready.parts.items } in
+    let o : SuperstepStartValue g.row.P.Denot g.row.P-Task.Denot =
+    record {
+      program = c.args.program.now;
+      most = c.args.most;
+      limit = c.args.limit;
+      arrays = arc_value c.in-Ok.ready.shared;
+      parts = c.in-Ok.ready.parts.items;
+    } in
     let noted = c.note.ensures.noted in
     record {
       start = o;
@@ -49,9 +64,14 @@ returns g c =
       calm = refl;
       counted =
           let parts = ap (λ (x : SuperstepStartValue g.row.P.Denot g.row.P-Task.Denot). x.parts) (c.parts.view_is ∙ c.note.ensures.same) in
-          ready.count ∙ ap length (sym ready.tasks) ∙ ap (λ (ss : List (Option (PartValue g.row.P-Task.Denot))). length (tasks_in ss)) (sym parts);
+          ready.count ∙ ap length (sym ready.tasks)
+          ∙ ap (λ (ss : List (Option (PartValue g.row.P-Task.Denot))). length (tasks_in ss)) (sym parts);
       nothing_given = refl;
       whole =
-          ap tasks_in (ap (λ (x : SuperstepStartValue g.row.P.Denot g.row.P-Task.Denot). x.parts) (c.parts.view_is ∙ c.note.ensures.same)) ∙ ready.tasks;
-      ready = subst (AreFresh 0) (sym (ap (λ (x : SuperstepStartValue g.row.P.Denot g.row.P-Task.Denot). x.parts) (c.parts.view_is ∙ c.note.ensures.same))) ready.fresh;
+          ap tasks_in (ap (λ (x : SuperstepStartValue g.row.P.Denot g.row.P-Task.Denot). x.parts) (c.parts.view_is ∙ c.note.ensures.same))
+          ∙ ready.tasks;
+      ready =
+          subst (AreFresh 0)
+          (sym (ap (λ (x : SuperstepStartValue g.row.P.Denot g.row.P-Task.Denot). x.parts) (c.parts.view_is ∙ c.note.ensures.same)))
+          ready.fresh;
     }

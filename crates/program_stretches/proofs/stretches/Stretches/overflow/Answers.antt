@@ -27,18 +27,26 @@ end-requires-clause-ends g c =
     let m = reading_of g.P.Program.frame g.P.Program.may g.P.Program.meant g.P.Task.OnPath.path_of in
     let o = c.requires.run in
     let h = o.run in
-    let e = ends_over m c.args.self.now (g.met.P.Program.keeps_paths c.args.self.now.program) c.requires.running h.start h.begun o.puts (tasks_in c.args.parts.now) (deeds_in c.args.parts.now) (prints_in c.args.parts.now) h.did c.args.place (Some c.in-Some.blame) c.requires.few o.over
+    let e =
+    ends_over m c.args.self.now (g.met.P.Program.keeps_paths c.args.self.now.program) c.requires.running h.start h.begun o.puts
+    (tasks_in c.args.parts.now) (deeds_in c.args.parts.now) (prints_in c.args.parts.now) h.did c.args.place (Some c.in-Some.blame)
+    c.requires.few o.over
     (found c.find_blame.result _ c.find_blame.ensures c.in-Some.is) in
     let same = some_same e.cause c.in-Some.blame (sym e.is) in
-    subst (EndsBy m c.args.self.now) same (record { live = map (m c.args.self.now.program).meant (live_of h.start); begun = h.begun; count = h.count; step = e.step.step })
+    subst (EndsBy m c.args.self.now) same
+    (record { live = map (m c.args.self.now.program).meant (live_of h.start); begun = h.begun; count = h.count; step = e.step.step })
 
 pub returns-in-Some-clause-closed : goal.returns-in-Some-clause-closed
 returns-in-Some-clause-closed g c =
     let m = reading_of g.P.Program.frame g.P.Program.may g.P.Program.meant g.P.Task.OnPath.path_of in
     let o = c.requires.run in
     let h = o.run in
-    let e = ends_over m c.args.self.now (g.met.P.Program.keeps_paths c.args.self.now.program) c.requires.running h.start h.begun o.puts (tasks_in c.args.parts.now) (deeds_in c.args.parts.now) (prints_in c.args.parts.now) h.did c.args.place (Some c.in-Some.blame) c.requires.few o.over
+    let e =
+    ends_over m c.args.self.now (g.met.P.Program.keeps_paths c.args.self.now.program) c.requires.running h.start h.begun o.puts
+    (tasks_in c.args.parts.now) (deeds_in c.args.parts.now) (prints_in c.args.parts.now) h.did c.args.place (Some c.in-Some.blame)
+    c.requires.few o.over
     (found c.find_blame.result _ c.find_blame.ensures c.in-Some.is) in
     let same = some_same e.cause c.in-Some.blame (sym e.is) in
-    closed_end m c.args.self.now (g.met.P.Program.keeps_paths c.args.self.now.program) c.requires.running h.start h.older h.is e.cause c.end.new.self (c.end.ensures ∙ (λ i. record c.args.self.now { fault = Some (sym same i) }))
+    closed_end m c.args.self.now (g.met.P.Program.keeps_paths c.args.self.now.program) c.requires.running h.start h.older h.is e.cause
+    c.end.new.self (c.end.ensures ∙ (λ i. record c.args.self.now { fault = Some (sym same i) }))
     Overflowed e.step (λ x live k. (e.cause, k))

@@ -14,12 +14,23 @@ invariant_of-self g c =
     let m = reading_of g.P.Program.frame g.P.Program.may g.P.Program.meant g.P.Task.OnPath.path_of in
     let v = stretches_of c.self.inside in
     let h = c.self.invariant in
-    let o : SuperstepStartValue g.row.P.Denot g.row.P-Task.Denot = record { program = c.self.inside.program.now; most = c.self.inside.most; limit = c.self.inside.limit; arrays = arc_value c.in_ok-arrays.arrays; parts = c.args.parts.items } in
+    let o : SuperstepStartValue g.row.P.Denot g.row.P-Task.Denot =
+    record {
+      program = c.self.inside.program.now;
+      most = c.self.inside.most;
+      limit = c.self.inside.limit;
+      arrays = arc_value c.in_ok-arrays.arrays;
+      parts = c.args.parts.items;
+    } in
     let noted = c.note.ensures.noted in
     let parts = ap (λ (x : SuperstepStartValue g.row.P.Denot g.row.P-Task.Denot). x.parts) (c.parts.view_is ∙ c.note.ensures.same) in
-    let begun = subst (λ (x : StretchesValue g.row.P.Denot g.row.P-Task.Denot). IsAfter m x (map (m x.program).meant (live_of o))) (sym c.self.view_is) c.requires.after in
+    let begun =
+    subst (λ (x : StretchesValue g.row.P.Denot g.row.P-Task.Denot). IsAfter m x (map (m x.program).meant (live_of o))) (sym c.self.view_is)
+    c.requires.after in
     let calm = ap (λ (x : StretchesValue g.row.P.Denot g.row.P-Task.Denot). x.fault) c.self.view_is ∙ c.requires.calm in
-    let count = (λ i. length (c.self.view_is i).log) ∙ c.requires.count ∙ sym (ap (λ (x : StretchesValue g.row.P.Denot g.row.P-Task.Denot). x.step) c.self.view_is) in
+    let count =
+    (λ i. length (c.self.view_is i).log) ∙ c.requires.count
+    ∙ sym (ap (λ (x : StretchesValue g.row.P.Denot g.row.P-Task.Denot). x.step) c.self.view_is) in
     record {
       run = run_opened m v _ o begun calm count c.requires.fresh refl c.in_ok-arrays.ensures
           (λ i. record v { name = (noted i).name; log = (noted i).log; parts = parts i });

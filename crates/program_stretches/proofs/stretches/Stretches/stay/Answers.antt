@@ -25,16 +25,28 @@ invariant_of-self-in-None g c =
     let ds = deeds_in c.args.parts.items in
     let after = prints_in c.args.parts.items in
     let f = fit m a law c.requires.running h.start h.begun (c.args.puts.now ++ puts_in c.args.parts.items) us ds after h.did in
-    let stays = all_stay us ds f.same (sym (ap (λ (r : PhaseRecord). r.left) c.requires.counts) ∙ c.requires.stays.0) (sym (ap (λ (r : PhaseRecord). r.spawned) c.requires.counts) ∙ c.requires.stays.1) in
-    let is_next : us ≡ in_path_order g.P.Task.OnPath.path_of (living_with us ds) = sym (ap (in_path_order g.P.Task.OnPath.path_of) stays ∙ rising_stays g.P.Task.OnPath.path_of us f.rising) in
-    let none = sym c.in-None.is ∙ c.in_ok-place.ensures.place ∙ (λ i. over_in ((c.self.view_is i).arrays) [] 0 (c.args.puts.now ++ puts_in (c.deref-2.ensures.value i))) in
-    let begun = after_landed m a law c.requires.running (c.args.puts.now ++ puts_in c.args.parts.items) us ds after h c.requires.few c.args.counts c.requires.counts none us is_next in
+    let stays =
+    all_stay us ds f.same (sym (ap (λ (r : PhaseRecord). r.left) c.requires.counts) ∙ c.requires.stays.0)
+    (sym (ap (λ (r : PhaseRecord). r.spawned) c.requires.counts) ∙ c.requires.stays.1) in
+    let is_next : us ≡ in_path_order g.P.Task.OnPath.path_of (living_with us ds) =
+    sym (ap (in_path_order g.P.Task.OnPath.path_of) stays ∙ rising_stays g.P.Task.OnPath.path_of us f.rising) in
+    let none =
+    sym c.in-None.is ∙ c.in_ok-place.ensures.place
+    ∙ (λ i. over_in ((c.self.view_is i).arrays) [] 0 (c.args.puts.now ++ puts_in (c.deref-2.ensures.value i))) in
+    let begun =
+    after_landed m a law c.requires.running (c.args.puts.now ++ puts_in c.args.parts.items) us ds after h c.requires.few c.args.counts
+    c.requires.counts none us is_next in
     let prints = c.print_and_renew.ensures.given ∙ ap (λ (ps : List PrintValue). ps ++ after) c.in_ok-make_room.ensures.prints in
-    let records = c.push_reserved.ensures.items ∙ ap (λ (rs : List PhaseRecord). rs ++ c.args.counts ∷ []) c.in_ok-make_room.ensures.records in
-    let arrays = c.in_ok-place.ensures.lands c.in-None.is ∙ (λ i. landed (c.args.puts.now ++ puts_in (c.deref-2.ensures.value i)) v.arrays) in
-    let count : v.count ≡ length us = ap (λ (x : StretchesValue g.row.P.Denot g.row.P-Task.Denot). x.count) c.self.view_is ∙ sym f.all ∙ sym f.same in
+    let records =
+    c.push_reserved.ensures.items ∙ ap (λ (rs : List PhaseRecord). rs ++ c.args.counts ∷ []) c.in_ok-make_room.ensures.records in
+    let arrays =
+    c.in_ok-place.ensures.lands c.in-None.is ∙ (λ i. landed (c.args.puts.now ++ puts_in (c.deref-2.ensures.value i)) v.arrays) in
+    let count : v.count ≡ length us =
+    ap (λ (x : StretchesValue g.row.P.Denot g.row.P-Task.Denot). x.count) c.self.view_is ∙ sym f.all ∙ sym f.same in
     let parts = c.print_and_renew.ensures.renewed in
-    let same : stretches_of (record c.self.inside { step = c.self.inside.step + 1; arrays = c.land_shared.new.arrays; prints = c.print_and_renew.new.prints; records = c.push_reserved.new.self }) ≡ landed_with a (c.args.puts.now ++ puts_in c.args.parts.items) c.args.counts after (length us) =
+    let same : stretches_of
+    (record c.self.inside { step = c.self.inside.step + 1; arrays = c.land_shared.new.arrays; prints = c.print_and_renew.new.prints; records = c.push_reserved.new.self })
+    ≡ landed_with a (c.args.puts.now ++ puts_in c.args.parts.items) c.args.counts after (length us) =
     (λ i. record v { step = v.step + 1; arrays = arrays i; count = count i; prints = prints i; records = records i })
     ∙ (λ i. landed_with (c.self.view_is i) (c.args.puts.now ++ puts_in c.args.parts.items) c.args.counts after (length us)) in
     record {
@@ -48,7 +60,8 @@ invariant_of-self-in-None g c =
 
 pub reopen-requires-clause-fresh : goal.reopen-requires-clause-fresh
 reopen-requires-clause-fresh g c =
-    subst (AreFresh 0) (sym (c.print_and_renew.ensures.renewed)) (fresh_renewed true c.args.self.now.count 0 c.args.parts.items c.requires.covered)
+    subst (AreFresh 0) (sym (c.print_and_renew.ensures.renewed))
+    (fresh_renewed true c.args.self.now.count 0 c.args.parts.items c.requires.covered)
 
 pub reopen-requires-clause-after : goal.reopen-requires-clause-after
 reopen-requires-clause-after g c =
@@ -61,19 +74,35 @@ reopen-requires-clause-after g c =
     let ds = deeds_in c.args.parts.items in
     let after = prints_in c.args.parts.items in
     let f = fit m a law c.requires.running h.start h.begun (c.args.puts.now ++ puts_in c.args.parts.items) us ds after h.did in
-    let stays = all_stay us ds f.same (sym (ap (λ (r : PhaseRecord). r.left) c.requires.counts) ∙ c.requires.stays.0) (sym (ap (λ (r : PhaseRecord). r.spawned) c.requires.counts) ∙ c.requires.stays.1) in
-    let is_next : us ≡ in_path_order g.P.Task.OnPath.path_of (living_with us ds) = sym (ap (in_path_order g.P.Task.OnPath.path_of) stays ∙ rising_stays g.P.Task.OnPath.path_of us f.rising) in
-    let none = sym c.in-None.is ∙ c.in_ok-place.ensures.place ∙ (λ i. over_in ((c.self.view_is i).arrays) [] 0 (c.args.puts.now ++ puts_in (c.deref-2.ensures.value i))) in
-    let begun = after_landed m a law c.requires.running (c.args.puts.now ++ puts_in c.args.parts.items) us ds after h c.requires.few c.args.counts c.requires.counts none us is_next in
+    let stays =
+    all_stay us ds f.same (sym (ap (λ (r : PhaseRecord). r.left) c.requires.counts) ∙ c.requires.stays.0)
+    (sym (ap (λ (r : PhaseRecord). r.spawned) c.requires.counts) ∙ c.requires.stays.1) in
+    let is_next : us ≡ in_path_order g.P.Task.OnPath.path_of (living_with us ds) =
+    sym (ap (in_path_order g.P.Task.OnPath.path_of) stays ∙ rising_stays g.P.Task.OnPath.path_of us f.rising) in
+    let none =
+    sym c.in-None.is ∙ c.in_ok-place.ensures.place
+    ∙ (λ i. over_in ((c.self.view_is i).arrays) [] 0 (c.args.puts.now ++ puts_in (c.deref-2.ensures.value i))) in
+    let begun =
+    after_landed m a law c.requires.running (c.args.puts.now ++ puts_in c.args.parts.items) us ds after h c.requires.few c.args.counts
+    c.requires.counts none us is_next in
     let prints = c.print_and_renew.ensures.given ∙ ap (λ (ps : List PrintValue). ps ++ after) c.in_ok-make_room.ensures.prints in
-    let records = c.push_reserved.ensures.items ∙ ap (λ (rs : List PhaseRecord). rs ++ c.args.counts ∷ []) c.in_ok-make_room.ensures.records in
-    let arrays = c.in_ok-place.ensures.lands c.in-None.is ∙ (λ i. landed (c.args.puts.now ++ puts_in (c.deref-2.ensures.value i)) v.arrays) in
-    let count : v.count ≡ length us = ap (λ (x : StretchesValue g.row.P.Denot g.row.P-Task.Denot). x.count) c.self.view_is ∙ sym f.all ∙ sym f.same in
+    let records =
+    c.push_reserved.ensures.items ∙ ap (λ (rs : List PhaseRecord). rs ++ c.args.counts ∷ []) c.in_ok-make_room.ensures.records in
+    let arrays =
+    c.in_ok-place.ensures.lands c.in-None.is ∙ (λ i. landed (c.args.puts.now ++ puts_in (c.deref-2.ensures.value i)) v.arrays) in
+    let count : v.count ≡ length us =
+    ap (λ (x : StretchesValue g.row.P.Denot g.row.P-Task.Denot). x.count) c.self.view_is ∙ sym f.all ∙ sym f.same in
     let parts = c.print_and_renew.ensures.renewed in
-    let same : stretches_of (record c.self.inside { step = c.self.inside.step + 1; arrays = c.land_shared.new.arrays; prints = c.print_and_renew.new.prints; records = c.push_reserved.new.self }) ≡ landed_with a (c.args.puts.now ++ puts_in c.args.parts.items) c.args.counts after (length us) =
+    let same : stretches_of
+    (record c.self.inside { step = c.self.inside.step + 1; arrays = c.land_shared.new.arrays; prints = c.print_and_renew.new.prints; records = c.push_reserved.new.self })
+    ≡ landed_with a (c.args.puts.now ++ puts_in c.args.parts.items) c.args.counts after (length us) =
     (λ i. record v { step = v.step + 1; arrays = arrays i; count = count i; prints = prints i; records = records i })
     ∙ (λ i. landed_with (c.self.view_is i) (c.args.puts.now ++ puts_in c.args.parts.items) c.args.counts after (length us)) in
-    subst (λ (ts : List g.row.P-Task.Denot). IsAfter m (stretches_of (record c.self.inside { step = c.self.inside.step + 1; arrays = c.land_shared.new.arrays; prints = c.print_and_renew.new.prints; records = c.push_reserved.new.self })) (map (m v.program).meant ts)) (sym (ap tasks_in parts ∙ tasks_renewed c.args.parts.items))
+    subst
+    (λ (ts : List g.row.P-Task.Denot). IsAfter m
+    (stretches_of (record c.self.inside { step = c.self.inside.step + 1; arrays = c.land_shared.new.arrays; prints = c.print_and_renew.new.prints; records = c.push_reserved.new.self }))
+    (map (m v.program).meant ts))
+    (sym (ap tasks_in parts ∙ tasks_renewed c.args.parts.items))
     (subst (λ (x : StretchesValue g.row.P.Denot g.row.P-Task.Denot). IsAfter m x (map (m x.program).meant us)) (sym same) begun)
 
 pub returns-in_ok-reopen-in-None-clause-closed : goal.returns-in_ok-reopen-in-None-clause-closed
@@ -87,21 +116,37 @@ returns-in_ok-reopen-in-None-clause-closed g c =
     let ds = deeds_in c.args.parts.items in
     let after = prints_in c.args.parts.items in
     let f = fit m a law c.requires.running h.start h.begun (c.args.puts.now ++ puts_in c.args.parts.items) us ds after h.did in
-    let stays = all_stay us ds f.same (sym (ap (λ (r : PhaseRecord). r.left) c.requires.counts) ∙ c.requires.stays.0) (sym (ap (λ (r : PhaseRecord). r.spawned) c.requires.counts) ∙ c.requires.stays.1) in
-    let is_next : us ≡ in_path_order g.P.Task.OnPath.path_of (living_with us ds) = sym (ap (in_path_order g.P.Task.OnPath.path_of) stays ∙ rising_stays g.P.Task.OnPath.path_of us f.rising) in
-    let none = sym c.in-None.is ∙ c.in_ok-place.ensures.place ∙ (λ i. over_in ((c.self.view_is i).arrays) [] 0 (c.args.puts.now ++ puts_in (c.deref-2.ensures.value i))) in
-    let begun = after_landed m a law c.requires.running (c.args.puts.now ++ puts_in c.args.parts.items) us ds after h c.requires.few c.args.counts c.requires.counts none us is_next in
+    let stays =
+    all_stay us ds f.same (sym (ap (λ (r : PhaseRecord). r.left) c.requires.counts) ∙ c.requires.stays.0)
+    (sym (ap (λ (r : PhaseRecord). r.spawned) c.requires.counts) ∙ c.requires.stays.1) in
+    let is_next : us ≡ in_path_order g.P.Task.OnPath.path_of (living_with us ds) =
+    sym (ap (in_path_order g.P.Task.OnPath.path_of) stays ∙ rising_stays g.P.Task.OnPath.path_of us f.rising) in
+    let none =
+    sym c.in-None.is ∙ c.in_ok-place.ensures.place
+    ∙ (λ i. over_in ((c.self.view_is i).arrays) [] 0 (c.args.puts.now ++ puts_in (c.deref-2.ensures.value i))) in
+    let begun =
+    after_landed m a law c.requires.running (c.args.puts.now ++ puts_in c.args.parts.items) us ds after h c.requires.few c.args.counts
+    c.requires.counts none us is_next in
     let prints = c.print_and_renew.ensures.given ∙ ap (λ (ps : List PrintValue). ps ++ after) c.in_ok-make_room.ensures.prints in
-    let records = c.push_reserved.ensures.items ∙ ap (λ (rs : List PhaseRecord). rs ++ c.args.counts ∷ []) c.in_ok-make_room.ensures.records in
-    let arrays = c.in_ok-place.ensures.lands c.in-None.is ∙ (λ i. landed (c.args.puts.now ++ puts_in (c.deref-2.ensures.value i)) v.arrays) in
-    let count : v.count ≡ length us = ap (λ (x : StretchesValue g.row.P.Denot g.row.P-Task.Denot). x.count) c.self.view_is ∙ sym f.all ∙ sym f.same in
+    let records =
+    c.push_reserved.ensures.items ∙ ap (λ (rs : List PhaseRecord). rs ++ c.args.counts ∷ []) c.in_ok-make_room.ensures.records in
+    let arrays =
+    c.in_ok-place.ensures.lands c.in-None.is ∙ (λ i. landed (c.args.puts.now ++ puts_in (c.deref-2.ensures.value i)) v.arrays) in
+    let count : v.count ≡ length us =
+    ap (λ (x : StretchesValue g.row.P.Denot g.row.P-Task.Denot). x.count) c.self.view_is ∙ sym f.all ∙ sym f.same in
     let parts = c.print_and_renew.ensures.renewed in
-    let same : stretches_of (record c.self.inside { step = c.self.inside.step + 1; arrays = c.land_shared.new.arrays; prints = c.print_and_renew.new.prints; records = c.push_reserved.new.self }) ≡ landed_with a (c.args.puts.now ++ puts_in c.args.parts.items) c.args.counts after (length us) =
+    let same : stretches_of
+    (record c.self.inside { step = c.self.inside.step + 1; arrays = c.land_shared.new.arrays; prints = c.print_and_renew.new.prints; records = c.push_reserved.new.self })
+    ≡ landed_with a (c.args.puts.now ++ puts_in c.args.parts.items) c.args.counts after (length us) =
     (λ i. record v { step = v.step + 1; arrays = arrays i; count = count i; prints = prints i; records = records i })
     ∙ (λ i. landed_with (c.self.view_is i) (c.args.puts.now ++ puts_in c.args.parts.items) c.args.counts after (length us)) in
-    closed_landed m a law c.requires.running (c.args.puts.now ++ puts_in c.args.parts.items) us ds after h c.requires.few c.args.counts c.requires.counts none us is_next
-    c.print_and_renew.new.parts.items (subst (AreFresh 0) (sym parts) (fresh_renewed true c.args.self.now.count 0 c.args.parts.items c.requires.covered)) (ap tasks_in parts ∙ tasks_renewed c.args.parts.items) c.reopen.new.self
-    (c.in_ok-reopen-in-None.ensures.opened ∙ ap (λ (x : StretchesValue g.row.P.Denot g.row.P-Task.Denot). opened_with x c.print_and_renew.new.parts.items) same)
+    closed_landed m a law c.requires.running (c.args.puts.now ++ puts_in c.args.parts.items) us ds after h c.requires.few c.args.counts
+    c.requires.counts none us is_next
+    c.print_and_renew.new.parts.items
+    (subst (AreFresh 0) (sym parts) (fresh_renewed true c.args.self.now.count 0 c.args.parts.items c.requires.covered))
+    (ap tasks_in parts ∙ tasks_renewed c.args.parts.items) c.reopen.new.self
+    (c.in_ok-reopen-in-None.ensures.opened
+    ∙ ap (λ (x : StretchesValue g.row.P.Denot g.row.P-Task.Denot). opened_with x c.print_and_renew.new.parts.items) same)
 
 pub returns-in_ok-reopen-in-None-clause-reopened : goal.returns-in_ok-reopen-in-None-clause-reopened
 returns-in_ok-reopen-in-None-clause-reopened g c =
@@ -114,17 +159,22 @@ returns-in_ok-reopen-in-None-clause-reopened g c =
     let ds = deeds_in c.args.parts.items in
     let after = prints_in c.args.parts.items in
     let f = fit m a law c.requires.running h.start h.begun (c.args.puts.now ++ puts_in c.args.parts.items) us ds after h.did in
-    let count : v.count ≡ length us = ap (λ (x : StretchesValue g.row.P.Denot g.row.P-Task.Denot). x.count) c.self.view_is ∙ sym f.all ∙ sym f.same in
+    let count : v.count ≡ length us =
+    ap (λ (x : StretchesValue g.row.P.Denot g.row.P-Task.Denot). x.count) c.self.view_is ∙ sym f.all ∙ sym f.same in
     let parts = c.print_and_renew.ensures.renewed in
     let is = c.in_ok-reopen-in-None.ensures.opened in
     let there = ap (λ (x : StretchesValue g.row.P.Denot g.row.P-Task.Denot). x.parts) is ∙ parts in
     let tasks = ap tasks_in there ∙ tasks_renewed c.args.parts.items in
-    let stays = all_stay us ds f.same (sym (ap (λ (r : PhaseRecord). r.left) c.requires.counts) ∙ c.requires.stays.0) (sym (ap (λ (r : PhaseRecord). r.spawned) c.requires.counts) ∙ c.requires.stays.1) in
-    let is_next : us ≡ in_path_order g.P.Task.OnPath.path_of (living_with us ds) = sym (ap (in_path_order g.P.Task.OnPath.path_of) stays ∙ rising_stays g.P.Task.OnPath.path_of us f.rising) in (
+    let stays =
+    all_stay us ds f.same (sym (ap (λ (r : PhaseRecord). r.left) c.requires.counts) ∙ c.requires.stays.0)
+    (sym (ap (λ (r : PhaseRecord). r.spawned) c.requires.counts) ∙ c.requires.stays.1) in
+    let is_next : us ≡ in_path_order g.P.Task.OnPath.path_of (living_with us ds) =
+    sym (ap (in_path_order g.P.Task.OnPath.path_of) stays ∙ rising_stays g.P.Task.OnPath.path_of us f.rising) in (
       subst (AreFresh 0) (sym there) (fresh_renewed true c.args.self.now.count 0 c.args.parts.items c.requires.covered),
       ap (λ (x : StretchesValue g.row.P.Denot g.row.P-Task.Denot). x.count) is ∙ count ∙ ap length (sym tasks),
       λ stay. there,
-      ap (λ (x : StretchesValue g.row.P.Denot g.row.P-Task.Denot). x.step) is ∙ ap (λ (x : StretchesValue g.row.P.Denot g.row.P-Task.Denot). x.step + 1) c.self.view_is,
+      ap (λ (x : StretchesValue g.row.P.Denot g.row.P-Task.Denot). x.step) is
+          ∙ ap (λ (x : StretchesValue g.row.P.Denot g.row.P-Task.Denot). x.step + 1) c.self.view_is,
       c.requires.each,
       tasks ∙ is_next ∙ ap (in_path_order g.P.Task.OnPath.path_of) (living_joined c.args.parts.items c.requires.each),
     )

@@ -19,7 +19,8 @@ returns-clause-left g c =
       subst (λ log. HasLeftTo m (λ o. v.step) log l.given l.ran.report l.ran.tasks.items) (sym f.logged)
           (subst (λ n. HasLeftTo m (λ o. v.step) v.log n l.ran.report l.ran.tasks.items) (sym f.gave)
           (has_stopped m v h run there (g.met.P.Program.keeps_paths v.program) l.ran.tasks.items f.tasks l.ran.report
-          (f.report ∙ (λ i. record { prints = v.prints; records = v.records; arrays = v.arrays; status = Limit ((c.self.view_is i).step) })))),
+          (f.report
+          ∙ (λ i. record { prints = v.prints; records = v.records; arrays = v.arrays; status = Limit ((c.self.view_is i).step) })))),
     ))
 
 pub returns-clause-count : goal.returns-clause-count
@@ -30,4 +31,5 @@ returns-clause-count g c =
     let run : status_in v ≡ None = nothing_if (status_in v) (sym c.has_ended.ensures ∙ c.if-has_ended.false) in
     left_when c.leave.result _ _ _ c.leave.ensures.left c.leave.ensures.some
     (λ l f there.
-    sym (length-map l.ran.tasks.items (m v.program).meant) ∙ ap length (sym (still_live m v h run there l.ran.tasks.items f.tasks)) ∙ sym h.after.count)
+    sym (length-map l.ran.tasks.items (m v.program).meant) ∙ ap length (sym (still_live m v h run there l.ran.tasks.items f.tasks))
+    ∙ sym h.after.count)

@@ -84,8 +84,10 @@ end-requires-clause-ends g c =
     let n = c.count_left-left.ensures in
     let over = not_counted c.count_spawned.result _ _ c.count_spawned.ensures c.in_default.is in
     let s = ap spawned_in (ap deeds_in c.deref-2.ensures.value) in
-    let step = ends_many m a law c.requires.running h.start h.begun _ _ _ _ h.did (omega (arith, e, n, over, s, left, all, count, few, most)) in
-    subst (EndsBy m a) (sym c.too_many.ensures) (record { live = map (m a.program).meant (live_of h.start); begun = h.begun; count = h.count; step = step.step })
+    let step =
+    ends_many m a law c.requires.running h.start h.begun _ _ _ _ h.did (omega (arith, e, n, over, s, left, all, count, few, most)) in
+    subst (EndsBy m a) (sym c.too_many.ensures)
+    (record { live = map (m a.program).meant (live_of h.start); begun = h.begun; count = h.count; step = step.step })
 
 pub returns-in_default-clause-closed : goal.returns-in_default-clause-closed
 returns-in_default-clause-closed g c =
@@ -106,8 +108,10 @@ returns-in_default-clause-closed g c =
     let n = c.count_left-left.ensures in
     let over = not_counted c.count_spawned.result _ _ c.count_spawned.ensures c.in_default.is in
     let s = ap spawned_in (ap deeds_in c.deref-2.ensures.value) in
-    let step = ends_many m a law c.requires.running h.start h.begun _ _ _ _ h.did (omega (arith, e, n, over, s, left, all, count, few, most)) in
-    closed_end m a law c.requires.running h.start h.older h.is _ c.end.new.self (c.end.ensures ∙ (λ i. record a { fault = Some (c.too_many.ensures i) }))
+    let step =
+    ends_many m a law c.requires.running h.start h.begun _ _ _ _ h.did (omega (arith, e, n, over, s, left, all, count, few, most)) in
+    closed_end m a law c.requires.running h.start h.older h.is _ c.end.new.self
+    (c.end.ensures ∙ (λ i. record a { fault = Some (c.too_many.ensures i) }))
     TooMany step (λ x live k. (_, k))
 
 pub overflow_cast-counts-2 : goal.overflow_cast-counts-2
@@ -200,7 +204,9 @@ stay-requires-clause-counts g c =
 
 pub stay-requires-clause-covered : goal.stay-requires-clause-covered
 stay-requires-clause-covered g c =
-    sym (covers_on true c.args.self.now.count 0 c.join_adds.new.parts.items) ∙ ap (covers true c.args.self.now.count 0) c.in_ok-join_adds.ensures.rest ∙ covers_on true c.args.self.now.count 0 c.args.parts.items ∙ c.requires.covered
+    sym (covers_on true c.args.self.now.count 0 c.join_adds.new.parts.items)
+    ∙ ap (covers true c.args.self.now.count 0) c.in_ok-join_adds.ensures.rest
+    ∙ covers_on true c.args.self.now.count 0 c.args.parts.items ∙ c.requires.covered
 
 pub move_on-requires-clause-run : goal.move_on-requires-clause-run
 move_on-requires-clause-run g c =
@@ -286,11 +292,13 @@ move_on-requires-clause-moves g c = λ stay.
 
 pub returns-then-spawned-eq0-clause-reopened : goal.returns-then-spawned-eq0-clause-reopened
 returns-then-spawned-eq0-clause-reopened g c =
-    if_ok c.stay.result _ _ c.stay.ensures.reopened (λ o h. reopened_from g.P.Task.OnPath.path_of o c.args.self.now.step c.join_adds.new.parts.items c.args.parts.items _ c.in_ok-join_adds.ensures.rest h)
+    if_ok c.stay.result _ _ c.stay.ensures.reopened
+    (λ o h. reopened_from g.P.Task.OnPath.path_of o c.args.self.now.step c.join_adds.new.parts.items c.args.parts.items _ c.in_ok-join_adds.ensures.rest h)
 
 pub returns-else-left-eq0-clause-reopened : goal.returns-else-left-eq0-clause-reopened
 returns-else-left-eq0-clause-reopened g c =
-    if_ok c.move_on.result _ _ c.move_on.ensures.reopened (λ o h. reopened_from g.P.Task.OnPath.path_of o c.args.self.now.step c.join_adds.new.parts.items c.args.parts.items _ c.in_ok-join_adds.ensures.rest h)
+    if_ok c.move_on.result _ _ c.move_on.ensures.reopened
+    (λ o h. reopened_from g.P.Task.OnPath.path_of o c.args.self.now.step c.join_adds.new.parts.items c.args.parts.items _ c.in_ok-join_adds.ensures.rest h)
 
 pub stay-requires-clause-each : goal.stay-requires-clause-each
 stay-requires-clause-each g c = each_also c.join_adds.new.parts.items c.args.parts.items c.in_ok-join_adds.ensures.rest c.requires.each
@@ -299,4 +307,5 @@ pub move_on-requires-clause-each : goal.move_on-requires-clause-each
 move_on-requires-clause-each g c = each_also c.join_adds.new.parts.items c.args.parts.items c.in_ok-join_adds.ensures.rest c.requires.each
 
 pub move_on-requires-clause-can : goal.move_on-requires-clause-can
-move_on-requires-clause-can g c = can_also g.P.Task.OnPath.path_of c.join_adds.new.parts.items c.args.parts.items c.in_ok-join_adds.ensures.rest c.requires.can
+move_on-requires-clause-can g c =
+    can_also g.P.Task.OnPath.path_of c.join_adds.new.parts.items c.args.parts.items c.in_ok-join_adds.ensures.rest c.requires.can

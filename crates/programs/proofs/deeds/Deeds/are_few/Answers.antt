@@ -22,5 +22,6 @@ returns g c =
     let l = few_left c.args.self.now in (
       λ yes. let few = c.fit-2.ensures.0 yes in
           omega (arith, few, left, l, k.count, k.spawned, c.len-count.ensures, c.len-spawned.ensures, c.self.inside.spawns.ok.0),
-      λ le. c.fit-2.ensures.1 (omega (arith, le, left, l, k.count, k.spawned, c.len-count.ensures, c.len-spawned.ensures, c.self.inside.spawns.ok.0)),
+      λ le. c.fit-2.ensures.1
+          (omega (arith, le, left, l, k.count, k.spawned, c.len-count.ensures, c.len-spawned.ensures, c.self.inside.spawns.ok.0)),
     )

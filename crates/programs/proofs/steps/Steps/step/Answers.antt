@@ -15,7 +15,8 @@ pub take_superstep-requires-clause-rising : goal.take_superstep-requires-clause-
 take_superstep-requires-clause-rising g c =
     let f = g.P.Program.frame c.args.program.now in
     let meant = g.P.Program.meant c.args.program.now in
-    ap is_rising (sym (paths_read f meant g.T.OnPath.path_of (g.met.P.Program.keeps_paths c.args.program.now) c.self.inside.run_state.tasks.items))
+    ap is_rising
+    (sym (paths_read f meant g.T.OnPath.path_of (g.met.P.Program.keeps_paths c.args.program.now) c.self.inside.run_state.tasks.items))
     ∙ ap (λ (v : StepsValue g.row.T.Denot). is_rising (map f.path (map meant v.tasks))) c.self.view_is
     ∙ c.requires.ordered.rising
 
@@ -26,6 +27,7 @@ returns-in_default-fault-clause-ordered g c =
     let meant = g.P.Program.meant c.args.program.now in
     let path = g.T.OnPath.path_of in
     let none = none_left c.in-Ok.fault (λ x e. c.in_default-fault.not-Some x e) in
-    order_kept f may c.self.inside.most meant path (g.met.P.Program.keeps_paths c.args.program.now) c.self.inside.run_state c.take_superstep.new.run_state
+    order_kept f may c.self.inside.most meant path (g.met.P.Program.keeps_paths c.args.program.now) c.self.inside.run_state
+    c.take_superstep.new.run_state
     (subst (λ (v : StepsValue g.row.T.Denot). AreOrdered f (map meant v.tasks)) (sym c.self.view_is) c.requires.ordered)
     (subst (λ (o : Option (ℕ × List ℕ)). HasTaken f may c.self.inside.most meant path o c.self.inside.run_state c.take_superstep.new.run_state) none c.in-Ok.ensures.taken)

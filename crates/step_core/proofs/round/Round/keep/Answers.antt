@@ -9,13 +9,16 @@ use Rattle.step_core.proofs.round.Round.keep.Goals as goal
 
 pub put-requires : goal.put-requires
 put-requires c =
-    let t = takes (round_of c.self.inside) _ c.self.invariant.0 c.self.view_is c.requires.running c.args.delivery c.requires.taken c.into_segment-segment.ensures.known in
+    let t =
+    takes (round_of c.self.inside) _ c.self.invariant.0 c.self.view_is c.requires.running c.args.delivery c.requires.taken
+    c.into_segment-segment.ensures.known in
     subst (λ p. p < length c.self.inside.live) (sym c.place-place.ensures) (met_below _ _ t.0)
 
 pub invariant_of-self : goal.invariant_of-self
 invariant_of-self c =
     let r = round_of c.self.inside in
-    let t = takes r _ c.self.invariant.0 c.self.view_is c.requires.running c.args.delivery c.requires.taken c.into_segment-segment.ensures.known in
+    let t =
+    takes r _ c.self.invariant.0 c.self.view_is c.requires.running c.args.delivery c.requires.taken c.into_segment-segment.ensures.known in
     let put : c.put.new.self ≡ with_segment c.self.inside.live c.args.delivery.place c.args.delivery.segment =
     c.put.ensures ∙ (λ i. with_segment c.self.inside.live (c.place-place.ensures i) (c.into_segment-segment.ensures.same i)) in
     let fewer = met_fewer r c.args.delivery t.0 t.1 in
@@ -27,7 +30,8 @@ invariant_of-self c =
 pub overflow_sub-self : goal.overflow_sub-self
 overflow_sub-self c =
     let r = round_of c.self.inside in
-    let t = takes r _ c.self.invariant.0 c.self.view_is c.requires.running c.args.delivery c.requires.taken c.into_segment-segment.ensures.known in
+    let t =
+    takes r _ c.self.invariant.0 c.self.view_is c.requires.running c.args.delivery c.requires.taken c.into_segment-segment.ensures.known in
     let fewer = met_fewer r c.args.delivery t.0 t.1 in
     omega (arith, fewer, c.self.invariant.1)
 

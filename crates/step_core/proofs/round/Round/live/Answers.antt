@@ -11,7 +11,8 @@ use Rattle.step_core.proofs.round.Round.live.Goals as goal
 
 pub returns-clause-live : goal.returns-clause-live
 returns-clause-live c =
-    IfOk-weaker c.paths_of.result _ _ (λ paths h. h ∙ (λ i. map path_in ((c.deref-2.ensures.value ∙ (λ j. (c.deref.ensures j).items) ∙ c.in_ok-tasks.ensures) i))
+    IfOk-weaker c.paths_of.result _ _
+    (λ paths h. h ∙ (λ i. map path_in ((c.deref-2.ensures.value ∙ (λ j. (c.deref.ensures j).items) ∙ c.in_ok-tasks.ensures) i))
     ∙ paths_at (plans c.self.inside.job.now.bodies) c.self.inside.live
     ∙ ap (λ (r : RoundValue). live_paths (state_of r)) c.self.view_is) c.paths_of.ensures
 

@@ -13,7 +13,8 @@ invariant_of-result c =
       (opened_so c.args.job.now c.args.limit (arc_value c.in-Ok.start_arrays) c.in_ok-live.live c.new-in-Ok.result.items
           (c.in-Ok.ensures.ok ∙ c.in_ok-arrays.ensures ∙ c.arrays.ensures) c.new-in-Ok.ensures.items
           c.bodies.result.now c.bodies.ensures.bodies c.starts.result.now c.starts.ensures
-          (ap (λ (ss : List SlotValue). slots_of ps ss) c.in_ok-live.ensures ∙ fresh_mapped ps c.in_ok-tasks.tasks.items ∙ ap (map fresh) c.in_ok-tasks.ensures)
+          (ap (λ (ss : List SlotValue). slots_of ps ss) c.in_ok-live.ensures ∙ fresh_mapped ps c.in_ok-tasks.tasks.items
+          ∙ ap (map fresh) c.in_ok-tasks.ensures)
           c.bodies.ensures.kept.few_starts).0,
       (let l = ap missing_in c.in_ok-live.ensures ∙ all_missing c.in_ok-tasks.tasks.items in
           omega (arith, c.len-missing.ensures, c.in_ok-tasks.tasks.ok.0, l)),
@@ -25,5 +26,6 @@ returns-in-Ok c =
     (opened_so c.args.job.now c.args.limit (arc_value c.in-Ok.start_arrays) c.in_ok-live.live c.new-in-Ok.result.items
     (c.in-Ok.ensures.ok ∙ c.in_ok-arrays.ensures ∙ c.arrays.ensures) c.new-in-Ok.ensures.items
     c.bodies.result.now c.bodies.ensures.bodies c.starts.result.now c.starts.ensures
-    (ap (λ (ss : List SlotValue). slots_of ps ss) c.in_ok-live.ensures ∙ fresh_mapped ps c.in_ok-tasks.tasks.items ∙ ap (map fresh) c.in_ok-tasks.ensures)
+    (ap (λ (ss : List SlotValue). slots_of ps ss) c.in_ok-live.ensures ∙ fresh_mapped ps c.in_ok-tasks.tasks.items
+    ∙ ap (map fresh) c.in_ok-tasks.ensures)
     c.bodies.ensures.kept.few_starts).1

@@ -12,7 +12,9 @@ invariant_of-self-in-Err g c =
       i.0,
       i.1,
       i.2,
-      stops_there c.self.inside.job.now g.J.Streaming.job c.self.inside.limit g.J.Streaming.limit i.1 i.2 g.J.Streaming.held g.J.Streaming.failures (g.W.CountedWrite.contents c.self.inside.writer.now)
-          (g.W.CountedWrite.contents c.pass_on.new.writer) (g.W.CountedWrite.failures c.self.inside.writer.now) (g.W.CountedWrite.failures c.pass_on.new.writer) c.self.inside.written
+      stops_there c.self.inside.job.now g.J.Streaming.job c.self.inside.limit g.J.Streaming.limit i.1 i.2 g.J.Streaming.held
+          g.J.Streaming.failures (g.W.CountedWrite.contents c.self.inside.writer.now)
+          (g.W.CountedWrite.contents c.pass_on.new.writer) (g.W.CountedWrite.failures c.self.inside.writer.now)
+          (g.W.CountedWrite.failures c.pass_on.new.writer) c.self.inside.written
           c.self.inside.fault c.in-Err.fault calm i.3 c.in-Err.ensures.text c.in-Err.ensures.failures,
     )

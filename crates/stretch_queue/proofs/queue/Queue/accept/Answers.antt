@@ -14,4 +14,5 @@ unreachable-requires g c =
 pub invariant_of-self : goal.invariant_of-self
 invariant_of-self g c =
     let t = struck _ _ _ _ _ c.into_parts-stretch.ensures.pass.1 c.redeem.ensures.out c.redeem.ensures.others in
-    delivered c.self.invariant c.into_parts-stretch.result.0 _ _ c.in-Ok.ensures.added c.in-Ok.ensures.accepted t.t t.there t.of_number c.redeem.ensures.name t.rest refl
+    delivered c.self.invariant c.into_parts-stretch.result.0 _ _ c.in-Ok.ensures.added c.in-Ok.ensures.accepted t.t t.there t.of_number
+    c.redeem.ensures.name t.rest refl

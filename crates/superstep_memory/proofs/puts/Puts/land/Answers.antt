@@ -6,5 +6,6 @@ use Rattle.superstep_memory.proofs.puts.Puts.land.Goals as goal
 
 pub returns-then-self-clause-place : goal.returns-then-self-clause-place
 returns-then-self-clause-place c =
-    let all : list_all is_set c.args.self.now ≡ true = ap (list_all is_set) (sym c.self.view_is) ∙ sym c.self.invariant.sets ∙ c.if-self.true in
+    let all : list_all is_set c.args.self.now ≡ true =
+    ap (list_all is_set) (sym c.self.view_is) ∙ sym c.self.invariant.sets ∙ c.if-self.true in
     sym (sets_fit c.args.arrays.now [] 0 c.args.self.now all)

@@ -8,7 +8,9 @@ pub loop-place-init : goal.loop-place-init
 loop-place-init g c =
     let b : to_z w64 (of_z w64 c.args.self.now.beyond) ≡ c.args.self.now.beyond = omega (arith, ints) in
     record {
-      done = row_none (λ w v. goal.F-post g c.args.self.now.f w v) c.args.self.now.beyond c.args.rows.up.now c.args.rows.own.now c.args.rows.down.now c.args.values.now.items;
+      done =
+          row_none (λ w v. goal.F-post g c.args.self.now.f w v) c.args.self.now.beyond c.args.rows.up.now c.args.rows.own.now
+          c.args.rows.down.now c.args.values.now.items;
       left_up = b;
       left_own = b;
       left_down = b;
@@ -27,7 +29,8 @@ loop-place-preserved g c =
     let up = c.column_of-right.ensures.up ∙ (λ j. near (b j) c.args.rows.up.now (two j)) in
     let own = c.column_of-right.ensures.own ∙ (λ j. near (b j) c.args.rows.own.now (two j)) in
     let down = c.column_of-right.ensures.down ∙ (λ j. near (b j) c.args.rows.down.now (two j)) in
-    let window : c.window_of.result ≡ window_in c.args.self.now.beyond c.args.rows.up.now c.args.rows.own.now c.args.rows.down.now c.loop-place.place =
+    let window : c.window_of.result
+    ≡ window_in c.args.self.now.beyond c.args.rows.up.now c.args.rows.own.now c.args.rows.down.now c.loop-place.place =
     c.window_of.ensures ∙ (λ j. record {
       north_west = i.left_up j;
       north = i.middle_up j;
@@ -40,8 +43,11 @@ loop-place-preserved g c =
       south_east = down j;
     }) in
     record {
-      done = row_more (λ w v. goal.F-post g c.args.self.now.f w v) c.args.self.now.beyond c.args.rows.up.now c.args.rows.own.now c.args.rows.down.now c.loop-place.place
-          c.args.values.now.items c.loop-place.values.items c.push.new.self.items c.window_of.result c.f-value.result i.done window c.f-value.ensures
+      done =
+          row_more (λ w v. goal.F-post g c.args.self.now.f w v) c.args.self.now.beyond c.args.rows.up.now c.args.rows.own.now
+          c.args.rows.down.now c.loop-place.place
+          c.args.values.now.items c.loop-place.values.items c.push.new.self.items c.window_of.result c.f-value.result i.done window
+          c.f-value.ensures
           (c.in_ok-push.ensures.items ∙ (λ j. c.loop-place.values.items ++ v j ∷ []));
       left_up = i.middle_up;
       left_own = i.middle_own;

@@ -4,7 +4,8 @@ use Rattle.task_bodies.proofs.grid.Grid.push_row.Given as goal
 
 abbrev pub invariant-loop-place : goal.invariant-loop-place
 invariant-loop-place g l = record {
-  done : HasRow (λ w v. goal.F-post g l.self.f w v) l.self.beyond l.rows.up.now l.rows.own.now l.rows.down.now l.place l.fn.values.items l.values.items;
+  done : HasRow (λ w v. goal.F-post g l.self.f w v) l.self.beyond l.rows.up.now l.rows.own.now l.rows.down.now l.place l.fn.values.items
+      l.values.items;
   left_up : l.left.up ≡ near l.self.beyond l.rows.up.now l.place;
   left_own : l.left.own ≡ near l.self.beyond l.rows.own.now l.place;
   left_down : l.left.down ≡ near l.self.beyond l.rows.down.now l.place;

@@ -7,5 +7,6 @@ use Rattle.test_phasers.proofs.shared.threads.actors_of.Goals as goal
 pub loop-duties-preserved : goal.loop-duties-preserved
 loop-duties-preserved g c = (
   (λ i. (c.split.ensures.same i).tree) ∙ c.loop-duties.invariant.0,
-  all_kept (λ (a : Actor). (held a.token).tree ≡ c.args.tree.now.tree) _ _ _ _ c.push.ensures.items c.loop-duties.invariant.1 c.split.ensures.new.own,
+  all_kept (λ (a : Actor). (held a.token).tree ≡ c.args.tree.now.tree) _ _ _ _ c.push.ensures.items c.loop-duties.invariant.1
+      c.split.ensures.new.own,
 )

@@ -5,10 +5,14 @@ use Rattle.test_phasers.proofs.shared.threads.tokens_of.Goals as goal
 
 pub put-requires : goal.put-requires
 put-requires g c =
-    let p = All-pop (λ a. (held a.token).tree ≡ c.args.tree.now.tree) c.loop-actor.actors.items c.pop.new.self.items (Some c.in-Some.actor) c.in-Some.ensures.items c.loop-actor.invariant.0 in
+    let p =
+    All-pop (λ a. (held a.token).tree ≡ c.args.tree.now.tree) c.loop-actor.actors.items c.pop.new.self.items (Some c.in-Some.actor)
+    c.in-Some.ensures.items c.loop-actor.invariant.0 in
     search rules
 
 pub loop-actor-preserved : goal.loop-actor-preserved
 loop-actor-preserved g c =
-    let p = All-pop (λ a. (held a.token).tree ≡ c.args.tree.now.tree) c.loop-actor.actors.items c.pop.new.self.items (Some c.in-Some.actor) c.in-Some.ensures.items c.loop-actor.invariant.0 in
+    let p =
+    All-pop (λ a. (held a.token).tree ≡ c.args.tree.now.tree) c.loop-actor.actors.items c.pop.new.self.items (Some c.in-Some.actor)
+    c.in-Some.ensures.items c.loop-actor.invariant.0 in
     (p.0, c.put.ensures)

@@ -14,21 +14,34 @@ join_seat-requires c =
 
 pub look_seat-word-requires-clause-tokens : goal.look_seat-word-requires-clause-tokens
 look_seat-word-requires-clause-tokens c =
-    joined_own {me = c.group.inside.seat.me} {mo = c.other.inside.seat.me} c.join_seat.new.seat.me c.group.invariant.0 c.group.view_is c.requires.own.0 c.other.invariant.0 c.other.view_is c.requires.own.1 c.join_seat.ensures.2
+    joined_own {me = c.group.inside.seat.me} {mo = c.other.inside.seat.me} c.join_seat.new.seat.me c.group.invariant.0 c.group.view_is
+    c.requires.own.0 c.other.invariant.0 c.other.view_is c.requires.own.1 c.join_seat.ensures.2
 
 pub invariant_of-group : goal.invariant_of-group
 invariant_of-group c = (
-  let j = joined_now {me = c.group.inside.seat.me} {mo = c.other.inside.seat.me} c.join_seat.new.seat.me c.look_seat-word.new.seat.me c.group.invariant.0 c.group.view_is c.requires.own.0 c.other.invariant.0 c.other.view_is c.requires.own.1 c.requires.together c.join_seat.ensures.2 c.look_seat-word.ensures.looked in
-      joined_crowd c.look_seat-word.new.seat.me c.group.invariant.0 c.other.invariant.0 c.look_seat-word.ensures.bare j c.look-group-inside.ensures,
+  let j =
+      joined_now {me = c.group.inside.seat.me} {mo = c.other.inside.seat.me} c.join_seat.new.seat.me c.look_seat-word.new.seat.me
+      c.group.invariant.0 c.group.view_is c.requires.own.0 c.other.invariant.0 c.other.view_is c.requires.own.1 c.requires.together
+      c.join_seat.ensures.2 c.look_seat-word.ensures.looked in
+      joined_crowd c.look_seat-word.new.seat.me c.group.invariant.0 c.other.invariant.0 c.look_seat-word.ensures.bare j
+      c.look-group-inside.ensures,
   tt,
 )
 
 pub returns : goal.returns
 returns c =
-    let j = joined_now {me = c.group.inside.seat.me} {mo = c.other.inside.seat.me} c.join_seat.new.seat.me c.look_seat-word.new.seat.me c.group.invariant.0 c.group.view_is c.requires.own.0 c.other.invariant.0 c.other.view_is c.requires.own.1 c.requires.together c.join_seat.ensures.2 c.look_seat-word.ensures.looked in
-    together_now {me = c.group.inside.seat.me} {mo = c.other.inside.seat.me} c.look_seat-word.new.seat.me c.group.invariant.0 c.group.view_is c.requires.own.0 c.other.view_is j c.look-group-inside.ensures (c.look_seat-word.ensures.table ∙ c.join_seat.ensures.0)
+    let j =
+    joined_now {me = c.group.inside.seat.me} {mo = c.other.inside.seat.me} c.join_seat.new.seat.me c.look_seat-word.new.seat.me
+    c.group.invariant.0 c.group.view_is c.requires.own.0 c.other.invariant.0 c.other.view_is c.requires.own.1 c.requires.together
+    c.join_seat.ensures.2 c.look_seat-word.ensures.looked in
+    together_now {me = c.group.inside.seat.me} {mo = c.other.inside.seat.me} c.look_seat-word.new.seat.me c.group.invariant.0
+    c.group.view_is c.requires.own.0 c.other.view_is j c.look-group-inside.ensures
+    (c.look_seat-word.ensures.table ∙ c.join_seat.ensures.0)
 
 pub overflow_add-group : goal.overflow_add-group
 overflow_add-group c =
-    let a = few_joined {me = c.group.inside.seat.me} {mo = c.other.inside.seat.me} c.join_seat.new.seat.me c.look_seat-word.new.seat.me c.group.invariant.0 c.group.view_is c.requires.own.0 c.other.invariant.0 c.other.view_is c.requires.own.1 c.requires.together c.join_seat.ensures.2 c.look_seat-word.ensures.looked in
+    let a =
+    few_joined {me = c.group.inside.seat.me} {mo = c.other.inside.seat.me} c.join_seat.new.seat.me c.look_seat-word.new.seat.me
+    c.group.invariant.0 c.group.view_is c.requires.own.0 c.other.invariant.0 c.other.view_is c.requires.own.1 c.requires.together
+    c.join_seat.ensures.2 c.look_seat-word.ensures.looked in
     omega arith

@@ -15,15 +15,27 @@ use Rattle.tier_calls.proofs.tiers.Tiers.arrive_all.Goals as goal
 pub returns-then-root-clause-answer : goal.returns-then-root-clause-answer
 returns-then-root-clause-answer c =
     let e = ap (λ (w : Fields). w.ended) (sym c.root.view_is) ∙ c.if-root.true in
-    let l = looks_unkept c.find-root.ensures (unkept_ended c.kept-kept.result (begins_only c.args.tries c.kept-kept.result c.args.group c.kept-kept.ensures) c.find-root.ensures e) in
+    let l =
+    looks_unkept c.find-root.ensures
+    (unkept_ended c.kept-kept.result (begins_only c.args.tries c.kept-kept.result c.args.group c.kept-kept.ensures) c.find-root.ensures e) in
     let w = no_more c.args.tries (first_look l) in
-    let f : SFits w32 c.shown.result = search rules in
-    (w.tree, w.looked, (c.find-root.result.phase, end_shown_all l e, to_z-of_z w32 c.shown.result f ∙ c.shown.ensures ∙ ap (shown_of c.find-root.result.phase) e), w.tokens)
+    let f : SFits w32 c.shown.result = search rules in (
+      w.tree,
+      w.looked,
+      (
+        c.find-root.result.phase,
+        end_shown_all l e,
+        to_z-of_z w32 c.shown.result f ∙ c.shown.ensures ∙ ap (shown_of c.find-root.result.phase) e,
+      ),
+      w.tokens,
+    )
 
 pub returns-then-group-eq1-clause-answer : goal.returns-then-group-eq1-clause-answer
 returns-then-group-eq1-clause-answer c =
     let one = ap (λ (z : GroupHeld). z.view.arrived) (sym c.group.view_is) ∙ c.if-group-eq1.true in
-    let l = looks_unkept c.find-root.ensures (unkept_arrived c.kept-kept.result (begins_only c.args.tries c.kept-kept.result c.args.group c.kept-kept.ensures) c.find-root.ensures one) in
+    let l =
+    looks_unkept c.find-root.ensures
+    (unkept_arrived c.kept-kept.result (begins_only c.args.tries c.kept-kept.result c.args.group c.kept-kept.ensures) c.find-root.ensures one) in
     let w = first_look l in (
       w.tree,
       w.looked,
@@ -38,49 +50,90 @@ try_all-requires-clause-own c = finds_tree c.kept-kept.result c.find-root.ensure
 
 pub try_all-requires-clause-place : goal.try_all-requires-clause-place
 try_all-requires-clause-place c =
-    subst (λ (n : Named). c.find-root.new.group.view.tier < length n.key.shape) c.requires.own (finds_place c.kept-kept.result (begins_only c.args.tries c.kept-kept.result c.args.group c.kept-kept.ensures) c.find-root.ensures)
+    subst (λ (n : Named). c.find-root.new.group.view.tier < length n.key.shape) c.requires.own
+    (finds_place c.kept-kept.result (begins_only c.args.tries c.kept-kept.result c.args.group c.kept-kept.ensures) c.find-root.ensures)
 
 pub try_all-requires-clause-unled : goal.try_all-requires-clause-unled
-try_all-requires-clause-unled c = finds_unled c.kept-kept.result (begins_only c.args.tries c.kept-kept.result c.args.group c.kept-kept.ensures) c.find-root.ensures
+try_all-requires-clause-unled c =
+    finds_unled c.kept-kept.result (begins_only c.args.tries c.kept-kept.result c.args.group c.kept-kept.ensures) c.find-root.ensures
 
 pub try_all-requires-clause-unarrived : goal.try_all-requires-clause-unarrived
 try_all-requires-clause-unarrived c =
-    to_arrive c.find-root.new.group.view (finds_group c.kept-kept.result (begins_only c.args.tries c.kept-kept.result c.args.group c.kept-kept.ensures) c.find-root.ensures).view (λ e. c.if-group-eq1.false (ap (λ (z : GroupHeld). z.view.arrived) c.group.view_is ∙ e))
+    to_arrive c.find-root.new.group.view
+    (finds_group c.kept-kept.result (begins_only c.args.tries c.kept-kept.result c.args.group c.kept-kept.ensures) c.find-root.ensures).view
+    (λ e. c.if-group-eq1.false (ap (λ (z : GroupHeld). z.view.arrived) c.group.view_is ∙ e))
 
 pub try_all-requires-clause-kept : goal.try_all-requires-clause-kept
-try_all-requires-clause-kept c = begins_still (λ g w. MayBegin g w × (0 < c.args.tries)) c.kept-kept.result c.kept-kept.ensures c.find-root.ensures
+try_all-requires-clause-kept c =
+    begins_still (λ g w. MayBegin g w × (0 < c.args.tries)) c.kept-kept.result c.kept-kept.ensures c.find-root.ensures
 
 pub returns-then-group-eq1-clause-ended : goal.returns-then-group-eq1-clause-ended
-returns-then-group-eq1-clause-ended c = finds_unseen c.kept-kept.result (begins_only c.args.tries c.kept-kept.result c.args.group c.kept-kept.ensures) c.find-root.ensures (ap (λ (w : Fields). w.ended) (sym c.root.view_is) ∙ c.if-root.false)
+returns-then-group-eq1-clause-ended c =
+    finds_unseen c.kept-kept.result (begins_only c.args.tries c.kept-kept.result c.args.group c.kept-kept.ensures) c.find-root.ensures
+    (ap (λ (w : Fields). w.ended) (sym c.root.view_is) ∙ c.if-root.false)
 
 pub returns-in-Yet-clause-answer : goal.returns-in-Yet-clause-answer
 returns-in-Yet-clause-answer c =
-    let l = looks_and_tries c.args.tries c.kept-kept.result c.find-root.ensures (to_arrive c.find-root.new.group.view (finds_group c.kept-kept.result (begins_only c.args.tries c.kept-kept.result c.args.group c.kept-kept.ensures) c.find-root.ensures).view (λ e. c.if-group-eq1.false (ap (λ (z : GroupHeld). z.view.arrived) c.group.view_is ∙ e))) (tried.Yet c.in-Yet.group) c.in-Yet.ensures in
+    let l =
+    looks_and_tries c.args.tries c.kept-kept.result c.find-root.ensures
+    (to_arrive c.find-root.new.group.view
+    (finds_group c.kept-kept.result (begins_only c.args.tries c.kept-kept.result c.args.group c.kept-kept.ensures) c.find-root.ensures).view
+    (λ e. c.if-group-eq1.false (ap (λ (z : GroupHeld). z.view.arrived) c.group.view_is ∙ e)))
+    (tried.Yet c.in-Yet.group) c.in-Yet.ensures in
     let w = waited c.args.tries l.1 (keeps_soon c.args.tries c.args.tries (omega arith) l.3) in
     (w.tree, w.looked, l.3.view.same.arrived ∙ l.2, w.tokens, spent_since c.args.tries l.1 l.3)
 
 pub returns-in-Done-clause-answer : goal.returns-in-Done-clause-answer
 returns-in-Done-clause-answer c =
-    let l = looks_and_tries c.args.tries c.kept-kept.result c.find-root.ensures (to_arrive c.find-root.new.group.view (finds_group c.kept-kept.result (begins_only c.args.tries c.kept-kept.result c.args.group c.kept-kept.ensures) c.find-root.ensures).view (λ e. c.if-group-eq1.false (ap (λ (z : GroupHeld). z.view.arrived) c.group.view_is ∙ e))) (tried.Done c.in-Done.group) c.in-Done.ensures in
+    let l =
+    looks_and_tries c.args.tries c.kept-kept.result c.find-root.ensures
+    (to_arrive c.find-root.new.group.view
+    (finds_group c.kept-kept.result (begins_only c.args.tries c.kept-kept.result c.args.group c.kept-kept.ensures) c.find-root.ensures).view
+    (λ e. c.if-group-eq1.false (ap (λ (z : GroupHeld). z.view.arrived) c.group.view_is ∙ e)))
+    (tried.Done c.in-Done.group) c.in-Done.ensures in
     done_all c.args.tries _ l.1 l.3 c.phase-phase-in-Done.ensures
 
 pub returns-in-Owing-clause-answer : goal.returns-in-Owing-clause-answer
 returns-in-Owing-clause-answer c =
-    let l = looks_and_tries c.args.tries c.kept-kept.result c.find-root.ensures (to_arrive c.find-root.new.group.view (finds_group c.kept-kept.result (begins_only c.args.tries c.kept-kept.result c.args.group c.kept-kept.ensures) c.find-root.ensures).view (λ e. c.if-group-eq1.false (ap (λ (z : GroupHeld). z.view.arrived) c.group.view_is ∙ e))) (tried.Owing c.in-Owing.errand c.in-Owing.others) c.in-Owing.ensures in
+    let l =
+    looks_and_tries c.args.tries c.kept-kept.result c.find-root.ensures
+    (to_arrive c.find-root.new.group.view
+    (finds_group c.kept-kept.result (begins_only c.args.tries c.kept-kept.result c.args.group c.kept-kept.ensures) c.find-root.ensures).view
+    (λ e. c.if-group-eq1.false (ap (λ (z : GroupHeld). z.view.arrived) c.group.view_is ∙ e)))
+    (tried.Owing c.in-Owing.errand c.in-Owing.others) c.in-Owing.ensures in
     owing_all c.args.tries l.1 l.3
 
 pub returns-in-Ended-clause-answer : goal.returns-in-Ended-clause-answer
 returns-in-Ended-clause-answer c =
-    let l = looks_and_tries c.args.tries c.kept-kept.result c.find-root.ensures (to_arrive c.find-root.new.group.view (finds_group c.kept-kept.result (begins_only c.args.tries c.kept-kept.result c.args.group c.kept-kept.ensures) c.find-root.ensures).view (λ e. c.if-group-eq1.false (ap (λ (z : GroupHeld). z.view.arrived) c.group.view_is ∙ e))) (tried.Ended c.in-Ended.group c.in-Ended.word) c.in-Ended.ensures in
+    let l =
+    looks_and_tries c.args.tries c.kept-kept.result c.find-root.ensures
+    (to_arrive c.find-root.new.group.view
+    (finds_group c.kept-kept.result (begins_only c.args.tries c.kept-kept.result c.args.group c.kept-kept.ensures) c.find-root.ensures).view
+    (λ e. c.if-group-eq1.false (ap (λ (z : GroupHeld). z.view.arrived) c.group.view_is ∙ e)))
+    (tried.Ended c.in-Ended.group c.in-Ended.word) c.in-Ended.ensures in
     let w = waited c.args.tries l.1 l.3.0 in
-    let f : SFits w32 c.shown-in-Ended.result = search rules in
-    (w.tree, w.looked, (c.in-Ended.word.phase, l.3.2, to_z-of_z w32 c.shown-in-Ended.result f ∙ c.shown-in-Ended.ensures ∙ ap (shown_of c.in-Ended.word.phase) l.3.1), w.tokens)
+    let f : SFits w32 c.shown-in-Ended.result = search rules in (
+      w.tree,
+      w.looked,
+      (
+        c.in-Ended.word.phase,
+        l.3.2,
+        to_z-of_z w32 c.shown-in-Ended.result f ∙ c.shown-in-Ended.ensures ∙ ap (shown_of c.in-Ended.word.phase) l.3.1,
+      ),
+      w.tokens,
+    )
 
 pub returns-in-Yet-clause-ended : goal.returns-in-Yet-clause-ended
-returns-in-Yet-clause-ended c = finds_unseen c.kept-kept.result (begins_only c.args.tries c.kept-kept.result c.args.group c.kept-kept.ensures) c.find-root.ensures (ap (λ (w : Fields). w.ended) (sym c.root.view_is) ∙ c.if-root.false)
+returns-in-Yet-clause-ended c =
+    finds_unseen c.kept-kept.result (begins_only c.args.tries c.kept-kept.result c.args.group c.kept-kept.ensures) c.find-root.ensures
+    (ap (λ (w : Fields). w.ended) (sym c.root.view_is) ∙ c.if-root.false)
 
 pub returns-in-Done-clause-ended : goal.returns-in-Done-clause-ended
-returns-in-Done-clause-ended c = finds_unseen c.kept-kept.result (begins_only c.args.tries c.kept-kept.result c.args.group c.kept-kept.ensures) c.find-root.ensures (ap (λ (w : Fields). w.ended) (sym c.root.view_is) ∙ c.if-root.false)
+returns-in-Done-clause-ended c =
+    finds_unseen c.kept-kept.result (begins_only c.args.tries c.kept-kept.result c.args.group c.kept-kept.ensures) c.find-root.ensures
+    (ap (λ (w : Fields). w.ended) (sym c.root.view_is) ∙ c.if-root.false)
 
 pub returns-in-Owing-clause-ended : goal.returns-in-Owing-clause-ended
-returns-in-Owing-clause-ended c = finds_unseen c.kept-kept.result (begins_only c.args.tries c.kept-kept.result c.args.group c.kept-kept.ensures) c.find-root.ensures (ap (λ (w : Fields). w.ended) (sym c.root.view_is) ∙ c.if-root.false)
+returns-in-Owing-clause-ended c =
+    finds_unseen c.kept-kept.result (begins_only c.args.tries c.kept-kept.result c.args.group c.kept-kept.ensures) c.find-root.ensures
+    (ap (λ (w : Fields). w.ended) (sym c.root.view_is) ∙ c.if-root.false)

@@ -6,7 +6,9 @@ use Rattle.tier_calls.proofs.Keeping.{early_from}
 use Rattle.tier_calls.proofs.tiers.Tiers.arrive_from.Goals as goal
 
 pub returns-then-word-size : goal.returns-then-word-size
-returns-then-word-size g c = early_from c.args.word _ _ (begun c.args.group g.B.Begun.before) c.tried_early.result c.arrive_early-lost.result c.requires.unarrived c.arrive_early-lost.ensures c.tried_early.ensures
+returns-then-word-size g c =
+    early_from c.args.word _ _ (begun c.args.group g.B.Begun.before) c.tried_early.result c.arrive_early-lost.result c.requires.unarrived
+    c.arrive_early-lost.ensures c.tried_early.ensures
 
 pub arrive_last-requires-clause-last : goal.arrive_last-requires-clause-last
 arrive_last-requires-clause-last g c =

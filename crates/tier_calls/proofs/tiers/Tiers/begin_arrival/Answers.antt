@@ -8,5 +8,6 @@ returns g c =
     let a = c.arrive_own.ensures in
     let b = c.advance.ensures in (
       a.used + b.used,
-      went_then c.args.self.now a.used b.used (under c.args.token.now c.args.course.now) (under c.arrive_own.new.token c.arrive_own.new.course) (under c.advance.new.token c.advance.new.course) a.went b.went,
+      went_then c.args.self.now a.used b.used (under c.args.token.now c.args.course.now)
+          (under c.arrive_own.new.token c.arrive_own.new.course) (under c.advance.new.token c.advance.new.course) a.went b.went,
     )

@@ -9,10 +9,13 @@ pub returns-then-tier-eq0-clause-kept : goal.returns-then-tier-eq0-clause-kept
 returns-then-tier-eq0-clause-kept c = keeps_soon 0 1 (omega arith) (keeps_none c.args.group.now)
 
 pub returns-then-is_behind-clause-kept : goal.returns-then-is_behind-clause-kept
-returns-then-is_behind-clause-kept c = keeps_soon 1 1 (omega arith) (keeps_then 0 1 1 refl (looked_yet c.look_all-word.ensures c.tier-tier.ensures c.requires.unarrived) c.refresh_first.ensures.kept)
+returns-then-is_behind-clause-kept c =
+    keeps_soon 1 1 (omega arith)
+    (keeps_then 0 1 1 refl (looked_yet c.look_all-word.ensures c.tier-tier.ensures c.requires.unarrived) c.refresh_first.ensures.kept)
 
 pub returns-else-is_behind-clause-kept : goal.returns-else-is_behind-clause-kept
-returns-else-is_behind-clause-kept c = keeps_soon 0 1 (omega arith) (looked_yet c.look_all-word.ensures c.tier-tier.ensures c.requires.unarrived)
+returns-else-is_behind-clause-kept c =
+    keeps_soon 0 1 (omega arith) (looked_yet c.look_all-word.ensures c.tier-tier.ensures c.requires.unarrived)
 
 pub returns-then-tier-eq0-clause-caught_up : goal.returns-then-tier-eq0-clause-caught_up
 returns-then-tier-eq0-clause-caught_up c = λ at_root. at_root (sym c.tier-tier.ensures ∙ c.if-tier-eq0.true)

@@ -11,16 +11,22 @@ pub pass_tier-requires-clause-turn : goal.pass_tier-requires-clause-turn
 pass_tier-requires-clause-turn c =
     let on = sym c.goes_on.ensures ∙ c.if-not-goes_on.false in (
       Done c.stand_to.new.token.view.phase,
-      climb_by c.args.self.now.key (under c.stand_to.new.token c.stand_to.new.course) c.args.own c.in-Climbing-errand.tier Arrival ((c.stand_to.ensures.going on).0 ∙ c.requires.owing)
-          (ap (λ (v : View). v.errand) (sym c.view-2.ensures) ∙ (c.in-Climbing-errand.is ∙ ap (Climbing c.in-Climbing-errand.tier) c.in-Arrival.is)) (stands_by c.stand_to.ensures.stood on),
+      climb_by c.args.self.now.key (under c.stand_to.new.token c.stand_to.new.course) c.args.own c.in-Climbing-errand.tier Arrival
+          ((c.stand_to.ensures.going on).0 ∙ c.requires.owing)
+          (ap (λ (v : View). v.errand) (sym c.view-2.ensures)
+          ∙ (c.in-Climbing-errand.is ∙ ap (Climbing c.in-Climbing-errand.tier) c.in-Arrival.is))
+          (stands_by c.stand_to.ensures.stood on),
     )
 
 pub pass_tier-requires-in-Departure-clause-turn : goal.pass_tier-requires-in-Departure-clause-turn
 pass_tier-requires-in-Departure-clause-turn c =
     let on = sym c.goes_on.ensures ∙ c.if-not-goes_on.false in (
       Done c.stand_to.new.token.view.phase,
-      climb_by c.args.self.now.key (under c.stand_to.new.token c.stand_to.new.course) c.args.own c.in-Climbing-errand.tier Departure ((c.stand_to.ensures.going on).0 ∙ c.requires.owing)
-          (ap (λ (v : View). v.errand) (sym c.view-2.ensures) ∙ (c.in-Climbing-errand.is ∙ ap (Climbing c.in-Climbing-errand.tier) c.in-Departure.is)) (stands_by c.stand_to.ensures.stood on),
+      climb_by c.args.self.now.key (under c.stand_to.new.token c.stand_to.new.course) c.args.own c.in-Climbing-errand.tier Departure
+          ((c.stand_to.ensures.going on).0 ∙ c.requires.owing)
+          (ap (λ (v : View). v.errand) (sym c.view-2.ensures)
+          ∙ (c.in-Climbing-errand.is ∙ ap (Climbing c.in-Climbing-errand.tier) c.in-Departure.is))
+          (stands_by c.stand_to.ensures.stood on),
     )
 
 pub returns-in-Arrival : goal.returns-in-Arrival

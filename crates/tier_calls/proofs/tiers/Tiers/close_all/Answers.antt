@@ -3,10 +3,14 @@ use Rattle.tier_calls.proofs.Gathering.{all_tally}
 use Rattle.tier_calls.proofs.tiers.Tiers.close_all.Goals as goal
 
 pub words_of-requires-clause-shut : goal.words_of-requires-clause-shut
-words_of-requires-clause-shut c = (_, _, c.shut_all-closed.ensures.words, ap length (sym c.shape.ensures.value) ∙ sym c.count-count.ensures.value)
+words_of-requires-clause-shut c =
+    (_, _, c.shut_all-closed.ensures.words, ap length (sym c.shape.ensures.value) ∙ sym c.count-count.ensures.value)
 
 pub returns-clause-left : goal.returns-clause-left
-returns-clause-left c = c.words_of.ensures _ _ c.shut_all-closed.ensures.words (ap length (sym c.shape.ensures.value) ∙ sym c.count-count.ensures.value)
+returns-clause-left c =
+    c.words_of.ensures _ _ c.shut_all-closed.ensures.words (ap length (sym c.shape.ensures.value) ∙ sym c.count-count.ensures.value)
 
 pub returns-clause-tally : goal.returns-clause-tally
-returns-clause-tally c = all_tally c.args.tokens.items c.args.groups.items (c.words_of.ensures _ _ c.shut_all-closed.ensures.words (ap length (sym c.shape.ensures.value) ∙ sym c.count-count.ensures.value))
+returns-clause-tally c =
+    all_tally c.args.tokens.items c.args.groups.items
+    (c.words_of.ensures _ _ c.shut_all-closed.ensures.words (ap length (sym c.shape.ensures.value) ∙ sym c.count-count.ensures.value))

@@ -12,4 +12,5 @@ returns-then-word-clause-made c =
 
 pub returns-clause-made : goal.returns-clause-made
 returns-clause-made c =
-    subst (λ (h : Holding). MadeOnly is_glance h.steps c.attempt.new.token.steps) c.door.view_is (lost_force c.attempt.result _ _ c.attempt.ensures (not_ended c.word.view_is c.word-word.ensures.word c.if-word.false))
+    subst (λ (h : Holding). MadeOnly is_glance h.steps c.attempt.new.token.steps) c.door.view_is
+    (lost_force c.attempt.result _ _ c.attempt.ensures (not_ended c.word.view_is c.word-word.ensures.word c.if-word.false))

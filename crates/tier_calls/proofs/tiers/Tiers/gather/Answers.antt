@@ -22,9 +22,12 @@ pub loop-token-preserved : goal.loop-token-preserved
 loop-token-preserved c =
     let kept = c.loop-token.invariant in
     let own = last_tree c.loop-token.tokens.items c.pop.new.self.items c.in-Some.token c.in-Some.ensures.items kept.2 in (
-      c.join_seat.ensures.0 ∙ (same_id c.self.view_is own c.into_seated.ensures c.into_seat-next.ensures.table ∙ sym (table_id c.self.view_is c.requires.own.0)),
+      c.join_seat.ensures.0
+          ∙ (same_id c.self.view_is own c.into_seated.ensures c.into_seat-next.ensures.table
+          ∙ sym (table_id c.self.view_is c.requires.own.0)),
       ap (λ (m : Me Kind (List Sight)). m.1) c.join_seat.ensures.2 ∙ ap (λ (m : Me Kind (List Sight)). m.1) c.into_seat-next.ensures.seat,
       kept_front c.loop-token.tokens.items c.pop.new.self.items c.in-Some.token c.in-Some.ensures.items kept.2,
-      gathered c.loop-token.tokens.items c.pop.new.self.items c.in-Some.token c.loop-token.seat.me c.into_seated.ensures c.into_seat-next.ensures.seat c.in-Some.ensures.items
+      gathered c.loop-token.tokens.items c.pop.new.self.items c.in-Some.token c.loop-token.seat.me c.into_seated.ensures
+          c.into_seat-next.ensures.seat c.in-Some.ensures.items
           c.join_seat.ensures.2 ∙ kept.3,
     )

@@ -22,8 +22,11 @@ pub loop-group-preserved : goal.loop-group-preserved
 loop-group-preserved c =
     let kept = c.loop-group.invariant in
     let own = last_group c.loop-group.groups.items c.pop.new.self.items c.in-Some.group c.in-Some.ensures.items kept.2 in (
-      c.join_seat.ensures.0 ∙ (group_id c.in-Some.group c.self.view_is own c.into_seat-next.ensures.table ∙ sym (table_id c.self.view_is c.requires.own.0)),
+      c.join_seat.ensures.0
+          ∙ (group_id c.in-Some.group c.self.view_is own c.into_seat-next.ensures.table ∙ sym (table_id c.self.view_is c.requires.own.0)),
       ap (λ (m : Me Kind (List Sight)). m.1) c.join_seat.ensures.2 ∙ ap (λ (m : Me Kind (List Sight)). m.1) c.into_seat-next.ensures.seat,
       kept_groups c.loop-group.groups.items c.pop.new.self.items c.in-Some.group c.in-Some.ensures.items kept.2,
-      gathered_group c.loop-group.groups.items c.pop.new.self.items c.in-Some.group c.loop-group.seat.me c.into_seat-next.ensures.seat c.in-Some.ensures.items c.join_seat.ensures.2 ∙ kept.3,
+      gathered_group c.loop-group.groups.items c.pop.new.self.items c.in-Some.group c.loop-group.seat.me c.into_seat-next.ensures.seat
+          c.in-Some.ensures.items c.join_seat.ensures.2
+          ∙ kept.3,
     )

@@ -8,21 +8,28 @@ use Rattle.tier_calls.proofs.tiers.Tiers.join.Goals as goal
 
 pub answer_join-requires : goal.answer_join-requires
 answer_join-requires c =
-    join_may_answer c.args.self.now c.args.tier c.args.size c.args.tries c.args.door c.look.new.token c.go_joining.result c.requires.own (subst IsDoor c.door.view_is c.door.invariant)
-    (took_by c.door.view_is c.look.ensures) (not_ended c.word.view_is c.word-word.ensures.word c.if-word.false) c.requires.size.0 c.go_joining.ensures
+    join_may_answer c.args.self.now c.args.tier c.args.size c.args.tries c.args.door c.look.new.token c.go_joining.result c.requires.own
+    (subst IsDoor c.door.view_is c.door.invariant)
+    (took_by c.door.view_is c.look.ensures) (not_ended c.word.view_is c.word-word.ensures.word c.if-word.false) c.requires.size.0
+    c.go_joining.ensures
 
 pub returns-clause-answer : goal.returns-clause-answer
 returns-clause-answer c =
-    registers c.args.self.now c.args.tier c.args.size c.args.tries c.args.door c.look.new.token c.go_joining.result c.requires.own (subst IsDoor c.door.view_is c.door.invariant)
-    (took_by c.door.view_is c.look.ensures) (not_ended c.word.view_is c.word-word.ensures.word c.if-word.false) c.requires.size.0 c.go_joining.ensures c.answer_join.result c.answer_join.ensures
+    registers c.args.self.now c.args.tier c.args.size c.args.tries c.args.door c.look.new.token c.go_joining.result c.requires.own
+    (subst IsDoor c.door.view_is c.door.invariant)
+    (took_by c.door.view_is c.look.ensures) (not_ended c.word.view_is c.word-word.ensures.word c.if-word.false) c.requires.size.0
+    c.go_joining.ensures c.answer_join.result c.answer_join.ensures
 
 pub returns-clause-ended : goal.returns-clause-ended
-returns-clause-ended c = λ p e. unseen (took_by c.door.view_is c.look.ensures) (not_ended c.word.view_is c.word-word.ensures.word c.if-word.false) p e
+returns-clause-ended c =
+    λ p e. unseen (took_by c.door.view_is c.look.ensures) (not_ended c.word.view_is c.word-word.ensures.word c.if-word.false) p e
 
 pub returns-then-word-clause-made : goal.returns-then-word-clause-made
 returns-then-word-clause-made c = looked_first_enters (took_by c.door.view_is c.look.ensures)
 
 pub returns-clause-made : goal.returns-clause-made
 returns-clause-made c =
-    enters c.args.self.now c.args.tier c.args.size c.args.tries c.args.door c.look.new.token c.go_joining.result c.requires.own (subst IsDoor c.door.view_is c.door.invariant)
-    (took_by c.door.view_is c.look.ensures) (not_ended c.word.view_is c.word-word.ensures.word c.if-word.false) c.requires.size.0 c.go_joining.ensures c.answer_join.result c.answer_join.ensures
+    enters c.args.self.now c.args.tier c.args.size c.args.tries c.args.door c.look.new.token c.go_joining.result c.requires.own
+    (subst IsDoor c.door.view_is c.door.invariant)
+    (took_by c.door.view_is c.look.ensures) (not_ended c.word.view_is c.word-word.ensures.word c.if-word.false) c.requires.size.0
+    c.go_joining.ensures c.answer_join.result c.answer_join.ensures

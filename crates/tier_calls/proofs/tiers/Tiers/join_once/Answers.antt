@@ -17,16 +17,20 @@ meet-requires-clause-waits c =
 
 pub returns-then-look_here : goal.returns-then-look_here
 returns-then-look_here c =
-    lagging_round (subst (λ (h : Holding). KeepsCrew 0 h c.look_here.new.token) c.crew.view_is c.look_here.ensures.keeps) c.refresh_here.ensures c.requires.fresh
+    lagging_round (subst (λ (h : Holding). KeepsCrew 0 h c.look_here.new.token) c.crew.view_is c.look_here.ensures.keeps)
+    c.refresh_here.ensures c.requires.fresh
 
 pub returns : goal.returns
 returns c =
-    let k : KeepsCrew 0 c.args.crew.now c.look_here.new.token = subst (λ (h : Holding). KeepsCrew 0 h c.look_here.new.token) c.crew.view_is c.look_here.ensures.keeps in
+    let k : KeepsCrew 0 c.args.crew.now c.look_here.new.token =
+    subst (λ (h : Holding). KeepsCrew 0 h c.look_here.new.token) c.crew.view_is c.look_here.ensures.keeps in
     elim c.match-meet.branch [
-      | in-Answer w ↦ subst (λ (h : Holding). JoinsOnce c.args.crew.now h c.args.door c.args.size c.match-meet.result) (sym (λ i. (w.crew-inside-is i).token))
+      | in-Answer w ↦ subst (λ (h : Holding). JoinsOnce c.args.crew.now h c.args.door c.args.size c.match-meet.result)
+          (sym (λ i. (w.crew-inside-is i).token))
           (subst (λ (r : Registered). JoinsOnce c.args.crew.now c.look_here.new.token c.args.door c.args.size r) (sym w.result-is)
           (met_round c.args.door c.args.size w.in-Answer.answer k (c.tier-tier.ensures ∙ k.tier) w.in-Answer.ensures))
-      | in-Late w ↦ subst (λ (h : Holding). JoinsOnce c.args.crew.now h c.args.door c.args.size c.match-meet.result) (sym (λ i. (w.crew-inside-is i).token))
+      | in-Late w ↦ subst (λ (h : Holding). JoinsOnce c.args.crew.now h c.args.door c.args.size c.match-meet.result)
+          (sym (λ i. (w.crew-inside-is i).token))
           (subst (λ (r : Registered). JoinsOnce c.args.crew.now w.stay_here.new.token c.args.door c.args.size r) (sym w.result-is)
           (late_round k w.stay_here.ensures w.in-Late.ensures))
     ]

@@ -3,7 +3,8 @@ use Rattle.tier_calls.proofs.tiers.Tiers.keep_joining.Goals as goal
 
 pub returns-in_default : goal.returns-in_default
 returns-in_default c =
-    rounds_answer c.join_once.new.crew c.args.size c.join_once.result (λ after e. c.in_default.not-Busy after e) c.loop.invariant.0 c.loop-test.true c.join_once.ensures
+    rounds_answer c.join_once.new.crew c.args.size c.join_once.result (λ after e. c.in_default.not-Busy after e) c.loop.invariant.0
+    c.loop-test.true c.join_once.ensures
 
 pub loop-preserved : goal.loop-preserved
 loop-preserved c =

@@ -10,12 +10,15 @@ use Rattle.tier_calls.proofs.tiers.Tiers.meet.Goals as goal
 
 pub returns-then-word : goal.returns-then-word
 returns-then-word c =
-    let p = met_ended c.args.tier c.args.size (took_by c.door.view_is c.look.ensures) (ended_word c.word.view_is c.word-word.ensures.word c.if-word.true) refl in
+    let p =
+    met_ended c.args.tier c.args.size (took_by c.door.view_is c.look.ensures)
+    (ended_word c.word.view_is c.word-word.ensures.word c.if-word.true) refl in
     (p.0, (p.1.0, p.1.1, search rules), peek_made c.args.tier c.args.size 0 (took_by c.door.view_is c.look.ensures))
 
 pub returns-then-not-is_same : goal.returns-then-not-is_same
 returns-then-not-is_same c =
-    met_late c.args.tier c.args.size (subst IsDoor c.door.view_is c.door.invariant) (took_by c.door.view_is c.look.ensures) (not_ended c.word.view_is c.word-word.ensures.word c.if-word.false) c.requires.fresh
+    met_late c.args.tier c.args.size (subst IsDoor c.door.view_is c.door.invariant) (took_by c.door.view_is c.look.ensures)
+    (not_ended c.word.view_is c.word-word.ensures.word c.if-word.false) c.requires.fresh
 
 pub invariant_of-result-then-turns_away : goal.invariant_of-result-then-turns_away
 invariant_of-result-then-turns_away c = first_door c.args.tier c.args.size c.door.invariant c.look.ensures
@@ -26,13 +29,15 @@ returns-then-turns_away c = (
   peeks_full c.args.tier c.args.size (took_by c.door.view_is c.look.ensures)
       (waits_by c.word-word.ensures.word (c.is_same.ensures c.if-not-is_same.false) c.requires.waits)
       (not_ended c.word.view_is c.word-word.ensures.word c.if-word.false)
-      (refusal_of c.args.size c.word-word.ensures.word c.turns_away.ensures c.if-turns_away.true) c.requires.fresh.unseen (ap (λ (w : Fields). w.parties) (c.word-2.view_is ∙ c.word-word.ensures.word)),
+      (refusal_of c.args.size c.word-word.ensures.word c.turns_away.ensures c.if-turns_away.true) c.requires.fresh.unseen
+      (ap (λ (w : Fields). w.parties) (c.word-2.view_is ∙ c.word-word.ensures.word)),
   peek_made c.args.tier c.args.size 0 (took_by c.door.view_is c.look.ensures),
 )
 
 pub attempt-requires-clause-needs : goal.attempt-requires-clause-needs
 attempt-requires-clause-needs c =
-    may_join c.args.self.now (first_door c.args.tier c.args.size c.door.invariant c.look.ensures) c.look.ensures.tier c.requires.tier c.requires.size
+    may_join c.args.self.now (first_door c.args.tier c.args.size c.door.invariant c.look.ensures) c.look.ensures.tier c.requires.tier
+    c.requires.size
     (waits_by c.word-word.ensures.word (c.is_same.ensures c.if-not-is_same.false) c.requires.waits)
     (not_ended c.word.view_is c.word-word.ensures.word c.if-word.false)
     (refusal_of c.args.size c.word-word.ensures.word c.turns_away.ensures c.if-turns_away.false)
@@ -42,16 +47,24 @@ invariant_of-result-then-found c = second_door c.args.tier c.args.size c.door.in
 
 pub returns-then-found : goal.returns-then-found
 returns-then-found c =
-    let p = met_ended_late c.args.tier c.args.size (took_by c.door.view_is c.look.ensures) c.if-attempt.ensures (ended_word c.found.view_is c.word-found.ensures.word c.if-found.true) refl in
-    (p.0, (p.1.0, p.1.1, search rules), made_then is_entering (peek_made c.args.tier c.args.size 0 (took_by c.door.view_is c.look.ensures)) (peek_made c.args.tier c.args.size 1 (lost_took c.args.tier c.args.size c.look.ensures.tier c.if-attempt.ensures)))
+    let p =
+    met_ended_late c.args.tier c.args.size (took_by c.door.view_is c.look.ensures) c.if-attempt.ensures
+    (ended_word c.found.view_is c.word-found.ensures.word c.if-found.true) refl in (
+      p.0,
+      (p.1.0, p.1.1, search rules),
+      made_then is_entering (peek_made c.args.tier c.args.size 0 (took_by c.door.view_is c.look.ensures))
+          (peek_made c.args.tier c.args.size 1 (lost_took c.args.tier c.args.size c.look.ensures.tier c.if-attempt.ensures)),
+    )
 
 pub invariant_of-result-2 : goal.invariant_of-result-2
 invariant_of-result-2 c = second_door c.args.tier c.args.size c.door.invariant c.look.ensures c.if-attempt.ensures
 
 pub returns : goal.returns
 returns c =
-    met_busy c.args.tier c.args.size (subst IsDoor c.door.view_is c.door.invariant) (took_by c.door.view_is c.look.ensures) c.if-attempt.ensures
-    (not_ended c.word.view_is c.word-word.ensures.word c.if-word.false) (not_ended c.found.view_is c.word-found.ensures.word c.if-found.false) c.requires.fresh
+    met_busy c.args.tier c.args.size (subst IsDoor c.door.view_is c.door.invariant) (took_by c.door.view_is c.look.ensures)
+    c.if-attempt.ensures
+    (not_ended c.word.view_is c.word-word.ensures.word c.if-word.false)
+    (not_ended c.found.view_is c.word-found.ensures.word c.if-found.false) c.requires.fresh
 
 pub invariant_of-result : goal.invariant_of-result
 invariant_of-result c = first_door c.args.tier c.args.size c.door.invariant c.look.ensures
@@ -61,5 +74,6 @@ invariant_of-result-then-not-is_same c = first_door c.args.tier c.args.size c.do
 
 pub returns-then-attempt : goal.returns-then-attempt
 returns-then-attempt c =
-    met_joined c.args.tier c.args.size (subst IsDoor c.door.view_is c.door.invariant) c.requires.fresh (took_by c.door.view_is c.look.ensures) c.if-attempt.ensures
+    met_joined c.args.tier c.args.size (subst IsDoor c.door.view_is c.door.invariant) c.requires.fresh
+    (took_by c.door.view_is c.look.ensures) c.if-attempt.ensures
     (ap (λ (w : Fields). w.phase) (c.word-2.view_is ∙ c.word-word.ensures.word))

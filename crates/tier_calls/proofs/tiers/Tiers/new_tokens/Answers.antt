@@ -10,5 +10,7 @@ pub returns-then-n-eq0-clause-new : goal.returns-then-n-eq0-clause-new
 returns-then-n-eq0-clause-new c = record {
   table = c.blank_off-seat.ensures.table;
   word = empty_word 0;
-  tokens = ap (λ (m : Me Kind (List Sight)). m.0) c.blank_off-seat.ensures.blank ∙ ap (λ (n : ℕ). replicate n (sat_sight c.args.self.now.key (empty_word 0))) (sym c.if-n-eq0.true);
+  tokens =
+      ap (λ (m : Me Kind (List Sight)). m.0) c.blank_off-seat.ensures.blank
+      ∙ ap (λ (n : ℕ). replicate n (sat_sight c.args.self.now.key (empty_word 0))) (sym c.if-n-eq0.true);
 }

@@ -47,7 +47,8 @@ exchange_last-requires-clause-last g c =
 pub returns-in-Done-clause-went : goal.returns-in-Done-clause-went
 returns-in-Done-clause-went g c =
     let e = c.in-Done.ensures in
-    passed_from {e = c.args.group.view.errand} c.args.word c.args.joining c.args.leaving c.in-Done.group.tokens e.2.0 (keeps_none (begun c.args.group g.B.Begun.before)) c.requires.own.1 c.new_tokens-new_tokens.ensures.new e.0 e.1 e.2.1 e.2.2
+    passed_from {e = c.args.group.view.errand} c.args.word c.args.joining c.args.leaving c.in-Done.group.tokens e.2.0
+    (keeps_none (begun c.args.group g.B.Begun.before)) c.requires.own.1 c.new_tokens-new_tokens.ensures.new e.0 e.1 e.2.1 e.2.2
 
 pub returns-in-Lost-clause-went : goal.returns-in-Lost-clause-went
 returns-in-Lost-clause-went g c = let e = c.in-Lost.ensures in record { word = _; tree = e.1; view = e.2; tokens = e.3 }
@@ -55,9 +56,12 @@ returns-in-Lost-clause-went g c = let e = c.in-Lost.ensures in record { word = _
 pub returns-in-Owing-clause-went : goal.returns-in-Owing-clause-went
 returns-in-Owing-clause-went g c =
     let e = c.in-Owing.ensures in (
-      passed_from {e = c.in-Owing.errand.token.view.errand} c.args.word c.args.joining c.args.leaving (sight_held c.in-Owing.errand.token ∷ tokens_in c.in-Owing.others) e.3.0 (keeps_none (begun c.args.group g.B.Begun.before)) c.requires.own.1 c.new_tokens-new_tokens.ensures.new e.0 e.1 e.3.1 e.3.2,
+      passed_from {e = c.in-Owing.errand.token.view.errand} c.args.word c.args.joining c.args.leaving
+          (sight_held c.in-Owing.errand.token ∷ tokens_in c.in-Owing.others) e.3.0 (keeps_none (begun c.args.group g.B.Begun.before))
+          c.requires.own.1 c.new_tokens-new_tokens.ensures.new e.0 e.1 e.3.1 e.3.2,
       others_from c.in-Owing.others (keeps_none (begun c.args.group g.B.Begun.before)) e.2,
     )
 
 pub returns-in-Lost-exchange_last-clause-went : goal.returns-in-Lost-exchange_last-clause-went
-returns-in-Lost-exchange_last-clause-went g c = let e = c.in-Lost-exchange_last.ensures in record { word = _; tree = e.1; view = e.2; tokens = e.3 }
+returns-in-Lost-exchange_last-clause-went g c = let e = c.in-Lost-exchange_last.ensures in
+    record { word = _; tree = e.1; view = e.2; tokens = e.3 }

@@ -10,14 +10,16 @@ pub pass_tier-requires-clause-turn : goal.pass_tier-requires-clause-turn
 pass_tier-requires-clause-turn c =
     let on = sym c.goes_on.ensures ∙ c.if-not-goes_on.false in (
       end_shown c.stand_to.new.token.word,
-      own_turn c.args.self.now.key (under c.stand_to.new.token c.stand_to.new.course) Arrival ((c.stand_to.ensures.going on).0 ∙ (c.requires.passing ∙ ap Passing c.in-Arrival.is)) (stands_by c.stand_to.ensures.stood on),
+      own_turn c.args.self.now.key (under c.stand_to.new.token c.stand_to.new.course) Arrival
+          ((c.stand_to.ensures.going on).0 ∙ (c.requires.passing ∙ ap Passing c.in-Arrival.is)) (stands_by c.stand_to.ensures.stood on),
     )
 
 pub pass_tier-requires-in-Departure-clause-turn : goal.pass_tier-requires-in-Departure-clause-turn
 pass_tier-requires-in-Departure-clause-turn c =
     let on = sym c.goes_on.ensures ∙ c.if-not-goes_on.false in (
       end_shown c.stand_to.new.token.word,
-      own_turn c.args.self.now.key (under c.stand_to.new.token c.stand_to.new.course) Departure ((c.stand_to.ensures.going on).0 ∙ (c.requires.passing ∙ ap Passing c.in-Departure.is)) (stands_by c.stand_to.ensures.stood on),
+      own_turn c.args.self.now.key (under c.stand_to.new.token c.stand_to.new.course) Departure
+          ((c.stand_to.ensures.going on).0 ∙ (c.requires.passing ∙ ap Passing c.in-Departure.is)) (stands_by c.stand_to.ensures.stood on),
     )
 
 pub returns-in-Arrival : goal.returns-in-Arrival

@@ -11,8 +11,11 @@ use Rattle.tier_calls.proofs.tiers.Tiers.sit_as.Goals as goal
 
 pub load-found-requires : goal.load-found-requires
 load-found-requires g c =
-    let some = c.self.invariant.shape.shape.some in
-    (c.requires.own ∙ ap (λ (z : Named). z.id) (sym c.self.view_is), (let a = c.self.invariant.words_are in omega arith), sit_allow _ _ c.requires.blank c.requires.key c.self.view_is some)
+    let some = c.self.invariant.shape.shape.some in (
+      c.requires.own ∙ ap (λ (z : Named). z.id) (sym c.self.view_is),
+      (let a = c.self.invariant.words_are in omega arith),
+      sit_allow _ _ c.requires.blank c.requires.key c.self.view_is some,
+    )
 
 pub at-seen-requires : goal.at-seen-requires
 at-seen-requires g c = let r = c.load-found.ensures.2 c.requires.blank in (r.0, r.1, sym r.2)
@@ -20,7 +23,8 @@ at-seen-requires g c = let r = c.load-found.ensures.2 c.requires.blank in (r.0, 
 pub invariant_of-result : goal.invariant_of-result
 invariant_of-result g c =
     let s = sits c.requires.blank c.load-found.ensures.2 (λ w legal is. ap Some (c.at-seen.ensures w legal is)) in
-    sit_seated _ _ s (unpacked _ _ _ refl s.some) (c.new-view.ensures ∙ ap (λ (w : Fields). new_view w.phase) (c.word.view_is ∙ c.word-word.ensures))
+    sit_seated _ _ s (unpacked _ _ _ refl s.some)
+    (c.new-view.ensures ∙ ap (λ (w : Fields). new_view w.phase) (c.word.view_is ∙ c.word-word.ensures))
 
 pub returns : goal.returns
 returns g c =

@@ -16,7 +16,8 @@ look-requires-clause-tier c =
 
 pub returns-clause-stood : goal.returns-clause-stood
 returns-clause-stood c =
-    looked_to c.args.self.now (under c.args.token.now c.args.course.now) (under c.look.new.token c.missed.new.course) c.look.new.token c.view-phase.result.phase c.requires.at c.requires.passing
+    looked_to c.args.self.now (under c.args.token.now c.args.course.now) (under c.look.new.token c.missed.new.course) c.look.new.token
+    c.view-phase.result.phase c.requires.at c.requires.passing
     (ap (λ (v : View). v.phase) (sym c.view-phase.ensures)) refl
     (subst (λ (w : Fields). c.missed.new.course.progress ≡ cond w.ended Idle c.args.course.now.progress) c.word-2.ensures.word c.missed.ensures.progress)
     (subst (λ (w : Fields). c.missed.new.course.answer ≡ cond w.ended (over_at c.args.course.now.progress c.view-phase.result.phase w) GoesOn) c.word-2.ensures.word c.missed.ensures.answer)

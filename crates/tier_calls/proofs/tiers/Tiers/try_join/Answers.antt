@@ -12,9 +12,14 @@ try_join_once-requires-clause-eager c = still_eager c.loop.invariant.0 c.require
 
 pub returns-in_default : goal.returns-in_default
 returns-in_default c = record {
-  went = joins_then c.loop.counter c.args.tries c.args.n (let a = c.loop-test.true in omega arith) c.loop.invariant.0 c.try_join_once.result (λ group is. c.in_default.not-Yet group is) c.try_join_once.ensures.went;
+  went =
+      joins_then c.loop.counter c.args.tries c.args.n (let a = c.loop-test.true in omega arith) c.loop.invariant.0 c.try_join_once.result
+      (λ group is. c.in_default.not-Yet group is) c.try_join_once.ensures.went;
   door = split_then c.loop.invariant.1 c.try_join_once.ensures.door;
 }
 
 pub loop-preserved : goal.loop-preserved
-loop-preserved c = (keeps_then c.loop.counter 1 (c.loop.counter + 1) refl c.loop.invariant.0 c.in-Yet.ensures.went, split_then c.loop.invariant.1 c.in-Yet.ensures.door)
+loop-preserved c = (
+  keeps_then c.loop.counter 1 (c.loop.counter + 1) refl c.loop.invariant.0 c.in-Yet.ensures.went,
+  split_then c.loop.invariant.1 c.in-Yet.ensures.door,
+)

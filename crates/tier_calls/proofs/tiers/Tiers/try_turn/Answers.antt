@@ -15,7 +15,8 @@ use Rattle.tier_calls.proofs.tiers.Tiers.try_turn.Goals as goal
 
 pub attempt-requires-clause-needs : goal.attempt-requires-clause-needs
 attempt-requires-clause-needs c =
-    subst (λ (z : Turn). Needs c.args.self.now.key.shape z.kind c.args.token.now.tier c.args.token.now.word c.args.token.now.view) (sym c.requires.turn)
+    subst (λ (z : Turn). Needs c.args.self.now.key.shape z.kind c.args.token.now.tier c.args.token.now.word c.args.token.now.view)
+    (sym c.requires.turn)
     (try_needs c.args.self.now c.args.ends (under c.args.token.now c.args.course.now) c.requires.at c.requires.stands c.requires.ends)
 
 pub attempt-requires-clause-plan : goal.attempt-requires-clause-plan
@@ -25,13 +26,15 @@ attempt-requires-clause-plan c =
 
 pub returns-then-attempt : goal.returns-then-attempt
 returns-then-attempt c =
-    won_on c.args.self.now c.args.ends (under c.args.token.now c.args.course.now) c.requires.at c.requires.stands c.requires.ends _ c.attempt.new.token
+    won_on c.args.self.now c.args.ends (under c.args.token.now c.args.course.now) c.requires.at c.requires.stands c.requires.ends _
+    c.attempt.new.token
     (subst (λ (z : Turn). Won z.kind c.args.token.now c.attempt.new.token) c.requires.turn c.if-attempt.ensures) refl
     (ap (λ (z : Turn). z.next) c.requires.turn) (ap (λ (z : Turn). z.answer) c.requires.turn)
 
 pub returns-else-attempt : goal.returns-else-attempt
 returns-else-attempt c =
-    lost_to c.args.self.now (under c.args.token.now c.args.course.now) (under c.attempt.new.token c.missed.new.course) c.attempt.new.token c.view-phase.result.phase c.requires.at c.requires.passing
+    lost_to c.args.self.now (under c.args.token.now c.args.course.now) (under c.attempt.new.token c.missed.new.course) c.attempt.new.token
+    c.view-phase.result.phase c.requires.at c.requires.passing
     (ap (λ (v : View). v.phase) (sym c.view-phase.ensures)) refl
     (subst (λ (w : Fields). c.missed.new.course.progress ≡ cond w.ended Idle c.args.course.now.progress) c.word.ensures.word c.missed.ensures.progress)
     (subst (λ (w : Fields). c.missed.new.course.answer ≡ cond w.ended (over_at c.args.course.now.progress c.view-phase.result.phase w) GoesOn) c.word.ensures.word c.missed.ensures.answer)

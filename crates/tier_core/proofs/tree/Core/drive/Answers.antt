@@ -24,15 +24,22 @@ loop-step-preserved c =
     let none = Begin 0 (Join 0 0) in
     let on = c.loop-step-test.true in
     let before = c.loop-step.invariant in record {
-      reported = next_reported c.loop-step.self c.loop-step.reported.items xs i none on before.reported c.step.ensures.answer c.step.ensures.after c.push_reserved.ensures.items;
+      reported =
+          next_reported c.loop-step.self c.loop-step.reported.items xs i none on before.reported c.step.ensures.answer c.step.ensures.after
+          c.push_reserved.ensures.items;
       rest = next_rest c.loop-step.self xs i none on before.rest c.step.ensures.after;
       are = (next_are xs i none on before.are).1;
       capacity =
-          (let a = next_length xs i none on in let b = before.capacity in let l = c.push_reserved.ensures.len in let k = c.push_reserved.ensures.capacity in omega arith);
+          (let a = next_length xs i none on in
+          let b = before.capacity in
+          let l = c.push_reserved.ensures.len in
+          let k = c.push_reserved.ensures.capacity in
+          omega arith);
     }
 
 pub returns-clause-answers : goal.returns-clause-answers
-returns-clause-answers c = all_reported c.loop-step.self c.args.steps.now c.loop-step.step-index c.loop-step-test.false c.loop-step.invariant.reported
+returns-clause-answers c =
+    all_reported c.loop-step.self c.args.steps.now c.loop-step.step-index c.loop-step-test.false c.loop-step.invariant.reported
 
 pub returns-clause-state : goal.returns-clause-state
 returns-clause-state c = all_run c.args.steps.now c.loop-step.step-index c.loop-step-test.false c.loop-step.invariant.rest

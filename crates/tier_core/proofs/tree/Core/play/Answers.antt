@@ -4,7 +4,8 @@ use Rattle.tier_core.proofs.tree.Core.play.Goals as goal
 
 pub step_word-requires : goal.step_word-requires
 step_word-requires c =
-    read_runnable c.args.self.now (core_of c.self.inside) c.args.token c.from-tier.result c.args.turn c.index-word.result.now c.index.result.now (record {
+    read_runnable c.args.self.now (core_of c.self.inside) c.args.token c.from-tier.result c.args.turn c.index-word.result.now
+    c.index.result.now (record {
       same = c.self.view_is;
       core = c.self.invariant;
       known = c.requires.known;
@@ -16,7 +17,8 @@ step_word-requires c =
 
 pub step_view-requires : goal.step_view-requires
 step_view-requires c =
-    read_runnable c.args.self.now (core_of c.self.inside) c.args.token c.from-tier.result c.args.turn c.index-word.result.now c.index.result.now (record {
+    read_runnable c.args.self.now (core_of c.self.inside) c.args.token c.from-tier.result c.args.turn c.index-word.result.now
+    c.index.result.now (record {
       same = c.self.view_is;
       core = c.self.invariant;
       known = c.requires.known;
@@ -28,7 +30,8 @@ step_view-requires c =
 
 pub invariant_of-self : goal.invariant_of-self
 invariant_of-self c =
-    written_core c.args.self.now (core_of c.self.inside) c.args.token c.from-tier.result c.above-parent.result c.args.turn c.index-word.result.now c.step_word.result
+    written_core c.args.self.now (core_of c.self.inside) c.args.token c.from-tier.result c.above-parent.result c.args.turn
+    c.index-word.result.now c.step_word.result
     c.index.result.now c.step_view.result (record {
       same = c.self.view_is;
       core = c.self.invariant;
