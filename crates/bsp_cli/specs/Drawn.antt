@@ -1,7 +1,7 @@
 -- What `draw` prints of a job's text (own).
 use Rattle.std.specs.Prelude.{ℕ, Bool, true, false, List, [], ◌∷◌, Option, Some, None, Result, Ok, Err}
 use Rattle.phase_records.specs.ReportValue.{ReportValue}
-use Rattle.job_picture.specs.Picture.{picture}
+use Rattle.job_view.specs.Picture.{picture}
 use Rattle.job_reader.specs.Trees.{JobTree}
 use Rattle.job_reader.specs.Reading.{job_in}
 use Rattle.job_view.specs.Drawing.{drawing}

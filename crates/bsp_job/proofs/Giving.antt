@@ -7,8 +7,8 @@ use Rattle.task_code.specs.BodyValue.{BodyValue}
 use Rattle.task_lang.specs.Meaning.{Plan}
 use Rattle.task_lang.specs.Views.{plans}
 use Rattle.job_reader.specs.Trees.{body_tree, job_tree}
-use Rattle.job_program.specs.Program.{Program, program_of}
-use Rattle.job_program.specs.JobMeaning.{report_of}
+use Rattle.step_core.specs.Program.{Program, program_of}
+use Rattle.step_core.specs.JobMeaning.{report_of}
 use Rattle.bsp_job.specs.declared.Reported.{Reported}
 use Rattle.bsp_job.specs.Given.{IsGiven}
 use Rattle.bsp_job.specs.Jobs.{GivesReport, plan_of, program_of_tree, status_number}

@@ -11,8 +11,8 @@ use Rattle.job_reader.specs.Reading.{job_in}
 use Rattle.job_reader.specs.Begins.{BeginsWell}
 use Rattle.job_reader.specs.Grammar.{canonical_text}
 use Rattle.job_reader.specs.Upgrade.{upgraded_tree}
-use Rattle.job_program.specs.Program.{Program}
-use Rattle.job_program.specs.JobMeaning.{report_of}
+use Rattle.step_core.specs.Program.{Program}
+use Rattle.step_core.specs.JobMeaning.{report_of}
 use Rattle.bsp_job.specs.declared.Reported.{Reported}
 use Rattle.bsp_job.specs.Given.{IsGiven}
 

@@ -11,13 +11,13 @@ use Rattle.programs.specs.Supersteps.{so_far, status, status_of, unless_ended, r
 use Rattle.programs.specs.Steps.{ended, live_after}
 use Rattle.programs.proofs.Runs.{going_on, goes, stays, ends_in_time}
 use Rattle.programs.proofs.Stepped.{so_far_ended}
-use Rattle.job_program.specs.Program.{program_of}
-use Rattle.job_program.specs.Superstep.{job_says}
-use Rattle.job_program.specs.JobMeaning as job
+use Rattle.step_core.specs.Program.{program_of}
+use Rattle.step_core.specs.Superstep.{job_says}
+use Rattle.step_core.specs.JobMeaning as job
 use Rattle.task_code.specs.JobValue.{JobValue}
 use Rattle.task_lang.specs.Meaning.{Task}
 use Rattle.task_lang.specs.Views.{plans, task_of}
-use Rattle.job_program.specs.JobRun.{JobRunValue, HasReached, IsAfter, IsLater}
+use Rattle.step_core.specs.JobRun.{JobRunValue, HasReached, IsAfter, IsLater}
 use Rattle.fault_reasons.specs.Begun.{Begins, GetsTo, is_limit}
 use Rattle.fault_reasons.specs.Laws.{EndsAreReached, IsReached}
 

@@ -2,8 +2,8 @@
 use Rattle.std.specs.Prelude.{◌≡◌, ℕ, ℤ, Bool, true, false, List, map, Option, Some, None}
 use Rattle.phase_records.specs.Status.{Status, Ended, Fault, Limit}
 use Rattle.programs.specs.Supersteps.{status}
-use Rattle.job_program.specs.JobMeaning.{so_far}
-use Rattle.job_program.specs.Program.{program_of}
+use Rattle.step_core.specs.JobMeaning.{so_far}
+use Rattle.step_core.specs.Program.{program_of}
 use Rattle.task_code.specs.JobValue.{JobValue}
 use Rattle.task_lang.specs.TaskValue.{TaskValue}
 use Rattle.task_lang.specs.Views.{plans, task_of}

@@ -15,7 +15,7 @@ use Rattle.task_code.specs.declared.code.Line.{Line}
 use Rattle.task_code.specs.declared.code.Line.TheVariants as line
 use Rattle.task_lang.specs.declared.fault.Fault.{Fault}
 use Rattle.task_lang.specs.Meaning.{Setting, index_value, cell_value}
-use Rattle.job_words.specs.Words.{Word, Words, name_at, index_word}
+use Rattle.job_reader.specs.Words.{Word, Words, name_at, index_word}
 
 -- what a statement reads: the setting of its task, and the names and the values of its locals
 pub record Seen : Type 0 where

@@ -2,10 +2,10 @@
 use Rattle.std.specs.Prelude.{◌≡◌, ℕ, true, List, length, Some}
 use Rattle.phase_records.specs.ReportValue.{ReportValue}
 use Rattle.phase_records.specs.Status.{Status, Ended, Fault, Limit}
-use Rattle.job_program.specs.JobMeaning.{report_of}
-use Rattle.job_program.specs.Program.{program_of}
+use Rattle.step_core.specs.JobMeaning.{report_of}
+use Rattle.step_core.specs.Program.{program_of}
 use Rattle.task_code.specs.JobValue.{JobValue}
-use Rattle.job_program.specs.OrderValue.{is_synced}
+use Rattle.step_core.specs.OrderValue.{is_synced}
 use Rattle.task_code.specs.Reading.{IsMatched, tree_of}
 use Rattle.task_code.specs.Tree.{rest_at}
 use Rattle.task_code.specs.declared.code.Line.{Line}

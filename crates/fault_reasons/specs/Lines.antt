@@ -2,7 +2,7 @@
 use Rattle.std.specs.Prelude.{ℕ, zero, suc, ◌+◌, Bool, false, if◌then◌else◌, List, [], ◌∷◌, ◌++◌, codes, Option, Some, None, slice_get}
 use Rattle.std.specs.Str.{bytes_eq}
 use Rattle.text_lines.specs.Text.{is_skipped, lines_of, words_of}
-use Rattle.job_words.specs.Words.{Words}
+use Rattle.job_reader.specs.Words.{Words}
 
 -- a line that isn't skipped: its number, and its words
 pub record Numbered : Type 0 where

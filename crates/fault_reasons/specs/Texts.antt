@@ -15,7 +15,7 @@ use Rattle.task_lang.specs.TaskValue.{TaskValue}
 use Rattle.task_lang.specs.Views.{plans}
 use Rattle.task_lang.specs.declared.fault.Fault.{Fault}
 use Rattle.task_lang.specs.declared.fault.Fault.TheVariants.{Overflow, DivideByZero, Index, Budget, Depth, Spawns}
-use Rattle.job_words.specs.Words.{name_at}
+use Rattle.job_reader.specs.Words.{name_at}
 use Rattle.fault_reasons.specs.Done.{Done}
 use Rattle.fault_reasons.specs.Items.{listed, reads}
 use Rattle.fault_reasons.specs.Lines.{Numbered, joined, line_in}

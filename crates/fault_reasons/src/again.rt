@@ -3,7 +3,7 @@ ghost use Rattle.std.specs.Prelude.{◌≡◌, IfOk, MatchOption};
 ghost use Rattle.programs.specs.Steps.{ended};
 ghost use Rattle.fault_reasons.specs.Begun.{Begins, GetsTo, is_limit};
 
-use job_program::JobSteps;
+use step_core::JobSteps;
 use phase_records::JobStatus;
 use std::alloc::{AllocError, Global};
 use task_code::job::Job;

@@ -1,6 +1,6 @@
 //! Names of arrays, bodies, locals and cells.
 ghost use Rattle.std.specs.Prelude.{◌≡◌, ◌++◌, OnOk, map, string_bytes, codes};
-ghost use Rattle.job_words.specs.Words.{name_at, index_word};
+ghost use Rattle.job_reader.specs.Words.{name_at, index_word};
 
 use crate::pieces::{push_number, push_text};
 use std::alloc::AllocError;

@@ -9,8 +9,8 @@ use Rattle.superstep_memory.specs.Paths.{path_lt, is_rising}
 use Rattle.step_core.specs.OrderValue.{DeliveryValue}
 use Rattle.step_core.specs.RoundValue.{RoundValue}
 use Rattle.step_core.specs.Taking.{Refuses, IsOrdered, accept_number}
-use Rattle.job_program.specs.declared.fault.AcceptFault.{AcceptFault}
-use Rattle.job_program.specs.declared.fault.AcceptFault.TheVariants.{WrongStep, Stranger, Double}
+use Rattle.step_core.specs.declared.fault.AcceptFault.{AcceptFault}
+use Rattle.step_core.specs.declared.fault.AcceptFault.TheVariants.{WrongStep, Stranger, Double}
 use Rattle.job_laws.specs.Refusals.{IsFirstOutside, LandingsAreRefusedInOrder, DeliveriesAreRefusedInOrder}
 
 off_right : (b : Bool) → (b && false) ≡ false

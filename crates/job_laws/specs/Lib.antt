@@ -1,3 +1,8 @@
+pub mod Roles
+pub mod Cast
+pub mod Working
+pub mod Laws
+pub mod WorkedSchedules
 pub mod Reports
 pub mod Worked
 pub mod WorkedOperators

@@ -15,8 +15,8 @@ use Rattle.programs.specs.Superstep.{first_fault, log_of}
 use Rattle.step_core.specs.JobMeaning.{initial, state_at}
 use Rattle.step_core.specs.OrderValue.{DeliveryValue, IsDelivery, delivered_segment, spawned_paths}
 use Rattle.step_core.specs.Taking.{outcome_of}
-use Rattle.job_program.specs.declared.fault.Outcome.{Outcome}
-use Rattle.job_program.specs.declared.fault.Outcome.TheVariants.{Landed, Faulted, TooMany, Overflowed}
+use Rattle.step_core.specs.declared.fault.Outcome.{Outcome}
+use Rattle.step_core.specs.declared.fault.Outcome.TheVariants.{Landed, Faulted, TooMany, Overflowed}
 use Rattle.job_laws.specs.Worked.{cell, arg, number, body, start, array, program, faulting, overflowing, in_time, faulting_first}
 use Rattle.job_laws.specs.WorkedFaults.{spawning}
 

@@ -13,8 +13,8 @@ use Rattle.superstep_memory.specs.Worked.{array, set, add, of, most}
 use Rattle.step_core.specs.OrderValue.{DeliveryValue}
 use Rattle.step_core.specs.RoundValue.{RoundValue}
 use Rattle.step_core.specs.Taking.{Refuses, IsOrdered, accept_number, close_number}
-use Rattle.job_program.specs.declared.fault.AcceptFault.{AcceptFault}
-use Rattle.job_program.specs.declared.fault.CloseFault.TheVariants as close
+use Rattle.step_core.specs.declared.fault.AcceptFault.{AcceptFault}
+use Rattle.step_core.specs.declared.fault.CloseFault.TheVariants as close
 
 -- Of these logs that of this path has a put to no cell at this place, from 0; all puts in front of it are to cells.
 pub record IsFirstOutside (arrays : List (List ℕ × List ℤ)) (es : List (List ℕ × List Put)) (path : List ℕ) (place : ℕ) : Type 0 where

@@ -1,5 +1,24 @@
-//! Laws on what the report of a job says of its supersteps. Each function does nothing: its contract is the law.
+//! Laws on what the report of a job says of its supersteps, and on every schedule of a job over a tree of phasers. Each
+//! function does nothing: its contract is the law.
+//!
+//! * [`cast`]: what each token of the tree does in a superstep.
+//! * [`driven`]: which jobs, trees and limits the laws on schedules are about: all that may be driven.
+//! * [`reached`]: what holds of every world that their schedules reach.
+//!
+//! # Where things are
+//!
+//! * `lib.rt`: the laws on reports; `specs/Worked.antt`: worked out.
+//! * `cast.rt`: the roles of tokens; `proofs/Playing.antt`: what others' steps leave of a role; `Quiet.antt` and
+//!   `Steps.antt`: one step of a call; `Joining.antt`: joins; `Casting.antt`: the advance; `proofs/Sharing.antt`:
+//!   one holder a token; `Calling.antt`: a step of a call; `Staging.antt` and `Moving.antt`: a task's stages;
+//!   `Delivering.antt`, `Advancing.antt`, `Renewing.antt`, `Initial.antt`: the other moves; `Room.antt` and
+//!   `Few.antt`: the room at a tier; `Keeping.antt`: all moves; `Claiming.antt`, `Following.antt`, `Answered.antt`
+//!   and `SpawningOnTrees.antt`: the laws.
 #![tactic(auto)]
+
+pub mod cast;
+pub mod driven;
+pub mod reached;
 
 ghost use Rattle.job_laws.specs.Reports.{
   ReportsAreBySuperstep,

@@ -11,9 +11,9 @@ use Rattle.std.specs.declared.hash.FoldHasher.{FoldHasher}
 use Rattle.std.specs.declared.hash.BuildHasherDefault.{BuildHasherDefault}
 use Rattle.std.specs.Str.{bytes_eq}
 use Rattle.task_code.specs.Names.{is_among}
-use Rattle.job_words.specs.Words.{Word}
-use Rattle.job_words.specs.Views.{lent}
-use Rattle.job_words.proofs.NotedLemmas.{lent-append}
+use Rattle.job_reader.specs.Words.{Word}
+use Rattle.job_reader.specs.Views.{lent}
+use Rattle.job_reader.proofs.NotedLemmas.{lent-append}
 use Rattle.job_reader.specs.Reading.{are_apart}
 
 abbrev pub word_eq : Bor Word → Bor Word → Bool

@@ -7,10 +7,10 @@ use Rattle.std.proofs.lemmas.Str.{IsUtf8-from_ascii}
 use Rattle.std.proofs.lemmas.Str.Ascii.{IsAscii-cons, IsAscii-nil}
 use Rattle.std.proofs.lemmas.Grind.{common_steps}
 use Rattle.task_code.specs.Names.{begins_lower, is_in_name, is_name, is_reserved, is_free, is_among, are_names}
-use Rattle.job_words.specs.Words.{Word}
-use Rattle.job_words.specs.Views.{lent}
-use Rattle.job_words.proofs.SaidLemmas.{and-true}
-use Rattle.job_words.proofs.GrowLemmas.{and-left, and-right}
+use Rattle.job_reader.specs.Words.{Word}
+use Rattle.job_reader.specs.Views.{lent}
+use Rattle.job_reader.proofs.SaidLemmas.{and-true}
+use Rattle.job_reader.proofs.GrowLemmas.{and-left, and-right}
 
 byte-ascii : (c : ℕ) → is_in_name c ≡ true → c < 128
 byte-ascii c e = grind (arith, common_steps)

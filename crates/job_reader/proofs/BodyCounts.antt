@@ -9,7 +9,7 @@ use Rattle.task_code.specs.Tree.{Block, Done}
 use Rattle.task_code.specs.Open.{Frame, InIf, InElse, InWhile, open_code, step_of}
 use Rattle.task_code.specs.declared.code.Line.{Line}
 use Rattle.task_code.specs.declared.code.Line.TheVariants as line
-use Rattle.job_words.proofs.SaidLemmas.{and-true}
+use Rattle.job_reader.proofs.SaidLemmas.{and-true}
 use Rattle.job_reader.specs.Above.{statements_behind}
 use Rattle.job_reader.specs.Kept.{open_behind, Counted}
 use Rattle.job_reader.proofs.StepCode.{step-map}

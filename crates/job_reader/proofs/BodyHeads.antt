@@ -5,13 +5,13 @@ use Rattle.std.specs.List.{list_all, list_any}
 use Rattle.text_lines.specs.declared.refusal.Code.{Code}
 use Rattle.text_lines.specs.declared.refusal.Code.TheVariants.{BadName, BadLine, Reserved}
 use Rattle.task_code.specs.Names.{is_name, is_reserved, is_free, is_among, are_names}
-use Rattle.job_words.specs.Faults.{both, made}
-use Rattle.job_words.specs.Words.{Word, Words, named}
-use Rattle.job_words.proofs.SaidLemmas.{made-ok, both-ok, and-true}
-use Rattle.job_words.proofs.GrowLemmas.{and-left, and-right}
+use Rattle.job_reader.specs.Faults.{both, made}
+use Rattle.job_reader.specs.Words.{Word, Words, named}
+use Rattle.job_reader.proofs.SaidLemmas.{made-ok, both-ok, and-true}
+use Rattle.job_reader.proofs.GrowLemmas.{and-left, and-right}
 use Rattle.job_reader.specs.Grammar.{listed_in}
 use Rattle.job_reader.specs.Reading.{all_named, may_list, body_of, are_apart}
-use Rattle.job_words.proofs.WrittenLemmas.{or-left, or-right}
+use Rattle.job_reader.proofs.WrittenLemmas.{or-left, or-right}
 
 -- what a body line that is read says
 pub record HeadParts (format : ℕ) (name : Word) (locals : List Word) (head : Word × List Word) : Type 0 where

@@ -4,9 +4,9 @@ use Rattle.task_code.specs.declared.code.Line.{Line}
 use Rattle.task_code.specs.declared.code.Line.TheVariants as line
 use Rattle.task_code.specs.Tree.{Block, Done, Do, If, IfElse, While, flat}
 use Rattle.task_code.specs.Reading.{tree_of, IsMatched}
-use Rattle.job_words.specs.Words.{Words}
-use Rattle.job_words.specs.Exprs.{Names, expr_words}
-use Rattle.job_words.specs.Lines.{line_words, action_words, end_words}
+use Rattle.job_reader.specs.Words.{Words}
+use Rattle.job_reader.specs.Exprs.{Names, expr_words}
+use Rattle.job_reader.specs.Lines.{line_words, action_words, end_words}
 use Rattle.job_reader.specs.Grammar.{block_lines, line_text, text_of}
 use Rattle.job_reader.specs.Writing.{code_lines}
 

@@ -2,8 +2,8 @@
 use Rattle.std.proofs.Common.{◌≡◌, ℕ, ◌≤◌, List, [], ◌∷◌, ◌++◌, length, take, take_all, refl, sym, ap, ◌∙◌, arith, append-nil}
 use Rattle.std.proofs.lemmas.List.{take-append-le}
 use Rattle.std.specs.Borrow.{Bor}
-use Rattle.job_words.specs.Words.{Word}
-use Rattle.job_words.specs.Views.{lent}
+use Rattle.job_reader.specs.Words.{Word}
+use Rattle.job_reader.specs.Views.{lent}
 
 pub length-lent : (ws : List (Bor (List ℕ))) → length (lent ws) ≡ length ws
 length-lent [] = refl

@@ -5,8 +5,8 @@ use Rattle.job_reader.proofs.NotedNames.{same-number}
 use Rattle.std.specs.Str.{bytes_eq}
 use Rattle.std.proofs.lemmas.Fmt.{decimal_digit}
 use Rattle.task_code.specs.Rules.{is_format}
-use Rattle.job_words.specs.Words.{Word, Words}
-use Rattle.job_words.proofs.SaidLemmas.{same-word}
+use Rattle.job_reader.specs.Words.{Word, Words}
+use Rattle.job_reader.proofs.SaidLemmas.{same-word}
 use Rattle.job_reader.specs.Grammar.{header_words}
 use Rattle.job_reader.specs.Reading.{format_in, format_of}
 

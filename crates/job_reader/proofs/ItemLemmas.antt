@@ -1,7 +1,7 @@
 -- Items one after the other.
 use Rattle.std.proofs.Common.{◌≡◌, ℕ, List, [], ◌∷◌, ◌++◌, length, refl, sym, ap, subst, ◌∙◌, append_assoc, append-nil}
-use Rattle.job_words.specs.Words.{Word, Words}
-use Rattle.job_words.specs.Trees.{JobTree, array_names}
+use Rattle.job_reader.specs.Words.{Word, Words}
+use Rattle.job_reader.specs.Trees.{JobTree, array_names}
 use Rattle.job_reader.specs.Grammar.{Item, AnArray, ABody, AStart, array_words, body_lines, start_words, items_lines, AreSound, with_item, no_job, job_of}
 
 -- a job with an item after its others

@@ -15,15 +15,15 @@ use Rattle.task_code.specs.Open.{Frame, InIf, InElse, InWhile, open_code, step_o
 use Rattle.task_code.specs.declared.code.Line.{Line}
 use Rattle.task_code.specs.declared.code.Line.TheVariants as line
 use Rattle.task_code.proofs.Reading.{matched-flat}
-use Rattle.job_words.specs.Words.{Word, Words, noted}
-use Rattle.job_words.specs.Exprs.{Names}
-use Rattle.job_words.specs.declared.lines.Keyword.{Keyword}
-use Rattle.job_words.specs.Lines.{known_in, line_behind, mentions_behind}
-use Rattle.job_words.proofs.SaidLemmas.{made-ok, and-true}
-use Rattle.job_words.proofs.GrowLemmas.{below-grows}
-use Rattle.job_words.specs.Trees.{BodyTree, JobTree, array_names, body_names}
+use Rattle.job_reader.specs.Words.{Word, Words, noted}
+use Rattle.job_reader.specs.Exprs.{Names}
+use Rattle.job_reader.specs.declared.lines.Keyword.{Keyword}
+use Rattle.job_reader.specs.Lines.{known_in, line_behind, mentions_behind}
+use Rattle.job_reader.proofs.SaidLemmas.{made-ok, and-true}
+use Rattle.job_reader.proofs.GrowLemmas.{below-grows}
+use Rattle.job_reader.specs.Trees.{BodyTree, JobTree, array_names, body_names}
 use Rattle.job_reader.specs.Above.{Inside, nothing, can_else, sits, ended, statements_behind}
-use Rattle.job_words.specs.Legal.{flat_body}
+use Rattle.job_reader.specs.Legal.{flat_body}
 use Rattle.job_reader.specs.Kept.{KeptBody, AreKept, KeptJob, KeptFirst, Counted, KeptOpen, KeptAt, IsWhole, EndsWhole, HasKeptInside, HasEnding}
 use Rattle.job_reader.specs.Relates.{IsInside, IsOpened}
 use Rattle.job_reader.specs.declared.inside.OpenBody.{OpenBody}

@@ -13,14 +13,14 @@ use Rattle.text_lines.specs.declared.refusal.Refusal.{Refusal}
 use Rattle.task_code.specs.Names.{is_free, is_among, are_names}
 use Rattle.task_code.specs.Rules.{is_array}
 use Rattle.task_code.specs.declared.job.Start.{Start}
-use Rattle.job_words.specs.Words.{Word, Words, named, numbered}
-use Rattle.job_words.specs.Faults.{both}
-use Rattle.job_words.specs.Lines.{body_at, keyword_of}
-use Rattle.job_words.proofs.SaidLemmas.{made-ok, both-ok, and-true}
-use Rattle.job_words.proofs.GrowLemmas.{and-left, and-right}
+use Rattle.job_reader.specs.Words.{Word, Words, named, numbered}
+use Rattle.job_reader.specs.Faults.{both}
+use Rattle.job_reader.specs.Lines.{body_at, keyword_of}
+use Rattle.job_reader.proofs.SaidLemmas.{made-ok, both-ok, and-true}
+use Rattle.job_reader.proofs.GrowLemmas.{and-left, and-right}
 use Rattle.job_reader.specs.declared.outer.Outer.{Outer}
 use Rattle.job_reader.specs.declared.outer.Outer.TheVariants as outer
-use Rattle.job_words.specs.Trees.{JobTree, array_names, body_names}
+use Rattle.job_reader.specs.Trees.{JobTree, array_names, body_names}
 use Rattle.job_reader.specs.Above.{Inside, Above, nothing, begun}
 use Rattle.job_reader.specs.Kept.{KeptJob, KeptOpen, KeptAt}
 use Rattle.job_reader.specs.Reading.{
@@ -61,7 +61,7 @@ use Rattle.job_reader.specs.Grammar.{listed_in}
 use Rattle.job_reader.proofs.BodyHeads.{head-parts, all-free, apart-names}
 use Rattle.job_reader.proofs.Known.{known-line}
 use Rattle.job_reader.proofs.Headers.{format-is}
-use Rattle.job_words.proofs.WrittenLemmas.{or-left, or-right}
+use Rattle.job_reader.proofs.WrittenLemmas.{or-left, or-right}
 use Rattle.job_reader.proofs.NotedNames.{names-put}
 use Rattle.job_reader.proofs.KeptJobs.{kept-nothing, inner-kept, at-most}
 

@@ -5,14 +5,14 @@ use Rattle.text_lines.specs.declared.refusal.Code.{Code}
 use Rattle.task_code.specs.Limits as lines
 use Rattle.task_code.specs.declared.code.Line.{Line}
 use Rattle.task_code.specs.declared.code.Line.TheVariants as line
-use Rattle.job_words.specs.Faults.{made}
-use Rattle.job_words.specs.Words.{Word, Words}
-use Rattle.job_words.specs.Exprs.{Names}
-use Rattle.job_words.specs.declared.lines.Keyword.{Keyword}
-use Rattle.job_words.specs.declared.lines.Keyword.TheVariants.{Let, Put, Print, Spawn, Sync, Stop, If, Else, While, End}
-use Rattle.job_words.specs.Lines.{is_of_first, known_in, alone, line_behind}
-use Rattle.job_words.proofs.SaidLemmas.{made-ok}
-use Rattle.job_words.specs.Trees.{JobTree, array_names}
+use Rattle.job_reader.specs.Faults.{made}
+use Rattle.job_reader.specs.Words.{Word, Words}
+use Rattle.job_reader.specs.Exprs.{Names}
+use Rattle.job_reader.specs.declared.lines.Keyword.{Keyword}
+use Rattle.job_reader.specs.declared.lines.Keyword.TheVariants.{Let, Put, Print, Spawn, Sync, Stop, If, Else, While, End}
+use Rattle.job_reader.specs.Lines.{is_of_first, known_in, alone, line_behind}
+use Rattle.job_reader.proofs.SaidLemmas.{made-ok}
+use Rattle.job_reader.specs.Trees.{JobTree, array_names}
 use Rattle.job_reader.specs.Above.{Inside}
 use Rattle.job_reader.specs.Grammar.{is_in_format}
 use Rattle.job_reader.specs.Reading.{said, with_line, mentioning, inner_line}

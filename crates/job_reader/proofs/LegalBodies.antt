@@ -15,12 +15,12 @@ use Rattle.task_code.specs.declared.code.Action.{Action}
 use Rattle.task_code.specs.declared.code.Action.TheVariants as action
 use Rattle.task_code.specs.declared.code.Line.{Line}
 use Rattle.task_code.specs.declared.code.Line.TheVariants as line
-use Rattle.job_words.specs.Words.{Word}
-use Rattle.job_words.specs.Exprs.{Names}
-use Rattle.job_words.specs.Lines.{line_names, line_fits}
-use Rattle.job_words.proofs.SaidLemmas.{and-true, below-true}
-use Rattle.job_words.proofs.GrowLemmas.{and-left, and-right}
-use Rattle.job_words.specs.Trees.{BodyTree, array_names}
+use Rattle.job_reader.specs.Words.{Word}
+use Rattle.job_reader.specs.Exprs.{Names}
+use Rattle.job_reader.specs.Lines.{line_names, line_fits}
+use Rattle.job_reader.proofs.SaidLemmas.{and-true, below-true}
+use Rattle.job_reader.proofs.GrowLemmas.{and-left, and-right}
+use Rattle.job_reader.specs.Trees.{BodyTree, array_names}
 use Rattle.job_reader.specs.Grammar.{Item, AnArray, ABody, AStart, names_above, IsSoundBody, AreSound, job_of}
 
 -- with more arrays

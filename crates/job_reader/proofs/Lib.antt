@@ -1,3 +1,14 @@
+pub mod CellLemmas
+pub mod NotedLemmas
+pub mod SaidLemmas
+pub mod LineSaid
+pub mod GrowLemmas
+pub mod WrittenLemmas
+pub mod WrittenExprs
+pub mod WrittenLines
+pub mod LineRefused
+pub mod JobLemmas
+pub mod Upgraded
 pub mod NumberedLemmas
 pub mod OpenLemmas
 pub mod LineLemmas

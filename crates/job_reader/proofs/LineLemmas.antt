@@ -7,12 +7,12 @@ use Rattle.task_code.specs.Limits.{opened}
 use Rattle.task_code.specs.declared.code.Line.{Line}
 use Rattle.task_code.specs.Tree.{Block}
 use Rattle.task_code.specs.Open.{Frame}
-use Rattle.job_words.specs.Words.{Word, Words}
-use Rattle.job_words.specs.Faults.{made}
-use Rattle.job_words.specs.declared.lines.Keyword.{Keyword}
+use Rattle.job_reader.specs.Words.{Word, Words}
+use Rattle.job_reader.specs.Faults.{made}
+use Rattle.job_reader.specs.declared.lines.Keyword.{Keyword}
 use Rattle.job_reader.specs.declared.inside.OpenBody.{OpenBody}
 use Rattle.job_reader.specs.declared.so_far.SoFar.{SoFar}
-use Rattle.job_words.specs.Trees.{JobTree, array_names}
+use Rattle.job_reader.specs.Trees.{JobTree, array_names}
 use Rattle.job_reader.specs.Above.{Inside, can_else, belongs, sits, ended, statements_behind}
 use Rattle.job_reader.specs.Reading.{◌>>=◌, is_over, within_limits, said, behind, with_line, mentioning, inner_line, body_line, outer_line}
 use Rattle.job_reader.specs.declared.outer.Outer.{Outer}

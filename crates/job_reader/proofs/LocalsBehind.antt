@@ -4,10 +4,10 @@ use Rattle.std.specs.Prelude.{◌==◌, if◌then◌else◌}
 use Rattle.std.specs.List.{list_all, flat_map}
 use Rattle.std.proofs.lemmas.Grind.{flat_map-append}
 use Rattle.task_code.specs.Names.{is_free, are_names}
-use Rattle.job_words.specs.Words.{Word, Words, noted}
-use Rattle.job_words.specs.Lines.{mentions_of}
-use Rattle.job_words.proofs.GrowLemmas.{noted-grows}
-use Rattle.job_words.proofs.NotedLemmas.{noted-append}
+use Rattle.job_reader.specs.Words.{Word, Words, noted}
+use Rattle.job_reader.specs.Lines.{mentions_of}
+use Rattle.job_reader.proofs.GrowLemmas.{noted-grows}
+use Rattle.job_reader.proofs.NotedLemmas.{noted-append}
 use Rattle.job_reader.specs.Grammar.{listed_in, locals_behind, locals_by}
 use Rattle.job_reader.proofs.NotedNames.{names-noted}
 

@@ -18,15 +18,15 @@ use Rattle.task_code.specs.declared.code.Expr.TheVariants.{One}
 use Rattle.task_code.specs.declared.code.Action.TheVariants as action
 use Rattle.task_code.specs.declared.code.Line.{Line}
 use Rattle.task_code.specs.declared.code.Line.TheVariants as line
-use Rattle.job_words.specs.Faults.{both, made}
-use Rattle.job_words.specs.Words.{Word, Words, begins_number, numbered, declared_at, name_at, index_word, index_of, in_index, noted}
-use Rattle.job_words.specs.Exprs.{Names, cell_parts, cell_at, cell_from, cell_of, has_bracket, operand_of, operator_of, expr_of, two, in_parts, in_operand, in_expr}
-use Rattle.job_words.specs.declared.lines.Keyword.{Keyword}
-use Rattle.job_words.specs.declared.lines.Keyword.TheVariants.{Let, Put, Print, Spawn, Sync, Stop, If, Else, While, End}
-use Rattle.job_words.specs.Lines.{is_equals, body_at, let_line, put_line, spawn_line, alone, else_of, line_behind, mentions_behind}
-use Rattle.job_words.proofs.SaidLemmas.{made-ok, both-ok, and-true, below-true, declared-said, cell-said, all-both}
-use Rattle.job_words.proofs.GrowLemmas.{noted-grows}
-use Rattle.job_words.proofs.WrittenExprs.{cell-bracket}
+use Rattle.job_reader.specs.Faults.{both, made}
+use Rattle.job_reader.specs.Words.{Word, Words, begins_number, numbered, declared_at, name_at, index_word, index_of, in_index, noted}
+use Rattle.job_reader.specs.Exprs.{Names, cell_parts, cell_at, cell_from, cell_of, has_bracket, operand_of, operator_of, expr_of, two, in_parts, in_operand, in_expr}
+use Rattle.job_reader.specs.declared.lines.Keyword.{Keyword}
+use Rattle.job_reader.specs.declared.lines.Keyword.TheVariants.{Let, Put, Print, Spawn, Sync, Stop, If, Else, While, End}
+use Rattle.job_reader.specs.Lines.{is_equals, body_at, let_line, put_line, spawn_line, alone, else_of, line_behind, mentions_behind}
+use Rattle.job_reader.proofs.SaidLemmas.{made-ok, both-ok, and-true, below-true, declared-said, cell-said, all-both}
+use Rattle.job_reader.proofs.GrowLemmas.{noted-grows}
+use Rattle.job_reader.proofs.WrittenExprs.{cell-bracket}
 use Rattle.job_reader.proofs.NotedNames.{firsts-noted}
 use Rattle.job_reader.proofs.StepCode.{step-map}
 

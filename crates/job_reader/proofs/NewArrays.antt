@@ -5,13 +5,13 @@ use Rattle.std.specs.Str.{bytes_eq}
 use Rattle.std.proofs.lemmas.Grind.{common_steps}
 use Rattle.superstep_memory.specs.Cells.{has_array, IsNew}
 use Rattle.task_code.specs.Names.{is_free, is_among}
-use Rattle.job_words.specs.Words.{Word, Words}
-use Rattle.job_words.specs.Views.{lent}
-use Rattle.job_words.proofs.GrowLemmas.{and-right}
+use Rattle.job_reader.specs.Words.{Word, Words}
+use Rattle.job_reader.specs.Views.{lent}
+use Rattle.job_reader.proofs.GrowLemmas.{and-right}
 use Rattle.job_reader.specs.declared.so_far.SoFar.{SoFar}
 use Rattle.job_reader.specs.Kept.{HasSoFar}
 use Rattle.job_reader.specs.Reading.{array_of}
-use Rattle.job_words.proofs.WrittenLemmas.{or-left, or-right}
+use Rattle.job_reader.proofs.WrittenLemmas.{or-left, or-right}
 use Rattle.job_reader.proofs.NotedNames.{or-false, turned}
 use Rattle.job_reader.proofs.KeptLines.{array-read}
 

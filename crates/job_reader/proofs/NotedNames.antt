@@ -36,11 +36,11 @@ use Rattle.std.proofs.lemmas.List.{length-take-le}
 use Rattle.std.proofs.lemmas.Grind.{common_steps}
 use Rattle.task_code.specs.Names.{is_free, is_among, are_names}
 use Rattle.task_code.specs.Mentions.{mentioned}
-use Rattle.job_words.specs.Words.{Word, place_from, name_at, noted}
-use Rattle.job_words.proofs.SaidLemmas.{and-true, same-word}
-use Rattle.job_words.proofs.GrowLemmas.{and-left, and-right, noted-grows}
-use Rattle.job_words.proofs.WrittenLemmas.{same-bytes, place-name, not-true, or-left, or-right}
-use Rattle.job_words.proofs.WrittenExprs.{or-true}
+use Rattle.job_reader.specs.Words.{Word, place_from, name_at, noted}
+use Rattle.job_reader.proofs.SaidLemmas.{and-true, same-word}
+use Rattle.job_reader.proofs.GrowLemmas.{and-left, and-right, noted-grows}
+use Rattle.job_reader.proofs.WrittenLemmas.{same-bytes, place-name, not-true, or-left, or-right}
+use Rattle.job_reader.proofs.WrittenExprs.{or-true}
 
 false-not : (b : Bool) → b ≡ false → not b ≡ true
 false-not true e = absurd cc

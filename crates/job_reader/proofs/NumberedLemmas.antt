@@ -2,7 +2,7 @@
 use Rattle.std.proofs.Common.{◌≡◌, List, [], ◌∷◌, ◌++◌, Result, Ok, Err, ℤ, FitsSigned, w64, to_z, of_z, refl, sym, ap, ◌∙◌, append_assoc, arith}
 use Rattle.std.proofs.lemmas.Int.{ints}
 use Rattle.text_lines.specs.declared.refusal.Code.{Code}
-use Rattle.job_words.specs.Words.{Word, Words, numbered}
+use Rattle.job_reader.specs.Words.{Word, Words, numbered}
 use Rattle.job_reader.specs.Reading.{◌>>=◌, all_numbered, with_front}
 
 moved : (front : List ℤ) (n : ℤ) (r : Result (List ℤ) Code) → with_front front (r >>= λ ns. Ok (n ∷ ns)) ≡ with_front (front ++ n ∷ []) r

@@ -7,15 +7,15 @@ use Rattle.task_code.specs.declared.code.Line.TheVariants as line
 use Rattle.task_code.specs.Tree.{Block, flat}
 use Rattle.task_code.specs.Open.{Frame, place_of, open_places, open_code, step_of}
 use Rattle.task_code.specs.BodyValue.{BodyValue}
-use Rattle.job_words.specs.Words.{Word, Words}
-use Rattle.job_words.specs.Views.{lent}
-use Rattle.job_words.specs.Faults.{made}
-use Rattle.job_words.specs.Exprs.{Names}
-use Rattle.job_words.specs.declared.lines.Keyword.{Keyword}
-use Rattle.job_words.specs.declared.lines.Keyword.TheVariants.{Let, Put, Print, Spawn, Sync, Stop, If, Else, While, End}
-use Rattle.job_words.specs.Lines.{line_behind, alone}
+use Rattle.job_reader.specs.Words.{Word, Words}
+use Rattle.job_reader.specs.Views.{lent}
+use Rattle.job_reader.specs.Faults.{made}
+use Rattle.job_reader.specs.Exprs.{Names}
+use Rattle.job_reader.specs.declared.lines.Keyword.{Keyword}
+use Rattle.job_reader.specs.declared.lines.Keyword.TheVariants.{Let, Put, Print, Spawn, Sync, Stop, If, Else, While, End}
+use Rattle.job_reader.specs.Lines.{line_behind, alone}
 use Rattle.job_reader.specs.declared.inside.OpenBody.{OpenBody}
-use Rattle.job_words.specs.Legal.{flat_body}
+use Rattle.job_reader.specs.Legal.{flat_body}
 use Rattle.job_reader.specs.Above.{Inside, can_else, belongs, sits, ended}
 use Rattle.job_reader.specs.Relates.{IsInside}
 

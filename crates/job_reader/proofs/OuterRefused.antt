@@ -5,8 +5,8 @@ use Rattle.std.proofs.Common.{◌≡◌, ◌∷◌, ℤ, List, Result, Ok, Err, 
 use Rattle.std.proofs.lemmas.Int.{ints}
 use Rattle.text_lines.specs.declared.refusal.Code.{Code}
 use Rattle.text_lines.specs.Reading.{◌>>=◌}
-use Rattle.job_words.specs.Faults.{both, made}
-use Rattle.job_words.specs.Words.{Word, Words, named, numbered}
+use Rattle.job_reader.specs.Faults.{both, made}
+use Rattle.job_reader.specs.Words.{Word, Words, named, numbered}
 use Rattle.job_reader.specs.declared.fault.LineFault.{LineFault}
 use Rattle.job_reader.specs.declared.fault.LineFault.TheVariants as line_fault
 use Rattle.job_reader.specs.Gives.{LineFails, LineSays, joined}

@@ -10,10 +10,10 @@ use Rattle.task_code.specs.Limits.{is_line}
 use Rattle.task_code.specs.Rules.{IsBody, IsOfFirst}
 use Rattle.task_code.proofs.Reading.{tree-flat}
 use Rattle.task_code.specs.Tree.{Block}
-use Rattle.job_words.specs.Words.{Word}
-use Rattle.job_words.proofs.SaidLemmas.{and-true}
-use Rattle.job_words.specs.Trees.{BodyTree, JobTree, body_tree, job_tree, array_names, body_names}
-use Rattle.job_words.specs.Legal.{flat_body, flat_job, IsJobTree}
+use Rattle.job_reader.specs.Words.{Word}
+use Rattle.job_reader.proofs.SaidLemmas.{and-true}
+use Rattle.job_reader.specs.Trees.{BodyTree, JobTree, body_tree, job_tree, array_names, body_names}
+use Rattle.job_reader.specs.Legal.{flat_body, flat_job, IsJobTree}
 use Rattle.job_reader.specs.Grammar.{job_of}
 use Rattle.job_reader.proofs.SpelledWhole.{text-spelled-out}
 use Rattle.job_reader.specs.Kept.{AreKept, KeptJob, SaysJobs}

@@ -9,17 +9,17 @@ use Rattle.task_code.specs.declared.code.Line.{Line}
 use Rattle.task_code.specs.declared.code.Line.TheVariants as line
 use Rattle.task_code.specs.Tree.{Block, flat}
 use Rattle.task_code.specs.Open.{Frame, InIf, InElse, InWhile, open_code, step_of}
-use Rattle.job_words.specs.Words.{Word, Words}
-use Rattle.job_words.specs.Exprs.{Names}
-use Rattle.job_words.specs.declared.lines.Keyword.{Keyword}
-use Rattle.job_words.specs.declared.lines.Keyword.TheVariants.{Let, Put, Print, Spawn, Sync, Stop, If, Else, While, End}
-use Rattle.job_words.specs.Lines.{keyword_of, known_in, line_words, line_fits, mentions_behind, mentions_of, end_words}
-use Rattle.job_words.proofs.SaidLemmas.{made-ok, and-true}
-use Rattle.job_words.proofs.LineSaid.{LineSaid, is_present_if, keyword-said, line-said}
-use Rattle.job_words.proofs.GrowLemmas.{wider, line-grows, fits-grows, and-left, and-right}
+use Rattle.job_reader.specs.Words.{Word, Words}
+use Rattle.job_reader.specs.Exprs.{Names}
+use Rattle.job_reader.specs.declared.lines.Keyword.{Keyword}
+use Rattle.job_reader.specs.declared.lines.Keyword.TheVariants.{Let, Put, Print, Spawn, Sync, Stop, If, Else, While, End}
+use Rattle.job_reader.specs.Lines.{keyword_of, known_in, line_words, line_fits, mentions_behind, mentions_of, end_words}
+use Rattle.job_reader.proofs.SaidLemmas.{made-ok, and-true}
+use Rattle.job_reader.proofs.LineSaid.{LineSaid, is_present_if, keyword-said, line-said}
+use Rattle.job_reader.proofs.GrowLemmas.{wider, line-grows, fits-grows, and-left, and-right}
 use Rattle.job_reader.proofs.LocalsBehind.{locals-grow, listed-same, behind-none, by-one}
 use Rattle.job_reader.proofs.Known.{known-line, said-known}
-use Rattle.job_words.specs.Trees.{BodyTree, JobTree, array_names}
+use Rattle.job_reader.specs.Trees.{BodyTree, JobTree, array_names}
 use Rattle.job_reader.specs.Above.{Inside, can_else, sits, grown, ended, statements_behind}
 use Rattle.job_reader.specs.Grammar.{ABody, body_words, block_lines, body_lines, items_lines, listed_in, locals_behind, locals_by, is_in_format}
 use Rattle.job_reader.specs.Reading.{mentioning, said, behind, with_line, inner_line, is_missing}

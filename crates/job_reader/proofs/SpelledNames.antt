@@ -3,7 +3,7 @@ use Rattle.std.proofs.Common.{◌≡◌, inl, inr, ℕ, ◌+◌, ◌<◌, ◌≤
 use Rattle.std.specs.Prelude.{if◌then◌else◌, nat_le, nat_lt, ◌||◌, not}
 use Rattle.job_reader.specs.Reading.{are_apart}
 use Rattle.job_reader.proofs.BodyHeads.{head-parts}
-use Rattle.job_words.proofs.WrittenLemmas.{or-left}
+use Rattle.job_reader.proofs.WrittenLemmas.{or-left}
 use Rattle.std.specs.List.{filter_map, cons_option}
 use Rattle.std.proofs.lemmas.List.{map-append}
 use Rattle.std.proofs.lemmas.Grind.{common_steps}
@@ -13,16 +13,16 @@ use Rattle.text_lines.specs.Text.{words_of, is_skipped}
 use Rattle.task_code.specs.Names.{is_among}
 use Rattle.task_code.specs.Open.{Frame, step_of}
 use Rattle.task_code.specs.Tree.{Block}
-use Rattle.job_words.specs.Words.{Word, Words}
+use Rattle.job_reader.specs.Words.{Word, Words}
 use Rattle.superstep_memory.specs.declared.arrays.PutKind.TheVariants.{Set, Add}
-use Rattle.job_words.specs.declared.lines.Keyword.{Keyword}
-use Rattle.job_words.specs.declared.lines.Keyword.TheVariants.{Let, Put, Print, Spawn, Sync, Stop, If, Else, While, End}
-use Rattle.job_words.specs.Lines.{keyword_of, line_behind}
-use Rattle.job_words.proofs.SaidLemmas.{made-ok}
-use Rattle.job_words.proofs.LineSaid.{keyword_text, keyword-said}
+use Rattle.job_reader.specs.declared.lines.Keyword.{Keyword}
+use Rattle.job_reader.specs.declared.lines.Keyword.TheVariants.{Let, Put, Print, Spawn, Sync, Stop, If, Else, While, End}
+use Rattle.job_reader.specs.Lines.{keyword_of, line_behind}
+use Rattle.job_reader.proofs.SaidLemmas.{made-ok}
+use Rattle.job_reader.proofs.LineSaid.{keyword_text, keyword-said}
 use Rattle.job_reader.specs.declared.outer.Outer.{Outer}
 use Rattle.job_reader.specs.declared.outer.Outer.TheVariants as outer
-use Rattle.job_words.specs.Trees.{BodyTree, JobTree, array_names, body_names}
+use Rattle.job_reader.specs.Trees.{BodyTree, JobTree, array_names, body_names}
 use Rattle.job_reader.specs.Above.{Inside, Above, begun, ended, statements_behind}
 use Rattle.job_reader.specs.Reading.{
   outer_of,

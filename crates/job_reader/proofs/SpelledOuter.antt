@@ -9,15 +9,15 @@ use Rattle.text_lines.specs.declared.refusal.Code.{Code}
 use Rattle.text_lines.specs.declared.refusal.Code.TheVariants.{Twice, TooMany, BadLength}
 use Rattle.task_code.specs.Names.{is_among}
 use Rattle.task_code.specs.declared.job.Start.{Start}
-use Rattle.job_words.specs.Words.{Word, Words, named, numbered, name_at}
-use Rattle.job_words.specs.Faults.{both}
-use Rattle.job_words.specs.Lines.{body_at}
-use Rattle.job_words.proofs.SaidLemmas.{made-ok, both-ok, number-said, same-word}
-use Rattle.job_words.proofs.LineSaid.{body-said}
-use Rattle.job_words.proofs.GrowLemmas.{and-right}
+use Rattle.job_reader.specs.Words.{Word, Words, named, numbered, name_at}
+use Rattle.job_reader.specs.Faults.{both}
+use Rattle.job_reader.specs.Lines.{body_at}
+use Rattle.job_reader.proofs.SaidLemmas.{made-ok, both-ok, number-said, same-word}
+use Rattle.job_reader.proofs.LineSaid.{body-said}
+use Rattle.job_reader.proofs.GrowLemmas.{and-right}
 use Rattle.job_reader.specs.declared.outer.Outer.{Outer}
 use Rattle.job_reader.specs.declared.outer.Outer.TheVariants as outer
-use Rattle.job_words.specs.Trees.{JobTree, array_names, body_names}
+use Rattle.job_reader.specs.Trees.{JobTree, array_names, body_names}
 use Rattle.job_reader.specs.Above.{Inside, begun}
 use Rattle.job_reader.specs.Grammar.{AnArray, AStart, array_words, start_words, IsFilled, listed_in}
 use Rattle.job_reader.specs.Reading.{

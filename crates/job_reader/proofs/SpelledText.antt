@@ -6,14 +6,14 @@ use Rattle.text_lines.specs.declared.refusal.Code.TheVariants.{Twice, TooMany}
 use Rattle.task_code.specs.Names.{is_among}
 use Rattle.task_code.specs.Tree.{Block}
 use Rattle.task_code.specs.Open.{Frame, step_of}
-use Rattle.job_words.specs.declared.lines.Keyword.{Keyword}
-use Rattle.job_words.specs.Lines.{keyword_of, known_in}
+use Rattle.job_reader.specs.declared.lines.Keyword.{Keyword}
+use Rattle.job_reader.specs.Lines.{keyword_of, known_in}
 use Rattle.job_reader.specs.declared.outer.Outer.{Outer}
 use Rattle.text_lines.specs.Text.{words_of, is_skipped}
-use Rattle.job_words.specs.Words.{Word, Words}
-use Rattle.job_words.proofs.SaidLemmas.{made-ok}
+use Rattle.job_reader.specs.Words.{Word, Words}
+use Rattle.job_reader.proofs.SaidLemmas.{made-ok}
 use Rattle.job_reader.specs.declared.outer.Outer.TheVariants as outer
-use Rattle.job_words.specs.Trees.{JobTree, array_names}
+use Rattle.job_reader.specs.Trees.{JobTree, array_names}
 use Rattle.job_reader.specs.Above.{Inside, Above, statements_behind}
 use Rattle.job_reader.specs.Grammar.{kept}
 use Rattle.job_reader.specs.Reading.{at, outer_of, with_array, with_start, array_of, start_of, array_line, body_line, start_line, outer_line, mentioning, said, behind, with_line, any_line, is_missing, first_missing, line_step, kept_step, finished, read_lines}

@@ -4,8 +4,8 @@ use Rattle.std.specs.Prelude.{if◌then◌else◌, nat_lt}
 use Rattle.std.specs.List.{cons_option}
 use Rattle.text_lines.specs.declared.refusal.Refusal.{Refusal}
 use Rattle.text_lines.specs.Text.{lines_of, words_of, is_skipped, bad_byte_line}
-use Rattle.job_words.specs.Words.{Word, Words}
-use Rattle.job_words.specs.Trees.{JobTree, body_names}
+use Rattle.job_reader.specs.Words.{Word, Words}
+use Rattle.job_reader.specs.Trees.{JobTree, body_names}
 use Rattle.job_reader.specs.Above.{nothing}
 use Rattle.job_reader.specs.Grammar.{header_words, kept, IsTextOf}
 use Rattle.job_reader.specs.Reading.{format_of, outer_of, declared_by, declared, read_lines, read_behind, read_from, job_in}

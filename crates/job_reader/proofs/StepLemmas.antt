@@ -3,9 +3,9 @@ use Rattle.std.proofs.Common.{◌≡◌, ℕ, ◌+◌, List, ◌∷◌, Result, 
 use Rattle.text_lines.specs.declared.refusal.Code.{Code}
 use Rattle.text_lines.specs.declared.refusal.Refusal.{Refusal}
 use Rattle.text_lines.specs.Text.{words_of}
-use Rattle.job_words.specs.Words.{Word}
+use Rattle.job_reader.specs.Words.{Word}
 use Rattle.job_reader.specs.declared.state.State.{State}
-use Rattle.job_words.specs.Trees.{JobTree}
+use Rattle.job_reader.specs.Trees.{JobTree}
 use Rattle.job_reader.specs.Above.{Above}
 use Rattle.job_reader.specs.Reading.{◌>>=◌, at, kept_step, read_lines}
 use Rattle.job_reader.specs.Relates.{IsAt}

@@ -4,12 +4,12 @@ use Rattle.std.specs.Prelude.{slice_get}
 use Rattle.task_code.specs.declared.code.Line.{Line}
 use Rattle.task_code.specs.Reading.{tree_of, IsMatched}
 use Rattle.task_code.specs.BodyValue.{BodyValue}
-use Rattle.job_words.specs.Words.{Word, Words}
-use Rattle.job_words.specs.Exprs.{Names}
-use Rattle.job_words.specs.Lines.{end_words}
+use Rattle.job_reader.specs.Words.{Word, Words}
+use Rattle.job_reader.specs.Exprs.{Names}
+use Rattle.job_reader.specs.Lines.{end_words}
 use Rattle.task_code.specs.JobValue.{JobValue}
 use Rattle.task_code.specs.declared.job.Start.{Start}
-use Rattle.job_words.specs.Trees.{BodyTree, body_tree, job_tree, array_names, body_names}
+use Rattle.job_reader.specs.Trees.{BodyTree, body_tree, job_tree, array_names, body_names}
 use Rattle.job_reader.specs.Grammar.{
   block_lines,
   body_words,

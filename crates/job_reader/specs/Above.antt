@@ -1,12 +1,12 @@
 -- What the lines above a line say.
 use Rattle.std.specs.Prelude.{ℕ, ◌+◌, Bool, true, false, if◌then◌else◌, List, [], ◌∷◌, Option, None}
-use Rattle.job_words.specs.Words.{Word}
+use Rattle.job_reader.specs.Words.{Word}
 use Rattle.task_code.specs.Tree.{Block, Done}
 use Rattle.task_code.specs.Open.{Frame, InIf}
 use Rattle.task_code.specs.Limits.{is_statement}
 use Rattle.task_code.specs.declared.code.Line.{Line}
 use Rattle.task_code.specs.declared.code.Line.TheVariants as line
-use Rattle.job_words.specs.Trees.{BodyTree, JobTree}
+use Rattle.job_reader.specs.Trees.{BodyTree, JobTree}
 
 -- a body that is open: its locals so far, its open lines, the innermost first, the statements after that, and how many
 -- statements it has

@@ -2,7 +2,7 @@
 use Rattle.std.specs.Prelude.{◌≡◌, ℕ, ⊤, Result, Ok, Err}
 use Rattle.text_lines.specs.declared.refusal.Code.{Code}
 use Rattle.text_lines.specs.declared.refusal.Refusal.{Refusal}
-use Rattle.job_words.specs.Faults.{earlier}
+use Rattle.job_reader.specs.Faults.{earlier}
 use Rattle.job_reader.specs.declared.fault.LineFault.{LineFault}
 use Rattle.job_reader.specs.declared.fault.LineFault.TheVariants as line_fault
 use Rattle.job_reader.specs.declared.fault.ReadJobFault.{ReadJobFault}

@@ -7,11 +7,11 @@ use Rattle.task_code.specs.Limits.{is_of_first}
 use Rattle.task_code.specs.declared.code.Line.{Line}
 use Rattle.task_code.specs.Tree.{Block, Done, Do, If, IfElse, While, flat}
 use Rattle.task_code.specs.declared.job.Start.{Start}
-use Rattle.job_words.specs.Words.{Word, Words, name_at}
-pub use Rattle.job_words.specs.Words.{locals_behind}
-use Rattle.job_words.specs.Exprs.{Names, expr_words}
-use Rattle.job_words.specs.Lines.{action_words, end_words, line_fits, mentions_of}
-use Rattle.job_words.specs.Trees.{BodyTree, JobTree, array_names, body_names}
+use Rattle.job_reader.specs.Words.{Word, Words, name_at}
+pub use Rattle.job_reader.specs.Words.{locals_behind}
+use Rattle.job_reader.specs.Exprs.{Names, expr_words}
+use Rattle.job_reader.specs.Lines.{action_words, end_words, line_fits, mentions_of}
+use Rattle.job_reader.specs.Trees.{BodyTree, JobTree, array_names, body_names}
 
 -- the lines of statements
 abbrev pub block_lines : Names → Block → List Words

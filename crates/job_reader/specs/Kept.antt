@@ -10,10 +10,10 @@ use Rattle.task_code.specs.Rules.{IsBody, IsOfFirst, is_format, is_array}
 use Rattle.task_code.specs.Tree.{Block}
 use Rattle.task_code.specs.Open.{Frame, open_code}
 use Rattle.task_code.specs.declared.code.Line.{Line}
-use Rattle.job_words.specs.Words.{Word}
-use Rattle.job_words.specs.Trees.{BodyTree, JobTree, array_names, body_names}
+use Rattle.job_reader.specs.Words.{Word}
+use Rattle.job_reader.specs.Trees.{BodyTree, JobTree, array_names, body_names}
 use Rattle.job_reader.specs.Above.{Inside, Above, belongs, ended}
-use Rattle.job_words.specs.Legal.{flat_body, IsJobTree}
+use Rattle.job_reader.specs.Legal.{flat_body, IsJobTree}
 use Rattle.job_reader.specs.Limits.{most_starts}
 use Rattle.job_reader.specs.Relates.{IsSoFar, IsInside, IsOpened, IsAt}
 use Rattle.job_reader.specs.Reading.{finished}

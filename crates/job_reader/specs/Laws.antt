@@ -2,7 +2,7 @@
 use Rattle.std.specs.Prelude.{◌≡◌, ◌⊎◌, ℕ, List, Ok, Err}
 use Rattle.text_lines.specs.declared.refusal.Refusal.{Refusal}
 use Rattle.text_lines.specs.Text.{lines_of}
-use Rattle.job_words.specs.Trees.{JobTree}
+use Rattle.job_reader.specs.Trees.{JobTree}
 use Rattle.job_reader.specs.Grammar.{kept, IsTextOf}
 use Rattle.job_reader.specs.Reading.{job_in}
 

@@ -1,6 +1,11 @@
-pub use Rattle.job_words.specs.Legal
-pub use Rattle.job_words.specs.Trees
-pub use Rattle.job_words.specs.Upgrade
+pub mod Exprs
+pub mod Faults
+pub mod Lines
+pub mod Views
+pub mod Words
+pub mod Trees
+pub mod Legal
+pub mod Upgrade
 pub mod Limits
 pub mod Above
 pub mod Gives

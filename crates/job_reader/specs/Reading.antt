@@ -8,10 +8,10 @@ use Rattle.text_lines.specs.declared.refusal.Code.TheVariants.{TooLong, BadHeade
 use Rattle.text_lines.specs.declared.refusal.Refusal.{Refusal}
 use Rattle.text_lines.specs.Limits.{most_bytes}
 use Rattle.text_lines.specs.Text.{lines_of, words_of, is_skipped, bad_byte_line}
-use Rattle.job_words.specs.Faults.{both, made}
-use Rattle.job_words.specs.Words.{Word, Words, named, numbered}
-use Rattle.job_words.specs.declared.lines.Keyword.{Keyword}
-use Rattle.job_words.specs.Lines.{body_at, keyword_of, known_in, line_behind, mentions_behind}
+use Rattle.job_reader.specs.Faults.{both, made}
+use Rattle.job_reader.specs.Words.{Word, Words, named, numbered}
+use Rattle.job_reader.specs.declared.lines.Keyword.{Keyword}
+use Rattle.job_reader.specs.Lines.{body_at, keyword_of, known_in, line_behind, mentions_behind}
 use Rattle.task_code.specs.Names.{is_name, is_reserved, is_among}
 use Rattle.task_code.specs.Limits.{opened}
 use Rattle.task_code.specs.Tree.{Block}
@@ -20,7 +20,7 @@ use Rattle.task_code.specs.declared.code.Line.{Line}
 use Rattle.task_code.specs.declared.job.Start.{Start}
 use Rattle.job_reader.specs.declared.outer.Outer.{Outer}
 use Rattle.job_reader.specs.declared.outer.Outer.TheVariants as outer
-use Rattle.job_words.specs.Trees.{JobTree, array_names, body_names}
+use Rattle.job_reader.specs.Trees.{JobTree, array_names, body_names}
 use Rattle.job_reader.specs.Grammar.{locals_behind}
 use Rattle.job_reader.specs.Limits.{most_cells, most_starts}
 use Rattle.job_reader.specs.Above.{Inside, Above, nothing, can_else, begun, statements_behind, grown, ended}

@@ -1,13 +1,13 @@
 -- What the reader has, against what the lines above say.
 use Rattle.std.specs.Prelude.{◌≡◌, ℕ, List, map, Option, Some, None}
-use Rattle.job_words.specs.Views.{lent}
+use Rattle.job_reader.specs.Views.{lent}
 use Rattle.task_code.specs.Tree.{Block}
 use Rattle.task_code.specs.Open.{Frame, IsOpen}
 use Rattle.job_reader.specs.declared.inside.OpenBody.{OpenBody}
 use Rattle.job_reader.specs.declared.so_far.SoFar.{SoFar}
 use Rattle.job_reader.specs.declared.state.State.{State}
-use Rattle.job_words.specs.Trees.{JobTree, array_names, body_names}
-use Rattle.job_words.specs.Legal.{flat_body}
+use Rattle.job_reader.specs.Trees.{JobTree, array_names, body_names}
+use Rattle.job_reader.specs.Legal.{flat_body}
 use Rattle.job_reader.specs.Above.{Inside, Above, grown}
 
 -- an open body

@@ -1,9 +1,9 @@
 -- Lines of flat code as they are written.
 use Rattle.std.specs.Prelude.{List, map, string_bytes}
 use Rattle.task_code.specs.declared.code.Line.{Line}
-use Rattle.job_words.specs.Words.{Words}
-use Rattle.job_words.specs.Exprs.{Names}
-use Rattle.job_words.specs.Lines.{line_words}
+use Rattle.job_reader.specs.Words.{Words}
+use Rattle.job_reader.specs.Exprs.{Names}
+use Rattle.job_reader.specs.Lines.{line_words}
 use Rattle.job_reader.specs.declared.push.Writing.{Writing}
 
 -- the names by which a body's lines are written

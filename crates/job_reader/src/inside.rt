@@ -1,16 +1,16 @@
 //! A body that is open: its lines one by one.
 ghost use Rattle.std.specs.Prelude.{◌≡◌, ◌≤◌, ◌+◌, length, slice_get, IfOk, OnOk};
-ghost use Rattle.job_words.specs.Views.{lent};
-ghost use Rattle.job_words.specs.Lines as lines;
+ghost use Rattle.job_reader.specs.Views.{lent};
+ghost use Rattle.job_reader.specs.Lines as lines;
 ghost use Rattle.task_code.specs.Open.{step_of};
 ghost use Rattle.task_code.specs.Limits.{opened};
 ghost use Rattle.job_reader.specs.Above.{Inside, begun, can_else, belongs, statements_behind};
 ghost use Rattle.job_reader.specs.Reading as spec;
 ghost use Rattle.job_reader.specs.Relates.{IsInside, IsGrown};
 
-use job_words::exprs::Scope;
-use job_words::lines::{Keyword, line_behind};
-use job_words::mentions::note_behind;
+use crate::exprs::Scope;
+use crate::lines::{Keyword, line_behind};
+use crate::mentions::note_behind;
 use std::alloc::{AllocError, Global};
 use task_code::body::{MOST_LOCALS, MOST_OPEN, MOST_STATEMENTS};
 use task_code::builder::Builder;

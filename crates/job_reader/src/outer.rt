@@ -2,13 +2,13 @@
 ghost use Rattle.std.specs.Prelude.{◌≡◌, ◌≤◌, ◌∷◌, length, None, Some, IfOk, MatchOption};
 ghost use Rattle.job_reader.specs.Gives.{LineSays, joined};
 ghost use Rattle.text_lines.specs.Text.{words_of};
-ghost use Rattle.job_words.specs.Views.{lent};
+ghost use Rattle.job_reader.specs.Views.{lent};
 ghost use Rattle.job_reader.specs.Reading as spec;
 
 use crate::fault::LineFault;
-use job_words::faults::{both, earlier};
-use job_words::lines::body_at;
-use job_words::words::{is_word, named, numbered};
+use crate::faults::{both, earlier};
+use crate::lines::body_at;
+use crate::words::{is_word, named, numbered};
 use std::alloc::{AllocError, Global};
 use std::collections::HashSet;
 use task_code::job::{MOST_CELLS, Start};

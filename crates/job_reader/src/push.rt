@@ -1,8 +1,8 @@
 //! Lines of a body, written.
 ghost use Rattle.std.specs.Prelude.{◌≡◌, ◌++◌, ◌∷◌, [], OnOk, map, string_bytes};
-ghost use Rattle.job_words.specs.Words.{name_at, index_word};
-ghost use Rattle.job_words.specs.Exprs.{cell_word, operand_word, operator_word, expr_words};
-ghost use Rattle.job_words.specs.Lines.{kind_word, action_words, line_words};
+ghost use Rattle.job_reader.specs.Words.{name_at, index_word};
+ghost use Rattle.job_reader.specs.Exprs.{cell_word, operand_word, operator_word, expr_words};
+ghost use Rattle.job_reader.specs.Lines.{kind_word, action_words, line_words};
 ghost use Rattle.job_reader.specs.Grammar.{spaced, line_text, text_of};
 ghost use Rattle.job_reader.specs.Writing.{names_of, code_lines};
 

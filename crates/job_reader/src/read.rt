@@ -3,9 +3,9 @@ ghost use Rattle.std.specs.Prelude.{◌≡◌, ◌≤◌, ◌<◌, ◌+◌, ◌^
 ghost use Rattle.text_lines.specs.Limits.{most_bytes};
 ghost use Rattle.text_lines.specs.Text.{lines_of, words_of};
 ghost use Rattle.task_code.specs.Rules.{is_format};
-ghost use Rattle.job_words.specs.Words.{Word};
-ghost use Rattle.job_words.specs.Views.{lent};
-ghost use Rattle.job_words.specs.Trees.{job_tree};
+ghost use Rattle.job_reader.specs.Words.{Word};
+ghost use Rattle.job_reader.specs.Views.{lent};
+ghost use Rattle.job_reader.specs.Trees.{job_tree};
 ghost use Rattle.job_reader.specs.Above.{Above, nothing};
 ghost use Rattle.job_reader.specs.Begins.{has_header, BeginsWell};
 ghost use Rattle.job_reader.specs.Kept.{HasKept, HasEnd, SaysJobs};
@@ -18,7 +18,7 @@ use crate::fault::{LineFault, ReadJobFault};
 use crate::outer::{declared_by, format_of};
 use crate::so_far::SoFar;
 use crate::state::State;
-use job_words::words::{is_among, is_word};
+use crate::words::{is_among, is_word};
 use phase_records::MOST_BYTES;
 use std::alloc::{AllocError, Global};
 use task_code::job::{Job, MOST_BODIES};
@@ -177,7 +177,7 @@ fn split_header(text: &[u8]) -> Result<(u32, usize, &[u8]), Refusal>
 }
 
 /// Reads a text as a job, or returns its first refusal. The order is: `TooLong` above 1048576 bytes; the first byte
-/// that isn't allowed; the first line that is refused, by its first fault in the order of `job_words::faults`;
+/// that isn't allowed; the first line that is refused, by its first fault in the order of `crate::faults`;
 /// `Unclosed` if the text ends in a body; the first line that names a body that doesn't exist. Checks the length, the
 /// bytes and the header before it allocates.
 ///

@@ -2,8 +2,8 @@
 ghost use Rattle.std.specs.Prelude.{◌≡◌, ◌++◌, ◌∷◌, [], OnOk, IfOk, map, string_bytes, length};
 ghost use Rattle.std.specs.Fmt.{signed_decimal};
 ghost use Rattle.task_code.specs.Rules.{IsJob};
-ghost use Rattle.job_words.specs.Legal.{IsJobTree};
-ghost use Rattle.job_words.specs.Trees.{body_tree, job_tree};
+ghost use Rattle.job_reader.specs.Legal.{IsJobTree};
+ghost use Rattle.job_reader.specs.Trees.{body_tree, job_tree};
 ghost use Rattle.job_reader.specs.Grammar as spec;
 ghost use Rattle.job_reader.specs.Grammar.{spaced, line_text, text_of};
 ghost use Rattle.phase_records.specs.Written.{WritesText, WriteCause};
@@ -179,7 +179,7 @@ pub fn canonical(alloc: Global, job: &Job) -> Result<Vec<u8>, AllocError>
 /// in declared order, with single spaces, no comments and an LF after each line. Allocates before it writes the first
 /// byte. Fails with `Write` if the writer failed, after a beginning of the text. Each job is one of the grammar, so its
 /// text, if it isn't too long, is read as that job.
-#[tactic(auto, using(job_words::proofs::JobLemmas::jobs))]
+#[tactic(auto, using(crate::proofs::JobLemmas::jobs))]
 pub fn write_job<W: CountedWrite>(
     alloc: Global,
     job: &Job,

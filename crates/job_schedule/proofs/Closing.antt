@@ -13,17 +13,17 @@ use Rattle.tier_core.specs.Run.{after, answer_to}
 use Rattle.tier_core.proofs.Turns.{not_both}
 use Rattle.step_core.specs.Superstep.{superstep}
 use Rattle.programs.specs.Supersteps.{status, unless_ended, report_with, report_in}
-use Rattle.job_participants.specs.declared.stage.Mode.{Mode}
-use Rattle.job_participants.specs.declared.stage.Mode.TheVariants as mode
-use Rattle.job_participants.specs.declared.stage.Move.{Move}
-use Rattle.job_participants.specs.declared.stage.Move.TheVariants.{Takes, Delivers, Calls, Advances, Closes, Ends}
+use Rattle.job_schedule.specs.declared.stage.Mode.{Mode}
+use Rattle.job_schedule.specs.declared.stage.Mode.TheVariants as mode
+use Rattle.job_schedule.specs.declared.stage.Move.{Move}
+use Rattle.job_schedule.specs.declared.stage.Move.TheVariants.{Takes, Delivers, Calls, Advances, Closes, Ends}
 use Rattle.job_schedule.specs.declared.step.JobStep.{JobStep}
 use Rattle.job_schedule.specs.declared.step.JobStep.TheVariants.{Take, Deliver, Tree as TreeStep, Advance, Close}
 use Rattle.job_schedule.specs.AnswerValue.{AnswerValue, Took, Delivered, Stepped, Advanced, Closed, Finished, NotNow}
-use Rattle.job_participants.specs.declared.stage.Stage.{Stage}
-use Rattle.job_participants.specs.declared.stage.Stage.TheVariants.{Waits, Taken, Polling, Joining, Arriving, Leaving, Over}
-use Rattle.job_participants.specs.ParticipantValue.{ParticipantValue, participant_at, all_over}
-use Rattle.job_participants.specs.Moves.{by_stage, passing}
+use Rattle.job_schedule.specs.declared.stage.Stage.{Stage}
+use Rattle.job_schedule.specs.declared.stage.Stage.TheVariants.{Waits, Taken, Polling, Joining, Arriving, Leaving, Over}
+use Rattle.job_schedule.specs.ParticipantValue.{ParticipantValue, participant_at, all_over}
+use Rattle.job_schedule.specs.Moves.{by_stage, passing}
 use Rattle.job_schedule.specs.World.{World, called_by, advanced_by, ended_by, next_job, closed_as, done_by, kind_of, kind_for, if_asked, move_of, worker_of, step_of, answer_of, by_mode, by_hand, initial_world, reached}
 use Rattle.job_schedule.specs.Laws.{IsClosing, IsFinishing, RoundsAreClosedOnce}
 

@@ -22,14 +22,14 @@ use Rattle.step_core.specs.Superstep.{State, superstep, live_paths}
 use Rattle.step_core.specs.JobMeaning.{initial}
 use Rattle.programs.specs.Supersteps.{status, status_of, unless_ended, report_with, report_in}
 use Rattle.step_core.specs.OrderValue.{has_synced, spawned_paths}
-use Rattle.job_participants.specs.declared.stage.Mode.{Mode}
-use Rattle.job_participants.specs.declared.stage.Mode.TheVariants as mode
-use Rattle.job_participants.specs.declared.stage.Move.{Move}
-use Rattle.job_participants.specs.declared.stage.Move.TheVariants.{Takes, Delivers, Calls, Advances, Closes, Ends}
+use Rattle.job_schedule.specs.declared.stage.Mode.{Mode}
+use Rattle.job_schedule.specs.declared.stage.Mode.TheVariants as mode
+use Rattle.job_schedule.specs.declared.stage.Move.{Move}
+use Rattle.job_schedule.specs.declared.stage.Move.TheVariants.{Takes, Delivers, Calls, Advances, Closes, Ends}
 use Rattle.job_schedule.specs.declared.step.JobStep.{JobStep}
 use Rattle.job_schedule.specs.declared.step.JobStep.TheVariants.{Take, Deliver, Tree as TreeStep, Advance, Close}
 use Rattle.job_schedule.specs.AnswerValue.{AnswerValue, Stepped, Finished, NotNow}
-use Rattle.job_participants.specs.ParticipantValue.{participant_at, all_over}
+use Rattle.job_schedule.specs.ParticipantValue.{participant_at, all_over}
 use Rattle.job_schedule.specs.World.{World, with_start, with_starts, empty_world, initial_world, child_from, with_children, noted, deed_of, called_by, advanced_by, ended_by, next_job, mode_after, closed_as, done_by, kind_of, kind_for, if_asked, by_mode, move_of, worker_of, step_of, answer_of, world_after, answers, reached}
 use Rattle.job_schedule.specs.Laws.{is_tree_step, behind_the_end, has_faulted, end_of, FinishedIsTheEnd}
 use Rattle.job_schedule.proofs.Jobs.{children_keep, initial_job}

@@ -11,8 +11,8 @@ use Rattle.step_core.specs.Program.{program_of}
 use Rattle.step_core.specs.Superstep.{State, live_paths}
 use Rattle.step_core.specs.JobMeaning.{initial}
 use Rattle.step_core.specs.RoundValue.{RoundValue, Opens, state_of}
-use Rattle.job_participants.specs.declared.stage.Mode.TheVariants as mode
-use Rattle.job_participants.specs.ParticipantValue.{ParticipantValue, waiting}
+use Rattle.job_schedule.specs.declared.stage.Mode.TheVariants as mode
+use Rattle.job_schedule.specs.ParticipantValue.{ParticipantValue, waiting}
 use Rattle.tier_shape.specs.Preferred.{leaf_at}
 use Rattle.job_schedule.specs.World.{World, gone, joined_at, with_start, with_starts, plan_for, empty_world, initial_world}
 

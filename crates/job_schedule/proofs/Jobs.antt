@@ -16,11 +16,11 @@ use Rattle.step_core.specs.Superstep.{State, superstep, live_paths, job_says}
 use Rattle.step_core.specs.JobMeaning.{initial, so_far, report_of, starts}
 use Rattle.programs.specs.Supersteps.{status, unless_ended, report_with, report_in}
 use Rattle.programs.proofs.Runs.{ended_is_last}
-use Rattle.job_participants.specs.declared.stage.Move.{Move}
-use Rattle.job_participants.specs.declared.stage.Move.TheVariants.{Takes, Delivers, Calls, Advances, Closes, Ends}
+use Rattle.job_schedule.specs.declared.stage.Move.{Move}
+use Rattle.job_schedule.specs.declared.stage.Move.TheVariants.{Takes, Delivers, Calls, Advances, Closes, Ends}
 use Rattle.job_schedule.specs.declared.step.JobStep.{JobStep}
 use Rattle.job_schedule.specs.AnswerValue.{AnswerValue, Finished, NotNow}
-use Rattle.job_participants.specs.ParticipantValue.{participant_at}
+use Rattle.job_schedule.specs.ParticipantValue.{participant_at}
 use Rattle.job_schedule.specs.World.{World, with_starts, with_start, empty_world, initial_world, child_from, with_children, noted, deed_of, called_by, advanced_by, ended_by, next_job, closed_as, done_by, kind_of, kind_for, if_asked, move_of, worker_of, step_of, world_after, answer_of, answers, reached}
 use Rattle.job_schedule.specs.Laws.{FinishedTellsTheJob}
 

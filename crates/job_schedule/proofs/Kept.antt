@@ -28,14 +28,14 @@ use Rattle.step_core.specs.Slots.{slots_of, with_segment, first_missing, or_miss
 use Rattle.step_core.specs.RoundValue.{RoundValue, AllFresh, IsRound, Opens, state_of, slots_in, status_in}
 use Rattle.step_core.specs.Taking.{IsFor, is_done, is_live}
 use Rattle.step_core.proofs.Apart.{reached_rises}
-use Rattle.job_participants.specs.declared.stage.Mode.TheVariants as mode
-use Rattle.job_participants.specs.declared.stage.Stage.{Stage}
-use Rattle.job_participants.specs.declared.stage.Stage.TheVariants.{Waits, Taken, Polling, Joining, Arriving, Leaving, Over}
-use Rattle.job_participants.specs.ParticipantValue.{ParticipantValue, no_participant, participant_at, participant_path, is_delivered, all_over, is_done as is_over_by, is_refused, next_stage, sent_home, answered, arriving, joining}
+use Rattle.job_schedule.specs.declared.stage.Mode.TheVariants as mode
+use Rattle.job_schedule.specs.declared.stage.Stage.{Stage}
+use Rattle.job_schedule.specs.declared.stage.Stage.TheVariants.{Waits, Taken, Polling, Joining, Arriving, Leaving, Over}
+use Rattle.job_schedule.specs.ParticipantValue.{ParticipantValue, no_participant, participant_at, participant_path, is_delivered, all_over, is_done as is_over_by, is_refused, next_stage, sent_home, answered, arriving, joining}
 use Rattle.job_schedule.specs.declared.step.JobStep.{JobStep}
 use Rattle.job_schedule.specs.Laws.{IsStanding}
 use Rattle.job_schedule.specs.World.{World, has_advanced, took, with_child, child_from, with_children, noted, called_by, advanced_by, ended_by, closed_as, mode_after, initial_world, empty_world, reached, world_after}
-use Rattle.job_participants.specs.Moves.{at_stage}
+use Rattle.job_schedule.specs.Moves.{at_stage}
 use Rattle.job_schedule.specs.Parts.{IsAsBefore, IsKept, IsNext, IsReached, IsTaken, IsWanted}
 use Rattle.job_schedule.proofs.Deeds.{as_before, not_itself}
 use Rattle.job_schedule.proofs.Jobs.{run_is_of, initial_is_of}

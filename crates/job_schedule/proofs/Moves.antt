@@ -3,14 +3,14 @@ use Rattle.std.proofs.Common.{◌≡◌, ℕ, zero, suc, ◌<◌, ◌≤◌, Boo
 use Rattle.std.specs.Prelude.{nat_lt, if◌then◌else◌, ◌==◌, ◌&&◌, slice_index_or, is_some}
 use Rattle.programs.specs.Supersteps.{status}
 use Rattle.std.proofs.lemmas.Bool.{ltb-true, ltb-false}
-use Rattle.job_participants.specs.declared.stage.Mode.{Mode}
-use Rattle.job_participants.specs.declared.stage.Mode.TheVariants as mode
-use Rattle.job_participants.specs.declared.stage.Move.{Move}
-use Rattle.job_participants.specs.declared.stage.Move.TheVariants.{Takes, Closes, Ends}
-use Rattle.job_participants.specs.declared.stage.Stage.{Stage}
-use Rattle.job_participants.specs.declared.stage.Stage.TheVariants.{Waits, Taken, Polling, Joining, Arriving, Leaving, Over}
-use Rattle.job_participants.specs.ParticipantValue.{ParticipantValue, no_participant, participant_at, all_over, is_delivered}
-use Rattle.job_participants.specs.Moves.{passing, by_stage, kind_for, asked}
+use Rattle.job_schedule.specs.declared.stage.Mode.{Mode}
+use Rattle.job_schedule.specs.declared.stage.Mode.TheVariants as mode
+use Rattle.job_schedule.specs.declared.stage.Move.{Move}
+use Rattle.job_schedule.specs.declared.stage.Move.TheVariants.{Takes, Closes, Ends}
+use Rattle.job_schedule.specs.declared.stage.Stage.{Stage}
+use Rattle.job_schedule.specs.declared.stage.Stage.TheVariants.{Waits, Taken, Polling, Joining, Arriving, Leaving, Over}
+use Rattle.job_schedule.specs.ParticipantValue.{ParticipantValue, no_participant, participant_at, all_over, is_delivered}
+use Rattle.job_schedule.specs.Moves.{passing, by_stage, kind_for, asked}
 use Rattle.job_schedule.specs.declared.step.JobStep.{JobStep}
 use Rattle.job_schedule.specs.AnswerValue.{NotNow}
 use Rattle.job_schedule.specs.World.{World, by_participant, by_hand, by_mode, move_of, kind_of, worker_of, done_by, if_asked, step_of}

@@ -14,9 +14,9 @@ use Rattle.step_core.specs.Superstep.{segments}
 use Rattle.step_core.specs.OrderValue.{has_synced, spawned_paths}
 use Rattle.step_core.specs.Laws.{paths_on, synced_path}
 use Rattle.superstep_memory.proofs.InOrder.{put_all_mapped}
-use Rattle.job_participants.specs.declared.stage.Stage.{Stage}
-use Rattle.job_participants.specs.declared.stage.Stage.TheVariants.{Waits, Taken, Polling, Joining, Arriving, Leaving, Over}
-use Rattle.job_participants.specs.ParticipantValue.{ChildValue, ParticipantValue, participant_at, participant_path, child_path, waiting, own_participant, child_participant, living_participants, next_participants, is_over, all_over, is_delivered}
+use Rattle.job_schedule.specs.declared.stage.Stage.{Stage}
+use Rattle.job_schedule.specs.declared.stage.Stage.TheVariants.{Waits, Taken, Polling, Joining, Arriving, Leaving, Over}
+use Rattle.job_schedule.specs.ParticipantValue.{ChildValue, ParticipantValue, participant_at, participant_path, child_path, waiting, own_participant, child_participant, living_participants, next_participants, is_over, all_over, is_delivered}
 use Rattle.job_schedule.specs.World.{deed_in}
 use Rattle.job_schedule.proofs.Deeds.{not_itself}
 

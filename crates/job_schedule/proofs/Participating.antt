@@ -1,7 +1,7 @@
 -- The next participants, from the last to the first.
 use Rattle.std.proofs.Common.{◌≡◌, List, [], ◌∷◌, ◌++◌, map, sym, ap, ◌∙◌, append_assoc, append-nil}
 use Rattle.std.proofs.lemmas.List.{map-append}
-use Rattle.job_participants.specs.ParticipantValue.{ChildValue, ParticipantValue, own_participant, child_participant, living_participants}
+use Rattle.job_schedule.specs.ParticipantValue.{ChildValue, ParticipantValue, own_participant, child_participant, living_participants}
 
 pub children_last : (ks front : List ChildValue) (k : ChildValue) → ks ≡ front ++ k ∷ []
     → map child_participant ks ≡ map child_participant front ++ child_participant k ∷ []

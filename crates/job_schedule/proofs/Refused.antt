@@ -23,11 +23,11 @@ use Rattle.step_core.specs.Superstep.{live_paths}
 use Rattle.step_core.specs.JobMeaning.{initial}
 use Rattle.programs.specs.Supersteps.{report_in}
 use Rattle.step_core.specs.OrderValue.{has_synced, spawned_paths}
-use Rattle.job_participants.specs.declared.stage.Move.{Move}
-use Rattle.job_participants.specs.declared.stage.Move.TheVariants.{Takes, Delivers, Calls, Advances, Closes, Ends}
+use Rattle.job_schedule.specs.declared.stage.Move.{Move}
+use Rattle.job_schedule.specs.declared.stage.Move.TheVariants.{Takes, Delivers, Calls, Advances, Closes, Ends}
 use Rattle.job_schedule.specs.declared.step.JobStep.{JobStep}
 use Rattle.job_schedule.specs.AnswerValue.{NotNow}
-use Rattle.job_participants.specs.ParticipantValue.{participant_at}
+use Rattle.job_schedule.specs.ParticipantValue.{participant_at}
 use Rattle.tier_shape.specs.Preferred.{leaf_at}
 use Rattle.job_schedule.specs.World.{World, gone, joined_at, plan_for, empty_world, initial_world, with_start, with_starts, child_from, with_children, noted, deed_of, called_by, advanced_by, ended_by, next_job, closed_as, done_by, kind_of, kind_for, if_asked, move_of, worker_of, answer_of, world_after, reached}
 use Rattle.job_schedule.specs.Parts.{IsAllowed}

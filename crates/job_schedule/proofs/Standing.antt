@@ -21,17 +21,17 @@ use Rattle.programs.specs.Supersteps.{status, report_with, report_in}
 use Rattle.step_core.specs.OrderValue.{has_synced, spawned_paths}
 use Rattle.step_core.proofs.Apart.{live-paths-rise}
 use Rattle.step_core.proofs.LawProofs.{next-live-synced-or-spawned}
-use Rattle.job_participants.specs.declared.stage.Mode.{Mode}
-use Rattle.job_participants.specs.declared.stage.Mode.TheVariants as mode
-use Rattle.job_participants.specs.declared.stage.Move.{Move}
-use Rattle.job_participants.specs.declared.stage.Move.TheVariants.{Takes, Delivers, Calls, Advances, Closes, Ends}
+use Rattle.job_schedule.specs.declared.stage.Mode.{Mode}
+use Rattle.job_schedule.specs.declared.stage.Mode.TheVariants as mode
+use Rattle.job_schedule.specs.declared.stage.Move.{Move}
+use Rattle.job_schedule.specs.declared.stage.Move.TheVariants.{Takes, Delivers, Calls, Advances, Closes, Ends}
 use Rattle.job_schedule.specs.declared.step.JobStep.{JobStep}
 use Rattle.job_schedule.specs.AnswerValue.{NotNow}
-use Rattle.job_participants.specs.declared.stage.Stage.{Stage}
-use Rattle.job_participants.specs.declared.stage.Stage.TheVariants.{Waits, Taken, Polling, Joining, Arriving, Leaving, Over}
-use Rattle.job_participants.specs.ParticipantValue.{ParticipantValue, waiting, no_participant, no_child, participant_at, participant_path, child_path, child_at, is_done, is_refused, next_stage, sent_home, answered, next_participants, all_over, is_delivered}
+use Rattle.job_schedule.specs.declared.stage.Stage.{Stage}
+use Rattle.job_schedule.specs.declared.stage.Stage.TheVariants.{Waits, Taken, Polling, Joining, Arriving, Leaving, Over}
+use Rattle.job_schedule.specs.ParticipantValue.{ParticipantValue, waiting, no_participant, no_child, participant_at, participant_path, child_path, child_at, is_done, is_refused, next_stage, sent_home, answered, next_participants, all_over, is_delivered}
 use Rattle.tier_shape.specs.Preferred.{leaf_at}
-use Rattle.job_participants.specs.Moves.{at_stage, by_stage, passing}
+use Rattle.job_schedule.specs.Moves.{at_stage, by_stage, passing}
 use Rattle.job_schedule.specs.World.{World, deed_in, deed_of, with_participant, with_child, child_from, with_children, noted, handed_in, called_by, advanced_by, ended_by, next_job, closed_as, done_by, kind_of, kind_for, if_asked, move_of, worker_of, world_after, reached, by_mode, by_hand, with_start, with_starts, empty_world, initial_world}
 use Rattle.job_schedule.specs.Laws.{ParticipantsAreTheLiveTasks}
 use Rattle.job_schedule.proofs.Participants.{Notes, map_set, all_delivered, living_paths, next_paths, next_fresh}

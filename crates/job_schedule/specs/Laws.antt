@@ -12,10 +12,10 @@ use Rattle.step_core.specs.Superstep.{superstep, live_paths}
 use Rattle.step_core.specs.OrderValue.{has_synced, spawned_paths}
 use Rattle.step_core.specs.JobMeaning.{report_of}
 use Rattle.programs.specs.Supersteps.{status}
-use Rattle.job_participants.specs.declared.stage.Mode.TheVariants as mode
+use Rattle.job_schedule.specs.declared.stage.Mode.TheVariants as mode
 use Rattle.job_schedule.specs.declared.step.JobStep.{JobStep}
 use Rattle.job_schedule.specs.declared.step.JobStep.TheVariants.{Take, Deliver, Tree as TreeStep, Advance, Close}
-use Rattle.job_participants.specs.ParticipantValue.{ParticipantValue, all_over, is_delivered, child_path, participant_path, participant_at}
+use Rattle.job_schedule.specs.ParticipantValue.{ParticipantValue, all_over, is_delivered, child_path, participant_path, participant_at}
 use Rattle.job_schedule.specs.AnswerValue.{AnswerValue, Stepped, Closed, Finished, NotNow}
 use Rattle.job_schedule.specs.World.{World, deed_of, initial_world, worker_of, next_job, answer_of, answers, world_after, reached}
 

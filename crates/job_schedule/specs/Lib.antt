@@ -1,3 +1,5 @@
+pub mod ParticipantValue
+pub mod Moves
 pub mod AnswerValue
 pub mod World
 pub mod Parts

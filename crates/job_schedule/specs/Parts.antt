@@ -11,11 +11,11 @@ use Rattle.step_core.specs.Taking.{Takes as IsTakenBy, IsFor, is_done, is_live, 
 use Rattle.task_lang.specs.Meaning.{Segment}
 use Rattle.step_core.specs.Superstep.{segments}
 use Rattle.job_schedule.specs.declared.schedule.Schedule.{Schedule}
-use Rattle.job_participants.specs.declared.stage.Mode.TheVariants.{Runs}
-use Rattle.job_participants.specs.declared.stage.Stage.TheVariants.{Taken, Waits}
-use Rattle.job_participants.specs.ParticipantValue.{all_over, is_delivered, participant_at}
-use Rattle.job_participants.specs.declared.stage.Move.{Move}
-use Rattle.job_participants.specs.declared.stage.Move.TheVariants.{Takes, Delivers, Calls, Advances, Closes, Ends}
+use Rattle.job_schedule.specs.declared.stage.Mode.TheVariants.{Runs}
+use Rattle.job_schedule.specs.declared.stage.Stage.TheVariants.{Taken, Waits}
+use Rattle.job_schedule.specs.ParticipantValue.{all_over, is_delivered, participant_at}
+use Rattle.job_schedule.specs.declared.stage.Move.{Move}
+use Rattle.job_schedule.specs.declared.stage.Move.TheVariants.{Takes, Delivers, Calls, Advances, Closes, Ends}
 use Rattle.job_schedule.specs.declared.step.JobStep.{JobStep}
 use Rattle.job_schedule.specs.World.{World, deed_in, initial_world, reached}
 

@@ -18,18 +18,18 @@ use Rattle.step_core.specs.Superstep.{State, segments, superstep, live_paths}
 use Rattle.step_core.specs.JobMeaning.{initial}
 use Rattle.programs.specs.Supersteps.{status, unless_ended, report_in}
 use Rattle.step_core.specs.OrderValue.{has_synced, spawned_paths}
-use Rattle.job_participants.specs.declared.stage.Mode.{Mode}
-use Rattle.job_participants.specs.declared.stage.Mode.TheVariants as mode
-use Rattle.job_participants.specs.declared.stage.Move.{Move}
-pub use Rattle.job_participants.specs.declared.stage.Move.TheVariants.{Takes, Delivers, Calls, Advances, Closes, Ends}
+use Rattle.job_schedule.specs.declared.stage.Mode.{Mode}
+use Rattle.job_schedule.specs.declared.stage.Mode.TheVariants as mode
+use Rattle.job_schedule.specs.declared.stage.Move.{Move}
+pub use Rattle.job_schedule.specs.declared.stage.Move.TheVariants.{Takes, Delivers, Calls, Advances, Closes, Ends}
 use Rattle.tier_shape.specs.Preferred.{leaf_at, preferred}
-use Rattle.job_participants.specs.Moves.{by_stage, at_stage}
-pub use Rattle.job_participants.specs.Moves.{kind_for}
+use Rattle.job_schedule.specs.Moves.{by_stage, at_stage}
+pub use Rattle.job_schedule.specs.Moves.{kind_for}
 use Rattle.job_schedule.specs.declared.step.JobStep.{JobStep}
 use Rattle.job_schedule.specs.declared.step.JobStep.TheVariants.{Take, Deliver, Tree as TreeStep, Advance, Close}
-use Rattle.job_participants.specs.declared.stage.Stage.{Stage}
-use Rattle.job_participants.specs.declared.stage.Stage.TheVariants.{Taken, Polling, Over}
-use Rattle.job_participants.specs.ParticipantValue.{ParticipantValue, waiting, participant_at, is_over, all_over, answered, next_participants, freed}
+use Rattle.job_schedule.specs.declared.stage.Stage.{Stage}
+use Rattle.job_schedule.specs.declared.stage.Stage.TheVariants.{Taken, Polling, Over}
+use Rattle.job_schedule.specs.ParticipantValue.{ParticipantValue, waiting, participant_at, is_over, all_over, answered, next_participants, freed}
 use Rattle.job_schedule.specs.AnswerValue.{AnswerValue, Took, Delivered, Stepped, Advanced, Closed, Finished, NotNow}
 
 pub record World : Type 0 where

@@ -1,5 +1,7 @@
 //! A job on a tree of phasers, worked at by numbered workers in any order.
 //!
+//! * [`participant`]: a live task as a participant of the tree, its calls there, and how their answers change it.
+//! * [`stage`]: how far a participant has come, and the moves of workers.
 //! * [`step`]: what a worker does in one step, and what that answers.
 //! * [`drive`]: a job by a list of steps.
 //!
@@ -7,7 +9,7 @@
 //!
 //! * `hands.rt`: which task each worker has; `next.rt`: the next participants in path order; `step.rt`: steps and
 //!   answers; `rounds.rt`: what the round takes; `schedule.rt`: the world in code and its moves; `drive.rt`: a list of
-//!   steps; `laws.rt`: the laws. The participants and moves are those of `job_participants`.
+//!   steps; `laws.rt`: the laws.
 //! * `proofs/Jobs.antt`: that the job of a world is that of its supersteps so far; `Closing.antt`: who closes a
 //!   round; `Ending.antt`: what comes after the end; `Kept.antt`: which segments the round has by the stages of the
 //!   participants; `Deeds.antt`: that what is delivered for a path is what its task does.
@@ -17,8 +19,8 @@ pub mod drive;
 mod hands;
 pub mod laws;
 mod next;
+pub mod participant;
 mod rounds;
 mod schedule;
+pub mod stage;
 pub mod step;
-
-pub use job_participants::{participant, stage};

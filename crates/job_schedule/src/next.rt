@@ -2,9 +2,9 @@
 ghost use Rattle.std.specs.Prelude.{◌≡◌, ◌≤◌, ◌++◌, [], OnOk, IfOk, map, length, reverse};
 ghost use Rattle.std.specs.List.{insert};
 ghost use Rattle.superstep_memory.specs.PathOrder.{put_in, put_all, in_path_order};
-ghost use Rattle.job_participants.specs.ParticipantValue.{ParticipantValue, participant_path, own_participant, child_participant, living_participants, next_participants, freed};
+ghost use Rattle.job_schedule.specs.ParticipantValue.{ParticipantValue, participant_path, own_participant, child_participant, living_participants, next_participants, freed};
 
-use job_participants::participant::{Child, Participant};
+use crate::participant::{Child, Participant};
 use std::alloc::{AllocError, Global};
 use superstep_memory::path::is_before;
 

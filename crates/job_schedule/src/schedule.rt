@@ -7,11 +7,11 @@ ghost use Rattle.job_schedule.specs.World.{plan_for, taking, mode_after, gone};
 
 use crate::hands::{empty_hands, hand_of, set_hand};
 use crate::next::{free_tokens, next_participants};
+use crate::participant::{Child, Participant, all_over, copy_path, is_over};
 use crate::rounds::{close_round, hand_in};
+use crate::stage::{Mode, Move, Stage, asked};
 use crate::step::{Answer, JobStep};
 use advance_rule::EndPlan;
-use job_participants::participant::{Child, Participant, all_over, copy_path, is_over};
-use job_participants::stage::{Mode, Move, Stage, asked};
 use phase_records::JobStatus;
 use std::alloc::{AllocError, Global};
 use step_core::Round;
@@ -93,7 +93,7 @@ impl<'j> Schedule<'j> {
     ghost use Rattle.step_core.specs.Superstep.{live_paths};
     ghost use Rattle.job_schedule.specs.AnswerValue.{answer_seen};
     ghost use Rattle.job_schedule.specs.Parts.{path_items, world_of};
-    ghost use Rattle.job_participants.specs.ParticipantValue.{participant_at};
+    ghost use Rattle.job_schedule.specs.ParticipantValue.{participant_at};
     ghost use Rattle.job_schedule.specs.World as spec;
     ghost use Rattle.job_schedule.specs.World.{
       initial_world,
@@ -110,7 +110,7 @@ impl<'j> Schedule<'j> {
       stepped,
       renewed,
     };
-    ghost use Rattle.job_participants.specs.ParticipantValue.{answered};
+    ghost use Rattle.job_schedule.specs.ParticipantValue.{answered};
     ghost use Rattle.job_schedule.specs.Parts.{IsAllowed, IsKept, IsNext, IsReached, IsTaken, IsWanted};
     ghost use Rattle.job_schedule.specs.Laws.{IsStanding};
     ghost use Rattle.step_core.specs.Slots.{first_missing};

@@ -8,17 +8,17 @@ use Rattle.task_code.specs.JobValue.{JobValue}
 use Rattle.task_lang.specs.TaskValue.{TaskValue}
 use Rattle.task_lang.specs.Views.{plans, task_of}
 use Rattle.task_lang.specs.Meaning as job
-use Rattle.job_program.specs.Program.{Program, program_of}
+use Rattle.step_core.specs.Program.{Program, program_of}
 use Rattle.programs.specs.Supersteps as gm
 use Rattle.programs.specs.History.{Entry, says_by, IsEntered, HasRun, living_after}
 use Rattle.programs.proofs.Exactly.{so_far_same}
 use Rattle.programs.proofs.Histories.{so_far_shorter}
 use Rattle.programs.proofs.Runs.{ends_in_time}
-use Rattle.job_program.specs.declared.job.JobProgram.{JobProgram}
-use Rattle.job_program.specs.JobTasks.{JobMay}
-use Rattle.job_program.specs.Superstep.{State, job_frame, job_says}
-use Rattle.job_program.specs.JobMeaning.{so_far, starts}
-use Rattle.job_program.proofs.Starts.{starts_begin, job_report}
+use Rattle.step_core.specs.declared.job.JobProgram.{JobProgram}
+use Rattle.step_core.specs.JobTasks.{JobMay}
+use Rattle.step_core.specs.Superstep.{State, job_frame, job_says}
+use Rattle.step_core.specs.JobMeaning.{so_far, starts}
+use Rattle.step_core.proofs.Starts.{starts_begin, job_report}
 use Rattle.program_stretches.specs.SuperstepStart.{SuperstepStartValue, live_of}
 use Rattle.program_stretches.specs.LinesValue.{LinesValue}
 use Rattle.program_stretches.specs.Reached.{IsReached, HasRunOn}

@@ -12,10 +12,10 @@ use Rattle.programs.specs.Supersteps.{status}
 use Rattle.programs.specs.Steps.{ended, left_by}
 use Rattle.programs.proofs.Stepped.{prints_taken, records_taken, so_far_ended, so_far_reported}
 use Rattle.programs.proofs.Runs.{ends_in_time}
-use Rattle.job_program.specs.Program.{Program, program_of}
-use Rattle.job_program.specs.Superstep.{State, job_says}
-use Rattle.job_program.specs.JobMeaning.{so_far, starts, report_of}
-use Rattle.job_program.specs.JobRun.{JobRunValue, IsAfter, state_after}
+use Rattle.step_core.specs.Program.{Program, program_of}
+use Rattle.step_core.specs.Superstep.{State, job_says}
+use Rattle.step_core.specs.JobMeaning.{so_far, starts, report_of}
+use Rattle.step_core.specs.JobRun.{JobRunValue, IsAfter, state_after}
 use Rattle.job_stream.specs.Running.{IsWritten}
 use Rattle.job_stream.specs.Streamed.{IsPiece, IsRest}
 

@@ -10,10 +10,10 @@ use Rattle.phase_records.specs.ReportText.{steps_text, report_text}
 use Rattle.phase_records.specs.declared.record.JobStatus.{JobStatus}
 use Rattle.task_code.specs.JobValue.{JobValue}
 use Rattle.task_lang.specs.TaskValue.{TaskValue}
-use Rattle.job_program.specs.Program.{Program, program_of}
-use Rattle.job_program.specs.declared.job.JobProgram.{JobProgram}
+use Rattle.step_core.specs.Program.{Program, program_of}
+use Rattle.step_core.specs.declared.job.JobProgram.{JobProgram}
 use Rattle.program_stretches.specs.SuperstepStart.{SuperstepStartValue}
-use Rattle.stretch_parts.specs.Parts.{Reading}
+use Rattle.program_stretches.specs.Parts.{Reading}
 use Rattle.program_stretches.specs.LinesValue.{LinesValue}
 use Rattle.program_stretches.specs.StretchesValue.{StretchesValue}
 use Rattle.program_stretches.specs.Closing.{IsGiven}

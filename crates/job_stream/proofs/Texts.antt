@@ -11,10 +11,10 @@ use Rattle.phase_records.specs.Status.{Status}
 use Rattle.phase_records.specs.ReportText.{print_line, record_line, array_line, status_line, front_of, rest_of, steps_text, report_text}
 use Rattle.phase_records.specs.ReportLaws.{AreFrom, AreWithin}
 use Rattle.task_lang.specs.Meaning.{Segment}
-use Rattle.job_program.specs.Program.{Program}
-use Rattle.job_program.specs.Superstep.{State, superstep, segments, fault_in, closed, job_says}
+use Rattle.step_core.specs.Program.{Program}
+use Rattle.step_core.specs.Superstep.{State, superstep, segments, fault_in, closed, job_says}
 use Rattle.programs.specs.Superstep.{prints_of, print_of, record_of}
-use Rattle.job_program.specs.JobMeaning.{so_far, report_of, starts}
+use Rattle.step_core.specs.JobMeaning.{so_far, report_of, starts}
 use Rattle.programs.specs.Supersteps.{status, unless_ended, report_with}
 use Rattle.programs.proofs.Runs.{ended_stays, ends_in_time}
 use Rattle.job_stream.specs.Streamed.{lines_of, IsRest}

@@ -4,17 +4,17 @@ use Rattle.ghost_lists.specs.Agreed.{WasBefore}
 use Rattle.task_code.specs.JobValue.{JobValue}
 use Rattle.task_lang.specs.TaskValue.{TaskValue}
 use Rattle.task_lang.specs.Views.{plans, task_of}
-use Rattle.job_program.specs.JobMeaning.{start_tasks}
-use Rattle.job_program.specs.SlotParts.{path_in}
+use Rattle.step_core.specs.JobMeaning.{start_tasks}
+use Rattle.step_core.specs.SlotParts.{path_in}
 use Rattle.task_lang.specs.Meaning.{Task}
-use Rattle.job_program.specs.declared.job.JobProgram.{JobProgram}
-use Rattle.job_program.specs.Superstep.{job_frame}
-use Rattle.job_program.specs.JobTasks.{JobMay}
-use Rattle.job_program.specs.JobRun.{JobRunValue, IsAfter}
+use Rattle.step_core.specs.declared.job.JobProgram.{JobProgram}
+use Rattle.step_core.specs.Superstep.{job_frame}
+use Rattle.step_core.specs.JobTasks.{JobMay}
+use Rattle.step_core.specs.JobRun.{JobRunValue, IsAfter}
 use Rattle.phase_records.specs.PrintValue.{PrintValue}
 use Rattle.phase_records.specs.declared.record.PhaseRecord.{PhaseRecord}
 use Rattle.program_stretches.specs.SuperstepStart.{SuperstepStartValue, live_of}
-use Rattle.stretch_parts.specs.Parts.{Reading, reading_of}
+use Rattle.program_stretches.specs.Parts.{Reading, reading_of}
 use Rattle.program_stretches.specs.LinesValue.{LinesValue}
 use Rattle.program_stretches.specs.StretchesValue.{StretchesValue}
 use Rattle.program_stretches.specs.Closing.{IsGiven}

@@ -6,8 +6,8 @@ use Rattle.phase_records.specs.ReportValue.{ReportValue}
 use Rattle.phase_records.specs.ReportText.{steps_text, report_text}
 use Rattle.phase_records.specs.StatusSeen.{status_seen}
 use Rattle.phase_records.specs.declared.record.JobStatus.{JobStatus}
-use Rattle.job_program.specs.Program.{Program}
-use Rattle.job_program.specs.JobMeaning.{so_far, report_of}
+use Rattle.step_core.specs.Program.{Program}
+use Rattle.step_core.specs.JobMeaning.{so_far, report_of}
 use Rattle.program_stretches.specs.LinesValue.{LinesValue}
 use Rattle.job_stream.specs.declared.fault.StreamFault.{StreamFault}
 use Rattle.job_stream.specs.declared.fault.StreamFault.TheVariants.{Write, Memory, Internal}

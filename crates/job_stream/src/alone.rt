@@ -3,15 +3,15 @@ ghost use Rattle.std.specs.Prelude.{◌≡◌, ◌≤◌, ◌<◌, ◌+◌, true
 ghost use Rattle.job_stream.specs.Streamed.{Streams, Continues, Ends, Closes, IsRest, IsNoWrite, StreamCause};
 ghost use Rattle.job_stream.specs.Running.{IsRunOf, IsWritten, job_reading};
 ghost use Rattle.programs.specs.Supersteps.{status as status_in};
-ghost use Rattle.job_program.specs.JobMeaning.{so_far};
+ghost use Rattle.step_core.specs.JobMeaning.{so_far};
 ghost use Rattle.phase_records.specs.StatusSeen.{status_seen};
 ghost use Rattle.program_stretches.specs.Closing.{HasLeft};
-ghost use Rattle.job_program.specs.Program.{program_of};
+ghost use Rattle.step_core.specs.Program.{program_of};
 
 use crate::fault::StreamFault;
 use crate::text::{write_lines, write_rest};
 use ghost_lists::log::{Log, Snapshot};
-use job_program::{JobProgram, JobSteps};
+use step_core::{JobProgram, JobSteps};
 use phase_records::{CountedWrite, JobStatus, Report};
 use program_stretches::{Left, Lines, SuperstepStart};
 use programs::alone::Ran;

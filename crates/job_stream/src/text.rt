@@ -2,7 +2,7 @@
 ghost use Rattle.std.specs.Prelude.{◌≡◌, ◌≤◌, ◌++◌, codes, IfOk};
 ghost use Rattle.phase_records.specs.ReportText.{steps_text, report_text};
 ghost use Rattle.job_stream.specs.Streamed.{IsPiece, Continues, WritesWhole, StreamCause};
-ghost use Rattle.job_program.specs.Program.{program_of};
+ghost use Rattle.step_core.specs.Program.{program_of};
 
 use crate::fault::StreamFault;
 use phase_records::{

@@ -1,3 +1,10 @@
+pub mod Behind
+pub mod Boards
+pub mod Escapes
+pub mod Joins
+pub mod Strips
+pub mod Viewing
+pub mod Working
 pub mod JsonJoined
 pub mod JsonMembers
 pub mod JsonWorking

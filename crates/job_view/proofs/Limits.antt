@@ -6,8 +6,8 @@ use Rattle.phase_records.specs.Status.{Status, Limit}
 use Rattle.programs.specs.Meaning.{Segment, Says}
 use Rattle.programs.specs.Superstep.{State, superstep, closed, segments, fault_in}
 use Rattle.programs.specs.Supersteps.{so_far, status, status_of, unless_ended, report_with}
-use Rattle.job_program.specs.JobMeaning as job
-use Rattle.job_program.specs.Superstep.{job_says}
+use Rattle.step_core.specs.JobMeaning as job
+use Rattle.step_core.specs.Superstep.{job_says}
 use Rattle.job_view.specs.Look.{named}
 use Rattle.job_view.specs.Laws.{RowsAreOfRuns}
 use Rattle.job_view.specs.Rows.{cells_or_none}

@@ -2,7 +2,7 @@
 use Rattle.std.proofs.Common.{◌≡◌, ℕ, zero, suc, ◌+◌, ◌-◌, ◌<◌, List, [], ◌∷◌, ◌++◌, drop, map, Bool, true, false, Option, Some, None, Result, Ok, Err, refl, sym, ap, ◌∙◌, append_assoc, add-one, arith}
 use Rattle.std.specs.Prelude.{slice_get, ℤ, if◌then◌else◌, OnOk}
 use Rattle.std.specs.Str.{bytes_eq}
-use Rattle.job_picture.specs.Views.{View}
+use Rattle.job_view.specs.Views.{View}
 use Rattle.job_view.specs.Look.{cells_if, named}
 
 abbrev pub Arrays : Type 0

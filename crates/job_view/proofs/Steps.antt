@@ -2,11 +2,11 @@
 use Rattle.std.proofs.Common.{◌≡◌, ℕ, suc, ◌+◌, ◌-◌, ◌*◌, ◌≤◌, List, [], ◌++◌, subst, sym, ap, ◌∙◌, arith}
 use Rattle.std.specs.Prelude.{ℤ}
 use Rattle.std.proofs.Math.Nat.{mul-suc}
-use Rattle.job_program.specs.JobMeaning.{so_far}
-use Rattle.job_program.specs.Program.{program_of}
-use Rattle.job_program.specs.Superstep.{State}
+use Rattle.step_core.specs.JobMeaning.{so_far}
+use Rattle.step_core.specs.Program.{program_of}
+use Rattle.step_core.specs.Superstep.{State}
 use Rattle.task_code.specs.JobValue.{JobValue}
-use Rattle.job_program.specs.JobRun.{JobRunValue, HasReached, IsAfter, IsLater}
+use Rattle.step_core.specs.JobRun.{JobRunValue, HasReached, IsAfter, IsLater}
 use Rattle.job_view.specs.Look.{named}
 use Rattle.job_view.specs.Rows.{cells_or_none, rows}
 

@@ -1,7 +1,7 @@
 -- The picture of a job as it is asked for (own).
 use Rattle.std.specs.Prelude.{ℕ, ℤ, List, map, length}
 use Rattle.phase_records.specs.ReportValue.{ReportValue}
-use Rattle.job_program.specs.Program.{Program}
+use Rattle.step_core.specs.Program.{Program}
 use Rattle.job_view.specs.Look.{LookValue, every_of, looked, row_count}
 use Rattle.job_view.specs.Words.{words_in}
 use Rattle.job_view.specs.Rows.{rows}

@@ -1,8 +1,8 @@
 -- What rows are of a job's runs (own).
 use Rattle.std.specs.Prelude.{◌≡◌, ◌≤◌, ℕ, List, Some}
 use Rattle.phase_records.specs.ReportValue.{ReportValue}
-use Rattle.job_program.specs.JobMeaning.{report_of}
-use Rattle.job_program.specs.Program.{Program}
+use Rattle.step_core.specs.JobMeaning.{report_of}
+use Rattle.step_core.specs.Program.{Program}
 use Rattle.job_view.specs.Look.{named}
 use Rattle.job_view.specs.Rows.{cells_or_none, row_at}
 

@@ -1,3 +1,13 @@
+pub mod Axes
+pub mod Cells
+pub mod Columns
+pub mod Grids
+pub mod Panels
+pub mod Picture
+pub mod Texts
+pub mod Views
+pub mod WorkedPictures
+pub mod WorkedPanels
 pub mod Drawing
 pub mod JsonLaws
 pub mod Laws

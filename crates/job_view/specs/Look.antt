@@ -2,9 +2,9 @@
 use Rattle.std.specs.Prelude.{ℕ, ◌+◌, ◌*◌, ◌/◌, min, if◌then◌else◌, ℤ, List, [], ◌∷◌, ◌++◌, map, length, Option, Some, None, option_map}
 use Rattle.std.specs.Str.{bytes_eq}
 use Rattle.phase_records.specs.ReportValue.{ReportValue}
-use Rattle.job_picture.specs.Views.{View, viewed}
-use Rattle.job_picture.specs.declared.panels.Form.{Form}
-use Rattle.job_picture.specs.declared.panels.Form.TheVariants.{Strip, Board, OverTime, Boards, Missing}
+use Rattle.job_view.specs.Views.{View, viewed}
+use Rattle.job_view.specs.declared.panels.Form.{Form}
+use Rattle.job_view.specs.declared.panels.Form.TheVariants.{Strip, Board, OverTime, Boards, Missing}
 use Rattle.job_view.specs.Words.{width_in, words_in}
 use Rattle.job_view.specs.declared.views.Look.{Look}
 

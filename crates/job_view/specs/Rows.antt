@@ -1,7 +1,7 @@
 -- The cells of an array over supersteps (own).
 use Rattle.std.specs.Prelude.{ℕ, zero, suc, ◌*◌, ℤ, List, [], ◌++◌, Option, Some, None}
-use Rattle.job_program.specs.Program.{Program}
-use Rattle.job_program.specs.JobMeaning.{so_far}
+use Rattle.step_core.specs.Program.{Program}
+use Rattle.step_core.specs.JobMeaning.{so_far}
 use Rattle.job_view.specs.Look.{named}
 
 -- the cells of the array of this name, if there is one

@@ -2,7 +2,7 @@
 use Rattle.std.specs.Prelude.{◌≡◌, true, false, ℕ, ℤ, pos, List, [], ◌∷◌, codes, Some, None}
 use Rattle.phase_records.specs.ReportValue.{ReportValue}
 use Rattle.phase_records.specs.Status.{Ended}
-use Rattle.job_picture.specs.declared.panels.Form.TheVariants.{Strip, Board, OverTime, Missing}
+use Rattle.job_view.specs.declared.panels.Form.TheVariants.{Strip, Board, OverTime, Missing}
 use Rattle.job_view.specs.Look.{LookValue, every_of, missing_views, row_count, views}
 use Rattle.job_view.specs.Words.{are_widths, width_in, words_in}
 

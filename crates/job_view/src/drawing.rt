@@ -1,7 +1,7 @@
 //! The picture of a job.
 ghost use Rattle.std.specs.Prelude.{◌≡◌, ◌≤◌, ◌++◌, OnOk, IfOk, map, length};
 ghost use Rattle.text_lines.specs.Text.{words_of};
-ghost use Rattle.job_program.specs.Program.{program_of};
+ghost use Rattle.step_core.specs.Program.{program_of};
 ghost use Rattle.job_view.specs.Look.{look_value};
 ghost use Rattle.job_view.specs.Drawing.{all_rows, drawing};
 

@@ -1,12 +1,12 @@
 //! The cells of an array at some supersteps.
 ghost use Rattle.std.specs.Prelude.{◌≡◌, ◌≤◌, ◌++◌, OnOk, IfOk};
-ghost use Rattle.job_program.specs.Program.{program_of};
+ghost use Rattle.step_core.specs.Program.{program_of};
 ghost use Rattle.job_view.specs.Look.{named};
 ghost use Rattle.job_view.specs.Rows.{cells_or_none, rows};
 
 use crate::views::cells_named;
-use job_program::JobSteps;
 use std::alloc::{AllocError, Global};
+use step_core::JobSteps;
 use superstep_memory::arrays::Arrays;
 use task_code::job::Job;
 

@@ -1,7 +1,7 @@
 //! What is drawn of each array.
 ghost use Rattle.std.specs.Prelude.{◌≡◌, ◌++◌, ◌∷◌, [], ◌<◌, IfOk, OnOk, map, length, option_map, slice_get};
 ghost use Rattle.text_lines.specs.Text.{words_of};
-ghost use Rattle.job_picture.specs.Views.{view_of, views_of};
+ghost use Rattle.job_view.specs.Views.{view_of, views_of};
 ghost use Rattle.job_view.specs.Words.{width_in};
 ghost use Rattle.job_view.specs.Look.{
   array_view,
@@ -22,7 +22,7 @@ ghost use Rattle.job_view.specs.Look.{
 };
 
 use crate::words::{spaced_text, width_of};
-use job_picture::{Form, Panel, picture_with};
+use crate::{Form, Panel, picture_with};
 use phase_records::Report;
 use std::alloc::{AllocError, Global};
 use superstep_memory::arrays::Arrays;

@@ -25,16 +25,16 @@ use Rattle.programs.specs.InPlace.{living_with, left_in, spawned_in, record_in, 
 use Rattle.programs.proofs.Reached.{starts_read}
 use Rattle.program_stretches.specs.declared.fault.Outcome.{Outcome}
 use Rattle.program_stretches.specs.declared.fault.Outcome.TheVariants.{Landed, Faulted, TooMany, Overflowed}
-use Rattle.stretch_parts.specs.Parts.{Reading, HasDone, AreOwn, AreFresh, fresh_part, covers, is_done, fault_in, tasks_in, puts_in, deeds_in, prints_in, without_puts, renewed}
+use Rattle.program_stretches.specs.Parts.{Reading, HasDone, AreOwn, AreFresh, fresh_part, covers, is_done, fault_in, tasks_in, puts_in, deeds_in, prints_in, without_puts, renewed}
 use Rattle.program_stretches.specs.SuperstepStart.{SuperstepStartValue, live_of, states_by, AllOpen}
 use Rattle.program_stretches.specs.Did.{DidAll, IsStepTo}
 use Rattle.program_stretches.specs.StretchesValue.{StretchesValue, state_with, status_for, status_in, is_at_limit, IsAfter, IsOpen, IsRunSoFar, HaveRun}
 use Rattle.program_stretches.specs.Closing.{EndsAs, IsClosed, CountsAs, HasLeftTo, HasLeft, opened_with}
 use Rattle.program_stretches.proofs.Taken.{has_run, faulted, fits, many, over, goes_on}
 use Rattle.program_stretches.proofs.RunsSoFar.{status_is, unfaulted, same_states, after_next}
-use Rattle.stretch_parts.proofs.Along.{both}
+use Rattle.program_stretches.proofs.Along.{both}
 use Rattle.program_stretches.proofs.Whole.{at_number, drop_more, drop_end, HaveDid, have_did}
-use Rattle.stretch_parts.specs.PartValue.{PartValue}
+use Rattle.program_stretches.specs.PartValue.{PartValue}
 
 module _ {Q S T : Type 0} (m : Q → Reading S T) (v : StretchesValue Q S)
     (law : (t : S) → (m v.program).frame.path ((m v.program).meant t) ≡ (m v.program).path t) (run : status_in v ≡ None) where

@@ -15,13 +15,13 @@ use Rattle.programs.proofs.RunState.{deeds_reported, fits_in}
 use Rattle.programs.proofs.History.{agrees, all_formed, entries_rise, numbers_in, rising_front, stays_in}
 use Rattle.programs.proofs.InPlace.{all_stay, counted, paths_kept}
 use Rattle.programs.proofs.Reached.{starts_read}
-use Rattle.stretch_parts.specs.PartValue.{PartValue}
-use Rattle.stretch_parts.specs.Parts.{Reading, HasRun, HasDone, IsPartOf, AreOwn, EachDid, fresh_part, covers, fault_in, tasks_in, deeds_in, living_in, without_puts, without_prints}
-use Rattle.stretch_parts.specs.Next.{CanSettle, CanAllSettle}
+use Rattle.program_stretches.specs.PartValue.{PartValue}
+use Rattle.program_stretches.specs.Parts.{Reading, HasRun, HasDone, IsPartOf, AreOwn, EachDid, fresh_part, covers, fault_in, tasks_in, deeds_in, living_in, without_puts, without_prints}
+use Rattle.program_stretches.specs.Next.{CanSettle, CanAllSettle}
 use Rattle.program_stretches.specs.SuperstepStart.{live_of}
 use Rattle.program_stretches.specs.Did.{DidAll}
 use Rattle.program_stretches.specs.StretchesValue.{StretchesValue, state_with, IsAfter}
-use Rattle.stretch_parts.proofs.Along.{both}
+use Rattle.program_stretches.proofs.Along.{both}
 use Rattle.program_stretches.proofs.Whole.{ran_all}
 use Rattle.program_stretches.proofs.Taken.{paths_rise}
 

@@ -1,8 +1,8 @@
 -- Stretches are taken, run and taken back.
 use Rattle.std.proofs.Common.{◌≡◌, ◌⊎◌, ◌<◌, ℕ, zero, suc, ◌+◌, Bool, true, false, List, [], ◌∷◌, ◌++◌, length, drop, Option, Some, None, Result, Ok, Err, slice_get, slice_set, get_or, refl, sym, ap, ◌∙◌, subst, inl, inr, ⊎_elim, arith}
 use Rattle.std.specs.Prelude.{ℤ, OnOk, OnErr, not}
-use Rattle.stretch_parts.specs.PartValue.{PartValue}
-use Rattle.stretch_parts.specs.Parts.{Reading, HasRun, HasDone, IsPartOf, IsOwn, AreOwn, AreFresh, fresh_part, tasks_in}
+use Rattle.program_stretches.specs.PartValue.{PartValue}
+use Rattle.program_stretches.specs.Parts.{Reading, HasRun, HasDone, IsPartOf, IsOwn, AreOwn, AreFresh, fresh_part, tasks_in}
 use Rattle.program_stretches.specs.StretchesValue.{ready_at}
 use Rattle.program_stretches.proofs.Whole.{drop_more}
 

@@ -2,7 +2,7 @@
 use Rattle.std.proofs.Common.{◌≡◌, ◌≢◌, Bool, true, false, slice_get, Option, Some, None, refl, sym, ap, ◌∙◌}
 use Rattle.program_stretches.specs.declared.fault.AcceptStretchFault.{AcceptStretchFault}
 use Rattle.program_stretches.specs.declared.fault.AcceptStretchFault.TheVariants.{WrongStep, Unfinished, Stranger, Double}
-use Rattle.stretch_parts.specs.PartValue.{PartValue}
+use Rattle.program_stretches.specs.PartValue.{PartValue}
 use Rattle.program_stretches.specs.StretchesValue.{StretchesValue, StretchValue}
 use Rattle.program_stretches.specs.Closing.{Refuses, is_there}
 use Rattle.program_stretches.specs.Laws.{StretchesAreRefusedInOrder}

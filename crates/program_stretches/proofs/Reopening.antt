@@ -4,11 +4,11 @@ use Rattle.std.specs.Prelude.{◌&&◌, not, IfOk}
 use Rattle.programs.specs.InPlace.{left_in, spawned_in}
 use Rattle.program_stretches.specs.declared.fault.Outcome.{Outcome}
 use Rattle.program_stretches.specs.declared.fault.Outcome.TheVariants.{Landed, Faulted, TooMany, Overflowed}
-use Rattle.stretch_parts.specs.PartValue.{PartValue}
-use Rattle.stretch_parts.specs.Parts.{AreFresh, covers, of_slot, tasks_in, deeds_in, without_puts, renewed}
+use Rattle.program_stretches.specs.PartValue.{PartValue}
+use Rattle.program_stretches.specs.Parts.{AreFresh, covers, of_slot, tasks_in, deeds_in, without_puts, renewed}
 use Rattle.program_stretches.specs.StretchesValue.{StretchesValue}
 use Rattle.program_stretches.specs.Closing.{AllStay, IsReopened}
-use Rattle.stretch_parts.proofs.Along.{left_append, spawned_append}
+use Rattle.program_stretches.proofs.Along.{left_append, spawned_append}
 use Rattle.program_stretches.proofs.EachDone.{each_also, living_same}
 use Rattle.superstep_memory.specs.PathOrder.{in_path_order}
 

@@ -6,8 +6,8 @@ use Rattle.programs.specs.Supersteps.{so_far, status, status_of}
 use Rattle.programs.specs.History.{says_by}
 use Rattle.programs.specs.Superstep.{State}
 use Rattle.programs.proofs.Histories.{so_far_more}
-use Rattle.stretch_parts.specs.PartValue.{PartValue}
-use Rattle.stretch_parts.specs.Parts.{Reading, IsPartOf, IsOwn, AreOwn, AreFresh}
+use Rattle.program_stretches.specs.PartValue.{PartValue}
+use Rattle.program_stretches.specs.Parts.{Reading, IsPartOf, IsOwn, AreOwn, AreFresh}
 use Rattle.program_stretches.specs.SuperstepStart.{SuperstepStartValue, live_of, states_by, Opens, AllOpen}
 use Rattle.program_stretches.specs.Reached.{with_earlier}
 use Rattle.program_stretches.specs.Did.{IsStep}

@@ -27,7 +27,7 @@ use Rattle.programs.proofs.InPlace.{counted}
 use Rattle.programs.proofs.Reached.{entered_more}
 use Rattle.programs.proofs.Runs.{goes, going_on, ended_is_last}
 use Rattle.programs.proofs.Apart.{live-paths-rise}
-use Rattle.stretch_parts.specs.Parts.{Reading}
+use Rattle.program_stretches.specs.Parts.{Reading}
 use Rattle.program_stretches.specs.Reached.{IsReached, HasRunOn, with_earlier, with_before}
 use Rattle.program_stretches.specs.declared.fault.Outcome.{Outcome}
 use Rattle.program_stretches.specs.declared.fault.Outcome.TheVariants.{Landed, Faulted, TooMany, Overflowed}

@@ -14,10 +14,10 @@ use Rattle.programs.specs.History.{Entry, AllAllowed, segments_in}
 use Rattle.programs.specs.Done.{Agrees}
 use Rattle.programs.proofs.InPlace.{none_done, come_all, no_fault}
 use Rattle.programs.proofs.Ranged.{first_none}
-use Rattle.stretch_parts.specs.PartValue.{PartValue}
+use Rattle.program_stretches.specs.PartValue.{PartValue}
 use Rattle.program_stretches.specs.Did.{DidAll}
-use Rattle.stretch_parts.proofs.Along.{both}
-use Rattle.stretch_parts.specs.Parts.{Reading, HasRun, HasDone, AreOwn, tasks_in, puts_in, deeds_in, prints_in, fault_in, covers}
+use Rattle.program_stretches.proofs.Along.{both}
+use Rattle.program_stretches.specs.Parts.{Reading, HasRun, HasDone, AreOwn, tasks_in, puts_in, deeds_in, prints_in, fault_in, covers}
 
 -- ---- lists one after another
 

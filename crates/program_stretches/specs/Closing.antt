@@ -14,8 +14,8 @@ use Rattle.program_stretches.specs.declared.fault.CloseStretchesFault.{CloseStre
 use Rattle.program_stretches.specs.declared.fault.CloseStretchesFault.TheVariants as unclosed
 use Rattle.program_stretches.specs.declared.fault.Outcome.{Outcome}
 use Rattle.program_stretches.specs.declared.fault.Outcome.TheVariants.{Landed}
-use Rattle.stretch_parts.specs.PartValue.{PartValue}
-use Rattle.stretch_parts.specs.Parts.{Reading, AreFresh, EachDid, covers, of_slot, tasks_in, living_in, renewed}
+use Rattle.program_stretches.specs.PartValue.{PartValue}
+use Rattle.program_stretches.specs.Parts.{Reading, AreFresh, EachDid, covers, of_slot, tasks_in, living_in, renewed}
 use Rattle.program_stretches.specs.SuperstepStart.{SuperstepStartValue, live_of, states_by, AllOpen}
 use Rattle.program_stretches.specs.Did.{IsStep, IsStepTo}
 use Rattle.program_stretches.specs.StretchesValue.{StretchesValue, StretchValue, is_at_limit, state_with, with_slot, IsAfter, IsRunSoFar}

@@ -11,7 +11,7 @@ use Rattle.programs.specs.History.{Entry, AllAllowed, IsEntered, segments_in, sa
 use Rattle.programs.specs.Done.{Agrees}
 use Rattle.program_stretches.specs.declared.fault.Outcome.{Outcome}
 use Rattle.program_stretches.specs.declared.fault.Outcome.TheVariants.{Landed, Faulted, TooMany, Overflowed}
-use Rattle.stretch_parts.specs.Parts.{Reading}
+use Rattle.program_stretches.specs.Parts.{Reading}
 
 -- all these tasks did their segments, or those up to the first fault
 pub record DidAll {S T : Type 0} (r : Reading S T) (arrays : List (List ℕ × List ℤ)) (step : ℕ) (fault : Option (ℕ × List ℕ))

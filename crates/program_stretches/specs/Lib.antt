@@ -1,3 +1,8 @@
+pub mod PartValue
+pub mod Kept
+pub mod Parts
+pub mod PartView
+pub mod Next
 pub mod Reached
 pub mod SuperstepStart
 pub mod Did

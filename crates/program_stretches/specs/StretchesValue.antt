@@ -11,8 +11,8 @@ use Rattle.phase_records.specs.Status.{Status, Ended, Fault, Limit}
 use Rattle.programs.specs.Meaning.{children}
 use Rattle.programs.specs.Superstep.{State}
 use Rattle.programs.specs.InPlace.{living_with}
-use Rattle.stretch_parts.specs.PartValue.{PartValue}
-use Rattle.stretch_parts.specs.Parts.{Reading, IsPartOf, AreOwn, covers}
+use Rattle.program_stretches.specs.PartValue.{PartValue}
+use Rattle.program_stretches.specs.Parts.{Reading, IsPartOf, AreOwn, covers}
 use Rattle.program_stretches.specs.SuperstepStart.{SuperstepStartValue, live_of, states_by, AllOpen}
 use Rattle.program_stretches.specs.Reached.{IsReached}
 use Rattle.program_stretches.specs.Did.{DidAll}

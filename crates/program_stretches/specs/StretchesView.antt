@@ -2,7 +2,7 @@
 use Rattle.std.specs.Prelude.{◌≡◌, ◌≤◌, ◌<◌, ◌^◌}
 use Rattle.std.specs.Arc.{arc_value}
 use Rattle.program_stretches.specs.declared.stretches.Stretches.TheInside.{Inside}
-use Rattle.stretch_parts.specs.Parts.{Reading}
+use Rattle.program_stretches.specs.Parts.{Reading}
 use Rattle.program_stretches.specs.StretchesValue.{StretchesValue, IsRunSoFar}
 
 abbrev pub stretches_of : {Q S : Type 0} → Inside Q S → StretchesValue Q S

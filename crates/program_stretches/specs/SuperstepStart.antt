@@ -3,8 +3,8 @@ use Rattle.std.specs.Prelude.{◌≡◌, ℕ, ℤ, List, [], ◌∷◌, length, 
 use Rattle.programs.specs.Superstep.{State}
 use Rattle.programs.specs.Supersteps.{so_far}
 use Rattle.programs.specs.History.{Entry, says_by}
-use Rattle.stretch_parts.specs.PartValue.{PartValue}
-use Rattle.stretch_parts.specs.Parts.{Reading, tasks_in}
+use Rattle.program_stretches.specs.PartValue.{PartValue}
+use Rattle.program_stretches.specs.Parts.{Reading, tasks_in}
 
 -- the program, how many tasks may live and supersteps be taken, the arrays, and the stretches of the live tasks
 pub record SuperstepStartValue (Q S : Type 0) : Type 0 where

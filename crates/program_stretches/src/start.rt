@@ -1,8 +1,8 @@
 //! A superstep as it begins.
+use crate::part::Part;
 use programs::program::OnPath;
 use std::marker::Model;
 use std::sync::Arc;
-use stretch_parts::part::Part;
 use superstep_memory::arrays::Arrays;
 
 /// A superstep as it begins: the program with its limits, the arrays, and the stretches of the live tasks.

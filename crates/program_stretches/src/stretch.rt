@@ -1,4 +1,5 @@
 //! A stretch that was taken.
+use crate::part::{Part, run_part};
 use crate::start::SuperstepStart;
 use ghost_lists::log::Snapshot;
 use programs::deeds::Changes;
@@ -6,7 +7,6 @@ use programs::program::{Program, TaskLoop};
 use std::alloc::{AllocError, Global};
 use std::marker::Model;
 use std::sync::Arc;
-use stretch_parts::part::{Part, run_part};
 use superstep_memory::arrays::Arrays;
 use superstep_memory::path::Path;
 
@@ -23,7 +23,7 @@ pub struct Stretch<'p, P: Program> {
 }
 
 impl<'p, P: Program> Model for Stretch<'p, P> {
-    ghost use Rattle.stretch_parts.specs.Parts.{reading_of};
+    ghost use Rattle.program_stretches.specs.Parts.{reading_of};
     ghost use Rattle.program_stretches.specs.StretchesValue.{StretchValue, IsStretch};
     ghost use Rattle.program_stretches.specs.StretchView.{stretch_of};
 

@@ -3,11 +3,18 @@ ghost use Rattle.std.specs.Prelude.{◌≡◌, if◌then◌else◌, [], IfOk};
 ghost use Rattle.phase_records.specs.Status.{IsShort};
 ghost use Rattle.phase_records.specs.StatusSeen.{status_seen};
 ghost use Rattle.program_stretches.specs.StretchesValue.{is_at_limit};
-ghost use Rattle.stretch_parts.specs.Parts.{tasks_in};
+ghost use Rattle.program_stretches.specs.Parts.{tasks_in};
 ghost use Rattle.std.specs.Arc.{arc_value};
 
 use crate::fault::{AcceptStretchFault, CloseStretchesFault, Outcome};
+use crate::hand_over::{give_all_prints, give_all_tasks, join_adds, print_and_renew};
+use crate::landing::land_shared;
 use crate::lines::Lines;
+use crate::moving::make_room;
+use crate::next::next_parts;
+use crate::part::{Part, blame_again};
+use crate::parts::{count_left, count_spawned, cover, find_blame, find_fault};
+use crate::ready::{Ready, get_ready};
 use crate::start::SuperstepStart;
 use crate::stretch::Stretch;
 use ghost_lists::log::{Log, Snapshot, Start, Writer};
@@ -20,13 +27,6 @@ use std::alloc::{AllocError, Global};
 use std::marker::Model;
 use std::mem;
 use std::sync::Arc;
-use stretch_parts::hand_over::{give_all_prints, give_all_tasks, join_adds, print_and_renew};
-use stretch_parts::landing::land_shared;
-use stretch_parts::moving::make_room;
-use stretch_parts::next::next_parts;
-use stretch_parts::part::{Part, blame_again};
-use stretch_parts::parts::{count_left, count_spawned, cover, find_blame, find_fault};
-use stretch_parts::ready::{Ready, get_ready};
 use superstep_memory::arrays::Arrays;
 use superstep_memory::puts::Puts;
 
@@ -58,7 +58,7 @@ pub struct Stretches<'t, 'p, P: Program> {
 }
 
 impl<'t, 'p, P: Program> Model for Stretches<'t, 'p, P> {
-    ghost use Rattle.stretch_parts.specs.Parts.{reading_of};
+    ghost use Rattle.program_stretches.specs.Parts.{reading_of};
     ghost use Rattle.program_stretches.specs.StretchesValue.{StretchesValue};
     ghost use Rattle.program_stretches.specs.StretchesView.{stretches_of, IsStretchesInside};
 
@@ -79,8 +79,8 @@ impl<'t, 'p, P: Program> Stretches<'t, 'p, P> {
     ghost use Rattle.programs.specs.InPlace.{record_in, left_in, spawned_in};
     ghost use Rattle.std.specs.List.{list_all};
     ghost use Rattle.superstep_memory.specs.Landing.{is_set};
-    ghost use Rattle.stretch_parts.specs.Next.{CanAllSettle};
-    ghost use Rattle.stretch_parts.specs.Parts.{reading_of, AreFresh, EachDid, covers, tasks_in, puts_in, deeds_in, prints_in};
+    ghost use Rattle.program_stretches.specs.Next.{CanAllSettle};
+    ghost use Rattle.program_stretches.specs.Parts.{reading_of, AreFresh, EachDid, covers, tasks_in, puts_in, deeds_in, prints_in};
     ghost use Rattle.program_stretches.specs.StretchesValue.{status_in, left_after, can_leave, can_stop, ready_at, tasks_at, with_slot, IsAfter, IsRunSoFar, HaveRun, OverflowsAt};
     ghost use Rattle.program_stretches.specs.Closing.{IsBegun, IsTaken, Refuses, Accepts, IsSameRun, NotClosed, IsClosed, EndsBy, IsLeftAs, HasLeft, HasLeftTo, IsGiven, IsReopened, AllStay, Logs, opened_with};
 

@@ -8,11 +8,11 @@ use Rattle.text_lines.specs.Refusals.{code_number}
 use Rattle.text_lines.specs.declared.refusal.Code.{Code}
 use Rattle.text_lines.specs.declared.refusal.Code.TheVariants.{TooLong, BadByte, BadHeader, UnknownLine, BadName, BadNumber, BadLine, Twice, UnknownName, Unclosed, BadNesting, TooMany, BadLength, Reserved}
 use Rattle.task_code.specs.declared.code.Operator.{Operator}
-use Rattle.job_words.specs.Exprs.{Names, cell_from, cell_of, cell_parts, expr_of, has_bracket, operand_of, operator_of}
-use Rattle.job_words.specs.Faults.{both, checked, earlier, made, rank}
-use Rattle.job_words.specs.Lines.{alone, body_at, else_of, is_equals, let_of, line_behind, put_of, spawn_of}
-use Rattle.job_words.specs.Words.{Word, Words, declared_at, index_of, named, numbered}
-use Rattle.job_words.specs.declared.lines.Keyword.TheVariants as keyword
+use Rattle.job_reader.specs.Exprs.{Names, cell_from, cell_of, cell_parts, expr_of, has_bracket, operand_of, operator_of}
+use Rattle.job_reader.specs.Faults.{both, checked, earlier, made, rank}
+use Rattle.job_reader.specs.Lines.{alone, body_at, else_of, is_equals, let_of, line_behind, put_of, spawn_of}
+use Rattle.job_reader.specs.Words.{Word, Words, declared_at, index_of, named, numbered}
+use Rattle.job_reader.specs.declared.lines.Keyword.TheVariants as keyword
 use Rattle.superstep_memory.specs.declared.arrays.PutKind.{PutKind}
 use Rattle.task_code.specs.declared.code.Action.TheVariants.{Sync, Stop}
 use Rattle.task_code.specs.declared.code.Line.{Line}

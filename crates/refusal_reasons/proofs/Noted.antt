@@ -1,7 +1,7 @@
 -- The lines above a line, one after another.
 use Rattle.std.proofs.Common.{◌≡◌, ℕ, zero, suc, ◌-◌, ◌<◌, List, ◌∷◌, ◌++◌, take, sym, ap, ◌∙◌, arith, append_assoc}
 use Rattle.text_lines.specs.Text.{words_of}
-use Rattle.job_words.specs.Words.{Words}
+use Rattle.job_reader.specs.Words.{Words}
 use Rattle.refusal_reasons.specs.Known.{above, arrays_in, arrays_on}
 
 above-more : (n : ℕ) (l : List ℕ) (ls : List (List ℕ)) → 1 < n → above n (l ∷ ls) ≡ l ∷ above (n - 1) ls

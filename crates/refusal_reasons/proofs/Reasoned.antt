@@ -2,7 +2,7 @@
 use Rattle.std.proofs.Common.{◌++◌, refl}
 use Rattle.std.specs.Fmt as fmt
 use Rattle.task_code.specs.Names as names
-use Rattle.job_words.specs.Lines as lines
+use Rattle.job_reader.specs.Lines as lines
 use Rattle.refusal_reasons.specs.Places.{place_by}
 use Rattle.refusal_reasons.specs.Reasons.{ReasonsAreOfRefusals, open_line, open_shown, place_shown, shown_by}
 use Rattle.refusal_reasons.specs.WorkedReasons.{ReasonsAreWorkedOut}

@@ -8,9 +8,9 @@ use Rattle.text_lines.specs.Number.{begins_number}
 use Rattle.text_lines.specs.Refusals.{code_number}
 use Rattle.text_lines.specs.declared.refusal.Code.{Code}
 use Rattle.text_lines.specs.declared.refusal.Code.TheVariants.{TooLong, BadByte, BadHeader, UnknownLine, BadName, BadNumber, BadLine, Twice, UnknownName, Unclosed, BadNesting, TooMany, BadLength, Reserved}
-use Rattle.job_words.specs.Exprs.{cell_parts, has_bracket}
-use Rattle.job_words.specs.Words.{Word, Words, declared_at, named, numbered}
-use Rattle.job_words.specs.declared.lines.Keyword.TheVariants as keyword
+use Rattle.job_reader.specs.Exprs.{cell_parts, has_bracket}
+use Rattle.job_reader.specs.Words.{Word, Words, declared_at, named, numbered}
+use Rattle.job_reader.specs.declared.lines.Keyword.TheVariants as keyword
 use Rattle.refusal_reasons.specs.Marks.{Known, at_fault, cell_mark, expr_mark, index_mark, let_mark, local_mark, operand_mark, put_mark, spawn_mark}
 use Rattle.refusal_reasons.specs.WordFaults.{IsRefused, IsRefusedPart, MarksAreRefused, MarksRefused}
 use Rattle.refusal_reasons.specs.declared.marks.Mark.{Mark}

@@ -9,7 +9,7 @@ use Rattle.text_lines.specs.Text.{is_allowed, lines_of, onto_first, words_of}
 use Rattle.text_lines.specs.declared.refusal.Code.{Code}
 use Rattle.text_lines.specs.declared.refusal.Code.TheVariants.{TooLong, BadByte, BadHeader, UnknownLine, BadName, BadNumber, BadLine, Twice, UnknownName, Unclosed, BadNesting, TooMany, BadLength, Reserved}
 use Rattle.text_lines.specs.declared.refusal.Refusal.{Refusal}
-use Rattle.job_words.specs.Words.{Words}
+use Rattle.job_reader.specs.Words.{Words}
 use Rattle.refusal_reasons.specs.Known.{above, open_after, open_block, opening, opens}
 use Rattle.refusal_reasons.specs.Lines.{line_at}
 use Rattle.refusal_reasons.specs.Meanings.{meaning}

@@ -6,7 +6,7 @@ use Rattle.text_lines.specs.declared.refusal.Code.TheVariants.{TooLong, BadHeade
 use Rattle.text_lines.specs.declared.refusal.Refusal.{Refusal}
 use Rattle.text_lines.specs.Laws.{joined}
 use Rattle.text_lines.specs.Text.{lines_of, words_of}
-use Rattle.job_words.specs.Words.{Words}
+use Rattle.job_reader.specs.Words.{Words}
 use Rattle.refusal_reasons.specs.Lines.{line_at}
 use Rattle.job_reader.specs.Reading.{job_in}
 use Rattle.job_reader.specs.Trees.{JobTree}

@@ -8,12 +8,12 @@ use Rattle.text_lines.specs.Refusals.{code_number}
 use Rattle.text_lines.specs.declared.refusal.Code.{Code}
 use Rattle.text_lines.specs.declared.refusal.Code.TheVariants.{BadName, BadNumber, UnknownName, Twice, BadLength, Reserved}
 use Rattle.task_code.specs.Names.{is_among}
-use Rattle.job_words.specs.Exprs.{cell_parts, has_bracket}
-use Rattle.job_words.specs.Lines.{keyword_of}
-use Rattle.job_words.specs.Views.{lent}
-use Rattle.job_words.specs.Words.{Word, Words, declared_at, named, numbered}
-use Rattle.job_words.specs.declared.lines.Keyword.{Keyword}
-use Rattle.job_words.specs.declared.lines.Keyword.TheVariants.{Let, Put, Print, Spawn, If, While}
+use Rattle.job_reader.specs.Exprs.{cell_parts, has_bracket}
+use Rattle.job_reader.specs.Lines.{keyword_of}
+use Rattle.job_reader.specs.Views.{lent}
+use Rattle.job_reader.specs.Words.{Word, Words, declared_at, named, numbered}
+use Rattle.job_reader.specs.declared.lines.Keyword.{Keyword}
+use Rattle.job_reader.specs.declared.lines.Keyword.TheVariants.{Let, Put, Print, Spawn, If, While}
 use Rattle.refusal_reasons.specs.declared.known.Known.{Known as Borrowed}
 use Rattle.refusal_reasons.specs.declared.marks.Mark.{Mark}
 use Rattle.refusal_reasons.specs.declared.marks.Part.{Part}

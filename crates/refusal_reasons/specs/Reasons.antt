@@ -7,7 +7,7 @@ use Rattle.text_lines.specs.declared.refusal.Code.TheVariants.{TooLong, UnknownL
 use Rattle.text_lines.specs.declared.refusal.Refusal.{Refusal}
 use Rattle.text_lines.specs.Refusals.{code_number}
 use Rattle.text_lines.specs.Text.{lines_of, words_of}
-use Rattle.job_words.specs.Words.{Words}
+use Rattle.job_reader.specs.Words.{Words}
 use Rattle.refusal_reasons.specs.Lines.{line_at}
 use Rattle.refusal_reasons.specs.Known.{open_block}
 use Rattle.refusal_reasons.specs.Names.{code_name}

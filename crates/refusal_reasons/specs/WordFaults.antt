@@ -2,10 +2,10 @@
 use Rattle.std.specs.Prelude.{◌≡◌, ◌⊎◌, ℕ, ◌+◌, Bool, true, false, Option, Some, None, IsSome, Err, slice_get}
 use Rattle.text_lines.specs.declared.refusal.Code.{Code}
 use Rattle.text_lines.specs.declared.refusal.Code.TheVariants.{BadName, BadNumber, UnknownName, Reserved}
-use Rattle.job_words.specs.Exprs.{Names, cell_parts}
-use Rattle.job_words.specs.Lines.{line_behind}
-use Rattle.job_words.specs.Words.{Word, Words, declared_at, named, numbered}
-use Rattle.job_words.specs.declared.lines.Keyword.{Keyword}
+use Rattle.job_reader.specs.Exprs.{Names, cell_parts}
+use Rattle.job_reader.specs.Lines.{line_behind}
+use Rattle.job_reader.specs.Words.{Word, Words, declared_at, named, numbered}
+use Rattle.job_reader.specs.declared.lines.Keyword.{Keyword}
 use Rattle.refusal_reasons.specs.Marks.{Known, inner_mark}
 use Rattle.refusal_reasons.specs.declared.marks.Mark.{Mark}
 use Rattle.refusal_reasons.specs.declared.marks.Part.{Part}

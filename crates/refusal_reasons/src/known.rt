@@ -1,10 +1,10 @@
 //! The names that are known at a line of a text, and the blocks that are open there.
 ghost use Rattle.std.specs.Prelude.{◌≡◌, ◌++◌, ◌∷◌, [], take, IfOk, OnOk};
 ghost use Rattle.text_lines.specs.Text.{lines_of, words_of};
-ghost use Rattle.job_words.specs.Views.{lent};
+ghost use Rattle.job_reader.specs.Views.{lent};
 ghost use Rattle.refusal_reasons.specs.Known as spec;
 
-use job_words::words::is_word;
+use job_reader::words::is_word;
 use std::alloc::{AllocError, Global};
 use text_lines::{first_word, split_line, split_word};
 

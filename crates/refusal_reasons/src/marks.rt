@@ -1,14 +1,14 @@
 //! What a fault of a line is about.
 ghost use Rattle.std.specs.Prelude.{◌≡◌, ◌≤◌, [], IfOk, take};
-ghost use Rattle.job_words.specs.Exprs.{cell_parts as parts_of};
-ghost use Rattle.job_words.specs.Views.{lent};
+ghost use Rattle.job_reader.specs.Exprs.{cell_parts as parts_of};
+ghost use Rattle.job_reader.specs.Views.{lent};
 ghost use Rattle.refusal_reasons.specs.Marks as spec;
 ghost use Rattle.refusal_reasons.specs.Marks.{known_in};
 
 use crate::known::Known;
-use job_words::exprs::{cell_parts, has_bracket};
-use job_words::lines::{Keyword, keyword_of};
-use job_words::words::{declared_at, is_among, is_word, named, numbered, take_word};
+use job_reader::exprs::{cell_parts, has_bracket};
+use job_reader::lines::{Keyword, keyword_of};
+use job_reader::words::{declared_at, is_among, is_word, named, numbered, take_word};
 use std::alloc::{AllocError, Global};
 use text_lines::{Code, begins_number};
 

@@ -1,7 +1,7 @@
 //! Where in a refused text its fault is shown.
 ghost use Rattle.std.specs.Prelude.{◌≡◌, ◌+◌, ◌≤◌, if◌then◌else◌, drop, length, true, IfOk, None, Some};
 ghost use Rattle.text_lines.specs.Text.{is_allowed as allowed, lines_of};
-ghost use Rattle.job_words.specs.Views.{lent};
+ghost use Rattle.job_reader.specs.Views.{lent};
 ghost use Rattle.refusal_reasons.specs.Marks.{mark_on as mark_on_of};
 ghost use Rattle.refusal_reasons.specs.Places.{
   before_bad as before_bad_of,

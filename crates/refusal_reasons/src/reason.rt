@@ -20,7 +20,7 @@ use crate::meaning::{Kind, meaning_of};
 use crate::names::code_name;
 use crate::pieces::{push_field, push_text};
 use crate::place::{Place, place_of};
-use job_words::words::is_word;
+use job_reader::words::is_word;
 use std::alloc::{AllocError, Global};
 use text_lines::{Code, Refusal, split_word};
 

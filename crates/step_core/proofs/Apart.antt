@@ -2,12 +2,12 @@
 use Rattle.std.proofs.Common.{◌≡◌, true, ap, ◌∙◌}
 use Rattle.superstep_memory.specs.Paths.{is_rising}
 use Rattle.programs.proofs.Apart as program
-use Rattle.job_program.specs.Program.{program_of}
-use Rattle.job_program.specs.Superstep.{State, live_paths, job_says}
-use Rattle.job_program.specs.JobMeaning.{starts}
-use Rattle.job_program.specs.RoundValue.{RoundValue, IsRound, state_of}
-use Rattle.job_program.proofs.Formed.{numbers, stays}
-use Rattle.job_program.proofs.Starts.{starts_begin}
+use Rattle.step_core.specs.Program.{program_of}
+use Rattle.step_core.specs.Superstep.{State, live_paths, job_says}
+use Rattle.step_core.specs.JobMeaning.{starts}
+use Rattle.step_core.specs.RoundValue.{RoundValue, IsRound, state_of}
+use Rattle.step_core.proofs.Formed.{numbers, stays}
+use Rattle.step_core.proofs.Starts.{starts_begin}
 use Rattle.step_core.specs.Laws.{LivePathsRise}
 
 pub live-paths-rise : LivePathsRise

@@ -10,27 +10,27 @@ use Rattle.task_lang.specs.SegmentValue.{SegmentValue}
 use Rattle.task_lang.specs.Meaning.{Plan, Task, Segment, segment_of}
 use Rattle.task_lang.specs.Views.{plans, task_of, meant}
 use Rattle.task_lang.proofs.AllSegments.{numbers-its-spawns}
-use Rattle.job_program.specs.Program.{Program, program_of}
+use Rattle.step_core.specs.Program.{Program, program_of}
 use Rattle.superstep_memory.specs.PathOrder.{in_path_order}
-use Rattle.job_program.specs.Superstep.{State, superstep, closed, closed_by, segments, too_many, fault_in, next_live, job_says}
+use Rattle.step_core.specs.Superstep.{State, superstep, closed, closed_by, segments, too_many, fault_in, next_live, job_says}
 use Rattle.programs.specs.Superstep.{ended_by, gone_on, first_fault, overflow, or_next, log_of, prints_of, record_of}
 use Rattle.smallvec.specs.SmallVec.{SmallVec}
 use Rattle.task_code.specs.JobValue.{JobValue}
 use Rattle.task_code.specs.declared.job.Start.{Start}
 use Rattle.task_code.specs.BodyValue.{BodyValue}
-use Rattle.job_program.specs.declared.fault.Outcome.TheVariants.{TooMany, Landed, Overflowed}
-use Rattle.job_program.specs.Taking.{outcome_of, outcome_by}
-use Rattle.job_program.specs.JobMeaning.{so_far, initial, start_tasks, starts}
+use Rattle.step_core.specs.declared.fault.Outcome.TheVariants.{TooMany, Landed, Overflowed}
+use Rattle.step_core.specs.Taking.{outcome_of, outcome_by}
+use Rattle.step_core.specs.JobMeaning.{so_far, initial, start_tasks, starts}
 use Rattle.programs.specs.Supersteps.{status}
-use Rattle.job_program.specs.SlotValue.{SlotValue}
-use Rattle.job_program.specs.FinishedValue.{FinishedValue}
-use Rattle.job_program.specs.Slots.{Slot, slot_of, slots_of, finished_by, task_in, delivered, with_done, first_missing, or_missing, fresh, all_prints, all_counts}
-use Rattle.job_program.specs.SlotParts.{path_in, path_of, living_in, fresh_slot, IsSmall, AllSmall}
-use Rattle.job_program.specs.RoundValue.{RoundValue, IsRound, Fits, AllFit, AllFresh, Opens, state_of, status_in, slots_in, whole, with_fault}
+use Rattle.step_core.specs.SlotValue.{SlotValue}
+use Rattle.step_core.specs.FinishedValue.{FinishedValue}
+use Rattle.step_core.specs.Slots.{Slot, slot_of, slots_of, finished_by, task_in, delivered, with_done, first_missing, or_missing, fresh, all_prints, all_counts}
+use Rattle.step_core.specs.SlotParts.{path_in, path_of, living_in, fresh_slot, IsSmall, AllSmall}
+use Rattle.step_core.specs.RoundValue.{RoundValue, IsRound, Fits, AllFit, AllFresh, Opens, state_of, status_in, slots_in, whole, with_fault}
 use Rattle.programs.proofs.Runs.{goes, no_fault}
 use Rattle.superstep_memory.proofs.InOrder.{put_all_mapped, count_in_order}
 use Rattle.std.proofs.lemmas.List.{length-map}
-use Rattle.job_program.proofs.Deeds.{living_mapped}
+use Rattle.step_core.proofs.Deeds.{living_mapped}
 
 one_delivered : (p : Program) (a : List (List ℕ × List ℤ)) (n : ℕ) (t : Task) (ss : List Slot) (o : Option Segment) → Fits p.plans a n t o
     → or_missing o t.path (first_missing ss) ≡ None → (first_missing ss ≡ None → delivered ss ≡ segments p a n (map task_in ss))

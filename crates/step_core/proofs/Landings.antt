@@ -13,10 +13,10 @@ use Rattle.superstep_memory.proofs.LandedLaws as landings
 use Rattle.task_lang.specs.Meaning.{Task, Segment}
 use Rattle.task_lang.specs.Laws.{is_to_cell}
 use Rattle.task_lang.proofs.AllSegments.{puts-into-cells}
-use Rattle.job_program.specs.Program.{Program}
-use Rattle.job_program.specs.Superstep.{State, closed, segments, fault_in}
+use Rattle.step_core.specs.Program.{Program}
+use Rattle.step_core.specs.Superstep.{State, closed, segments, fault_in}
 use Rattle.programs.specs.Superstep.{log_of}
-use Rattle.job_program.specs.JobMeaning.{so_far}
+use Rattle.step_core.specs.JobMeaning.{so_far}
 use Rattle.step_core.specs.Laws.{deed, LaterPathWins, OthersKeepTheirValues}
 use Rattle.step_core.proofs.Apart.{live-paths-rise}
 

@@ -7,17 +7,17 @@ use Rattle.phase_records.specs.Status.{Status, Limit}
 use Rattle.task_lang.specs.Meaning.{Task, After, Segment, segment_of}
 use Rattle.programs.specs.Meaning.{Synced, Stopped, Faulted}
 use Rattle.task_lang.specs.Views.{plans}
-use Rattle.job_program.specs.Program.{Program, program_of}
+use Rattle.step_core.specs.Program.{Program, program_of}
 use Rattle.superstep_memory.specs.PathOrder.{put_in, in_path_order}
-use Rattle.job_program.specs.Superstep.{State, superstep, closed, segments, too_many, fault_in, next_live, job_says}
+use Rattle.step_core.specs.Superstep.{State, superstep, closed, segments, too_many, fault_in, next_live, job_says}
 use Rattle.programs.specs.Superstep.{gone_on, first_fault, overflow, or_next, or_later, living_on, synced, stopped, spawned, left, record_of}
-use Rattle.job_program.specs.JobMeaning.{so_far, report_of, starts}
+use Rattle.step_core.specs.JobMeaning.{so_far, report_of, starts}
 use Rattle.programs.specs.Supersteps.{status, status_of, unless_ended}
-use Rattle.job_program.specs.SlotValue.{SlotValue}
-use Rattle.job_program.specs.Slots.{delivered, first_missing}
-use Rattle.job_program.specs.OrderValue.{DeliveryValue, IsDelivery}
-use Rattle.job_program.specs.RoundValue.{RoundValue, IsRound, state_of, status_in, slots_in, with_slots}
-use Rattle.job_program.specs.Taking.{Takes, IsFor, with_delivery}
+use Rattle.step_core.specs.SlotValue.{SlotValue}
+use Rattle.step_core.specs.Slots.{delivered, first_missing}
+use Rattle.step_core.specs.OrderValue.{DeliveryValue, IsDelivery}
+use Rattle.step_core.specs.RoundValue.{RoundValue, IsRound, state_of, status_in, slots_in, with_slots}
+use Rattle.step_core.specs.Taking.{Takes, IsFor, with_delivery}
 use Rattle.step_core.specs.Laws.{
   FormatsMeanTheSame,
   after_all,
@@ -36,8 +36,8 @@ use Rattle.programs.proofs.Runs.{always_reported}
 use Rattle.superstep_memory.proofs.InOrder.{put_all_mapped}
 use Rattle.std.proofs.lemmas.List.{map-append}
 use Rattle.task_lang.proofs.AllSegments.{stays-the-same-task}
-use Rattle.job_program.specs.OrderValue.{spawned_paths, is_synced}
-use Rattle.job_program.specs.Superstep.{live_paths}
+use Rattle.step_core.specs.OrderValue.{spawned_paths, is_synced}
+use Rattle.step_core.specs.Superstep.{live_paths}
 
 -- ---- deliveries in any order
 

@@ -1,3 +1,9 @@
+pub mod Beside
+pub mod Deeds
+pub mod Formed
+pub mod Places
+pub mod Starts
+pub mod Stepped
 pub mod Rounds
 pub mod Closed
 pub mod LawProofs

@@ -2,23 +2,23 @@
 use Rattle.std.proofs.Common.{◌≡◌, ℕ, zero, suc, ◌+◌, ◌≤◌, ◌<◌, true, false, List, [], ◌∷◌, map, length, Option, Some, None, slice_get, slice_set, refl, sym, ap, ◌∙◌, subst, arith}
 use Rattle.std.specs.Prelude.{ℤ, is_some}
 use Rattle.std.specs.Option.{option_map}
-use Rattle.job_program.specs.SlotParts.{path_in, fresh_slot}
+use Rattle.step_core.specs.SlotParts.{path_in, fresh_slot}
 use Rattle.std.proofs.lemmas.List.{length-set}
 use Rattle.task_code.specs.JobValue.{JobValue}
 use Rattle.task_lang.specs.TaskValue.{TaskValue}
 use Rattle.task_lang.specs.SegmentValue.{SegmentValue}
 use Rattle.task_lang.specs.Meaning.{Plan, Task, Segment, segment_of}
 use Rattle.task_lang.specs.Views.{plans, task_of, meant}
-use Rattle.job_program.specs.Program.{program_of}
-use Rattle.job_program.specs.Superstep.{State, job_says}
-use Rattle.job_program.specs.JobMeaning.{state_at, starts}
+use Rattle.step_core.specs.Program.{program_of}
+use Rattle.step_core.specs.Superstep.{State, job_says}
+use Rattle.step_core.specs.JobMeaning.{state_at, starts}
 use Rattle.programs.specs.Supersteps.{status}
-use Rattle.job_program.specs.SlotValue.{SlotValue}
-use Rattle.job_program.specs.Slots.{slots_of, task_in, with_segment, missing_in, one_missing, first_missing, or_missing}
-use Rattle.job_program.specs.OrderValue.{order_value, IsOrder, deed_of, deed_at, DeliveryValue, IsDelivery}
-use Rattle.job_program.specs.Taking.{IsFor, IsOrdered, is_done, Takes, task_at}
+use Rattle.step_core.specs.SlotValue.{SlotValue}
+use Rattle.step_core.specs.Slots.{slots_of, task_in, with_segment, missing_in, one_missing, first_missing, or_missing}
+use Rattle.step_core.specs.OrderValue.{order_value, IsOrder, deed_of, deed_at, DeliveryValue, IsDelivery}
+use Rattle.step_core.specs.Taking.{IsFor, IsOrdered, is_done, Takes, task_at}
 use Rattle.step_core.specs.Laws.{MissingTells, OrdersAreOwn}
-use Rattle.job_program.specs.RoundValue.{RoundValue, IsRound, AllFit, state_of, status_in, with_slots}
+use Rattle.step_core.specs.RoundValue.{RoundValue, IsRound, AllFit, state_of, status_in, with_slots}
 use Rattle.programs.proofs.Runs.{going_on}
 
 pub running : (r : RoundValue) → IsRound r → status_in r ≡ None → state_of r ≡ state_at (program_of r.job) r.step

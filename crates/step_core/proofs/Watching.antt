@@ -7,16 +7,16 @@ use Rattle.task_code.specs.JobValue.{JobValue}
 use Rattle.task_lang.specs.TaskValue.{TaskValue}
 use Rattle.task_lang.specs.Views.{plans, task_of}
 use Rattle.task_lang.specs.Meaning as job
-use Rattle.job_program.specs.Program.{Program, program_of}
-use Rattle.job_program.specs.JobMeaning.{so_far, start_tasks, report_of, starts}
+use Rattle.step_core.specs.Program.{Program, program_of}
+use Rattle.step_core.specs.JobMeaning.{so_far, start_tasks, report_of, starts}
 use Rattle.programs.specs.Supersteps.{status}
-use Rattle.job_program.specs.Superstep.{State, job_frame, job_says}
+use Rattle.step_core.specs.Superstep.{State, job_frame, job_says}
 use Rattle.programs.proofs.Runs.{going_on, ended_stays}
 use Rattle.programs.specs.Supersteps as gm
 use Rattle.programs.specs.History.{says_by, HasRun, HasRunTo, OfState}
 use Rattle.programs.proofs.Exactly.{so_far_same}
-use Rattle.job_program.specs.JobTasks.{JobMay}
-use Rattle.job_program.proofs.Starts.{starts_begin, job_report}
+use Rattle.step_core.specs.JobTasks.{JobMay}
+use Rattle.step_core.proofs.Starts.{starts_begin, job_report}
 use Rattle.step_core.specs.Watching.{SawAll}
 
 module _ (seen : ℕ → List (List ℕ × List ℤ) → ℕ → Type 0) (p : Program) (limit : ℕ) (outcome : ReportValue) (living : List job.Task)

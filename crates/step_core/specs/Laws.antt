@@ -8,15 +8,15 @@ use Rattle.superstep_memory.specs.Paths.{path_lt, is_rising}
 use Rattle.superstep_memory.specs.Laws.{has_put}
 use Rattle.task_lang.specs.Meaning.{Task, Segment, segment_of}
 use Rattle.task_code.specs.JobValue.{JobValue}
-use Rattle.job_program.specs.Program.{Program, program_of}
-use Rattle.job_program.specs.Superstep.{State, superstep, segments, live_paths}
+use Rattle.step_core.specs.Program.{Program, program_of}
+use Rattle.step_core.specs.Superstep.{State, superstep, segments, live_paths}
 use Rattle.programs.specs.Superstep.{record_of}
-use Rattle.job_program.specs.JobMeaning.{so_far, report_of}
-use Rattle.job_program.specs.Slots.{delivered, first_missing, missing_in}
-use Rattle.job_program.specs.OrderValue.{OrderValue, IsOrder, ordered_task, DeliveryValue, IsDelivery, has_synced, spawned_paths}
+use Rattle.step_core.specs.JobMeaning.{so_far, report_of}
+use Rattle.step_core.specs.Slots.{delivered, first_missing, missing_in}
+use Rattle.step_core.specs.OrderValue.{OrderValue, IsOrder, ordered_task, DeliveryValue, IsDelivery, has_synced, spawned_paths}
 use Rattle.superstep_memory.specs.PathOrder.{in_path_order}
-use Rattle.job_program.specs.RoundValue.{RoundValue, IsRound, state_of, status_in, slots_in}
-use Rattle.job_program.specs.Taking.{Takes, with_delivery}
+use Rattle.step_core.specs.RoundValue.{RoundValue, IsRound, state_of, status_in, slots_in}
+use Rattle.step_core.specs.Taking.{Takes, with_delivery}
 
 -- a round with these deliveries more, one after another
 abbrev pub after_all : RoundValue → List DeliveryValue → RoundValue

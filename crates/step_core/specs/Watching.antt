@@ -1,7 +1,7 @@
 -- What a watcher of a job on one thread sees (own).
 use Rattle.std.specs.Prelude.{◌≡◌, ℕ, ℤ, List, None, length}
-use Rattle.job_program.specs.Program.{Program}
-use Rattle.job_program.specs.JobMeaning.{so_far}
+use Rattle.step_core.specs.Program.{Program}
+use Rattle.step_core.specs.JobMeaning.{so_far}
 use Rattle.programs.specs.Supersteps.{status}
 
 -- Each superstep that a job begins within this limit: its number, from 0, the arrays as it begins, and how many tasks live. `seen` is

@@ -1,11 +1,11 @@
 //! A job on one thread.
 ghost use Rattle.std.specs.Prelude.{◌≡◌, ◌≤◌, Some, IfOk};
-ghost use Rattle.job_program.specs.Program.{program_of};
-ghost use Rattle.job_program.specs.JobMeaning.{report_of};
+ghost use Rattle.step_core.specs.Program.{program_of};
+ghost use Rattle.step_core.specs.JobMeaning.{report_of};
 ghost use Rattle.step_core.specs.Watching.{SawAll};
 
 use crate::observe::{Looking, NoObserver, Observe};
-use job_program::{Beginning, JobProgram, MOST_TASKS, begin};
+use crate::{Beginning, JobProgram, MOST_TASKS, begin};
 use phase_records::Report;
 use programs::alone::{Ran, run_watched as run_program};
 use std::alloc::{AllocError, Global};

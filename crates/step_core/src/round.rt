@@ -2,17 +2,17 @@
 ghost use Rattle.std.specs.Prelude.{◌≡◌, List};
 ghost use Rattle.std.specs.Option.{option_map};
 ghost use Rattle.task_lang.specs.Meaning.{Plan};
-ghost use Rattle.job_program.specs.Slots.{first_missing, missing_in, slots_of};
-ghost use Rattle.job_program.specs.SlotParts.{path_of};
+ghost use Rattle.step_core.specs.Slots.{first_missing, missing_in, slots_of};
+ghost use Rattle.step_core.specs.SlotParts.{path_of};
 
-use job_program::closing::{find_fault, find_missing};
-use job_program::fault::{AcceptFault, CloseFault, Outcome};
-use job_program::live::Live;
-use job_program::next::count_living;
-use job_program::order::{Delivery, Order, paths_of};
-use job_program::reading::{find_near, prints_of, records_of};
-use job_program::slot::{Finished, Slots};
-use job_program::start_all;
+use crate::closing::{find_fault, find_missing};
+use crate::fault::{AcceptFault, CloseFault, Outcome};
+use crate::live::Live;
+use crate::next::count_living;
+use crate::order::{Delivery, Order, paths_of};
+use crate::reading::{find_near, prints_of, records_of};
+use crate::slot::{Finished, Slots};
+use crate::start_all;
 use phase_records::{JobStatus, Report};
 use programs::blame::{Blame, too_many};
 use std::alloc::{AllocError, Global};
@@ -64,7 +64,7 @@ fn missing_path(missing: usize, slots: &Slots<'_>) -> Option<Path>
 }
 
 impl<'j> Model for Round<'j> {
-    ghost use Rattle.job_program.specs.RoundValue.{RoundValue};
+    ghost use Rattle.step_core.specs.RoundValue.{RoundValue};
 
     ghost Value = { RoundValue };
 
@@ -81,15 +81,15 @@ impl<'j> Round<'j> {
     ghost use Rattle.superstep_memory.specs.Paths.{is_rising};
     ghost use Rattle.phase_records.specs.Status.{IsShort};
     ghost use Rattle.phase_records.specs.StatusSeen.{status_seen};
-    ghost use Rattle.job_program.specs.Program.{program_of};
-    ghost use Rattle.job_program.specs.JobMeaning.{initial};
+    ghost use Rattle.step_core.specs.Program.{program_of};
+    ghost use Rattle.step_core.specs.JobMeaning.{initial};
     ghost use Rattle.programs.specs.Supersteps.{report_in};
-    ghost use Rattle.job_program.specs.Superstep.{superstep, live_paths};
+    ghost use Rattle.step_core.specs.Superstep.{superstep, live_paths};
     ghost use Rattle.programs.specs.Superstep.{first_fault};
-    ghost use Rattle.job_program.specs.Slots.{delivered, first_missing, missing_in};
-    ghost use Rattle.job_program.specs.SlotParts.{path_of, living_in, IsPlaceOf};
-    ghost use Rattle.job_program.specs.RoundValue.{IsRound, Opens, state_of, status_in, slots_in, with_fault};
-    ghost use Rattle.job_program.specs.Taking.{Refuses, Takes, IsDouble, with_delivery, NotClosed, outcome_of, IsOrderOf, IsOrderAt, is_live, task_at};
+    ghost use Rattle.step_core.specs.Slots.{delivered, first_missing, missing_in};
+    ghost use Rattle.step_core.specs.SlotParts.{path_of, living_in, IsPlaceOf};
+    ghost use Rattle.step_core.specs.RoundValue.{IsRound, Opens, state_of, status_in, slots_in, with_fault};
+    ghost use Rattle.step_core.specs.Taking.{Refuses, Takes, IsDouble, with_delivery, NotClosed, outcome_of, IsOrderOf, IsOrderAt, is_live, task_at};
 
     /// Creates a round of this job with this limit of supersteps, before the first of them.
     pub fn new(alloc: Global, job: &'j Job, limit: u32) -> Result<Self, AllocError>

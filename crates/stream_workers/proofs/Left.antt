@@ -9,7 +9,7 @@ use Rattle.ghost_lists.specs.Agreed.{LogValue}
 use Rattle.phase_records.specs.ReportValue.{ReportValue}
 use Rattle.task_code.specs.JobValue.{JobValue}
 use Rattle.task_lang.specs.TaskValue.{TaskValue}
-use Rattle.job_program.specs.declared.job.JobProgram.{JobProgram}
+use Rattle.step_core.specs.declared.job.JobProgram.{JobProgram}
 use Rattle.program_stretches.specs.SuperstepStart.{SuperstepStartValue}
 use Rattle.program_stretches.specs.StretchesValue.{StretchesValue}
 use Rattle.program_stretches.specs.Closing.{HasLeft}

@@ -5,7 +5,7 @@ use Rattle.std.specs.Io.KnownBytes.{Appends, Keeps}
 use Rattle.phase_records.proofs.PassedBytes.{Appends-none}
 use Rattle.phase_records.specs.declared.record.JobStatus.{JobStatus}
 use Rattle.task_code.specs.JobValue.{JobValue}
-use Rattle.job_program.specs.Program.{Program, program_of}
+use Rattle.step_core.specs.Program.{Program, program_of}
 use Rattle.job_stream.specs.Streamed.{lines_of, Continues, Ends, StreamCause}
 use Rattle.job_stream.specs.declared.fault.StreamFault.{StreamFault}
 use Rattle.job_stream.specs.declared.fault.StreamFault.TheVariants.{Write, Memory, Internal}

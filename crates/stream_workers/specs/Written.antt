@@ -2,7 +2,7 @@
 use Rattle.std.specs.Prelude.{◌≡◌, ◌<◌, ℕ, List, Option, Some, None, Result, Ok, Err}
 use Rattle.std.specs.Io.KnownBytes.{Appends, Keeps}
 use Rattle.phase_records.specs.declared.record.JobStatus.{JobStatus}
-use Rattle.job_program.specs.Program.{Program}
+use Rattle.step_core.specs.Program.{Program}
 use Rattle.job_stream.specs.Streamed.{lines_of, Streams, StreamCause}
 use Rattle.job_stream.specs.declared.fault.StreamFault.{StreamFault}
 use Rattle.stream_workers.specs.declared.fault.WorkersStreamFault.{WorkersStreamFault}

@@ -1,7 +1,7 @@
 //! Why a run on workers that is written superstep by superstep doesn't end.
 ghost use Rattle.std.specs.Prelude.{◌≡◌, ℕ, List, Option, Err};
 ghost use Rattle.std.specs.Io.KnownBytes.{Appends};
-ghost use Rattle.job_program.specs.Program.{Program};
+ghost use Rattle.step_core.specs.Program.{Program};
 ghost use Rattle.stretch_queue.specs.Refusals.{IsOfWorkers};
 ghost use Rattle.job_stream.specs.Streamed.{lines_of};
 ghost use Rattle.stream_workers.specs.Written.{CauseOn, StreamsOn};

@@ -1,7 +1,7 @@
 //! A hook that hands out the lines of each superstep, and these lines until a worker has written them.
 ghost use Rattle.std.specs.Prelude.{◌≡◌, ◌≢◌, ◌⊎◌, None, Err, true, false, IfOk, IfSome, OnOk, OnErr};
 ghost use Rattle.ghost_lists.specs.Agreed.{WasBefore};
-ghost use Rattle.stretch_parts.specs.Parts.{covers};
+ghost use Rattle.program_stretches.specs.Parts.{covers};
 ghost use Rattle.program_stretches.specs.StretchesValue.{status_in};
 ghost use Rattle.program_stretches.specs.Closing.{IsSameRun, IsGiven};
 ghost use Rattle.job_stream.specs.Running.{IsGivenAfter, job_reading};
@@ -11,7 +11,7 @@ ghost use Rattle.stretch_queue.specs.declared.fault.WorkerFault.TheVariants as w
 
 use crate::outlet::Outlet;
 use crate::streaming::Streaming;
-use job_program::JobProgram;
+use step_core::JobProgram;
 use phase_records::CountedWrite;
 use program_stretches::{Lines, Outcome, Stretches};
 use std::alloc::{AllocError, Global};
@@ -32,7 +32,7 @@ pub(crate) struct Unwritten<'o, 'w, R: Wait, W: CountedWrite, J: Streaming> {
 impl<'o, 'w, R: Wait, W: CountedWrite, J: Streaming> Model for Unwritten<'o, 'w, R, W, J> {
     ghost use Rattle.std.specs.Prelude.{◌≤◌};
     ghost use Rattle.program_stretches.specs.LinesValue.{LinesValue};
-    ghost use Rattle.job_program.specs.Program.{program_of};
+    ghost use Rattle.step_core.specs.Program.{program_of};
     ghost use Rattle.job_stream.specs.Streamed.{IsPiece};
 
     ghost Value = { LinesValue };

@@ -1,6 +1,6 @@
 //! The writer of a run, which workers share.
 ghost use Rattle.std.specs.Prelude.{◌≡◌, ◌≤◌};
-ghost use Rattle.job_program.specs.Program.{program_of};
+ghost use Rattle.step_core.specs.Program.{program_of};
 ghost use Rattle.job_stream.specs.Streamed.{IsPiece};
 
 use crate::streaming::Streaming;
@@ -31,7 +31,7 @@ pub(crate) struct Outlet<'w, W: CountedWrite, J: Streaming> {
 
 impl<'w, W: CountedWrite, J: Streaming> Model for Outlet<'w, W, J> {
     ghost use Rattle.std.specs.Prelude.{◌≡◌};
-    ghost use Rattle.job_program.specs.Program.{program_of};
+    ghost use Rattle.step_core.specs.Program.{program_of};
     ghost use Rattle.stream_workers.specs.Written.{HasWritten};
 
     ghost Value = { Unit {0} };

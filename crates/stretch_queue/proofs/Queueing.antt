@@ -4,8 +4,8 @@ use Rattle.std.proofs.Common.{◌≡◌, ℕ, Bool, true, false, List, [], ◌�
 use Rattle.atomic_table.specs.Seated.{TableId}
 use Rattle.ghost_lists.specs.declared.tickets_rule.TicketEntry.{TicketEntry}
 use Rattle.ghost_lists.specs.Passed.{IsOut, ticket_entry, without}
-use Rattle.stretch_parts.specs.PartValue.{PartValue}
-use Rattle.stretch_parts.specs.Parts.{covers}
+use Rattle.program_stretches.specs.PartValue.{PartValue}
+use Rattle.program_stretches.specs.Parts.{covers}
 use Rattle.program_stretches.specs.declared.fault.AcceptStretchFault.{AcceptStretchFault}
 use Rattle.program_stretches.specs.declared.fault.AcceptStretchFault.TheVariants as unwanted
 use Rattle.program_stretches.specs.StretchesValue.{StretchesValue, StretchValue, with_slot, status_in}

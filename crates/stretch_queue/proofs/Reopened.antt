@@ -1,7 +1,7 @@
 -- The stretches of a run after a superstep was closed.
 use Rattle.std.specs.Prelude.{slice_get, is_some, ◌||◌, ◌&&◌, not}
 use Rattle.std.proofs.Common.{◌≡◌, ◌+◌, ℕ, Bool, true, false, length, None, refl, ap, arith}
-use Rattle.stretch_parts.specs.Parts.{covers, tasks_in}
+use Rattle.program_stretches.specs.Parts.{covers, tasks_in}
 use Rattle.program_stretches.specs.StretchesValue.{StretchesValue, status_in}
 use Rattle.program_stretches.proofs.Reopening.{fresh_covers}
 use Rattle.stretch_queue.specs.HandedOut.{out_at}

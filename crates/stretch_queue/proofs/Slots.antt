@@ -2,8 +2,8 @@
 use Rattle.std.specs.Prelude.{slice_get, slice_set, ◌&&◌, ◌||◌, ◌==◌, not, is_some}
 use Rattle.std.proofs.Common.{◌≡◌, ◌≢◌, ◌<◌, ℕ, zero, suc, ◌+◌, Bool, true, false, List, [], ◌∷◌, length, Option, Some, None, refl, sym, ap, ◌∙◌, subst, arith}
 use Rattle.phase_records.specs.Status.{Status}
-use Rattle.stretch_parts.specs.PartValue.{PartValue}
-use Rattle.stretch_parts.specs.Parts.{AreFresh, covers, is_done, tasks_in}
+use Rattle.program_stretches.specs.PartValue.{PartValue}
+use Rattle.program_stretches.specs.Parts.{AreFresh, covers, is_done, tasks_in}
 use Rattle.program_stretches.specs.StretchesValue.{StretchesValue, StretchValue, with_slot, ready_at, status_in, status_for, is_at_limit, left_after, can_leave}
 use Rattle.program_stretches.specs.Closing.{IsTaken}
 use Rattle.program_stretches.proofs.Reopening.{fresh_covers}

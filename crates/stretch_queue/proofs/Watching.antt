@@ -7,7 +7,7 @@ use Rattle.phase_records.specs.ReportValue.{ReportValue}
 use Rattle.phase_records.specs.Status.{Status, Ended, Fault, Limit}
 use Rattle.programs.specs.Superstep.{State}
 use Rattle.programs.specs.History.{OfState, HasRunTo}
-use Rattle.stretch_parts.specs.Parts.{Reading}
+use Rattle.program_stretches.specs.Parts.{Reading}
 use Rattle.program_stretches.specs.SuperstepStart.{SuperstepStartValue, live_of, states_by, Opens, AllOpen}
 use Rattle.program_stretches.specs.Reached.{with_before}
 use Rattle.program_stretches.specs.StretchesValue.{StretchesValue, status_for, status_in}

@@ -4,7 +4,7 @@ use Rattle.std.specs.Option.{option_map}
 use Rattle.atomic_table.specs.Seated.{TableId}
 use Rattle.ghost_lists.specs.declared.tickets_rule.TicketEntry.{TicketEntry}
 use Rattle.ghost_lists.specs.Passed.{TicketValue}
-use Rattle.stretch_parts.specs.PartValue.{PartValue}
+use Rattle.program_stretches.specs.PartValue.{PartValue}
 
 -- whether the stretch is out
 abbrev pub out_at : {S : Type 0} → Option (Option (PartValue S)) → Bool

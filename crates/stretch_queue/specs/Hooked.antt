@@ -1,7 +1,7 @@
 -- Supersteps of a run that a hook closes (own).
 use Rattle.std.specs.Prelude.{◌≡◌, ℕ, Bool, true, false, List, [], length, None, Some}
 use Rattle.program_stretches.specs.StretchesValue.{StretchesValue, status_in}
-use Rattle.stretch_parts.specs.Parts.{AreFresh, tasks_in}
+use Rattle.program_stretches.specs.Parts.{AreFresh, tasks_in}
 use Rattle.stretch_queue.specs.declared.hook.Closed.{Closed}
 use Rattle.stretch_queue.specs.declared.hook.Closed.TheVariants.{Landed, Stopped, Faulted}
 

@@ -35,7 +35,7 @@ pub enum Closed<L> {
 /// A hook that closes the supersteps of a run (own): it may stop the run, or hand out lines of what the superstep left.
 pub trait Hook<P: Program>: Drop {
     ghost use Rattle.std.specs.Prelude.{◌≡◌, ◌≢◌, ◌⊎◌, true, false, None, Err, Bool, IfOk, OnOk, OnErr};
-    ghost use Rattle.stretch_parts.specs.Parts.{covers};
+    ghost use Rattle.program_stretches.specs.Parts.{covers};
     ghost use Rattle.program_stretches.specs.StretchesValue.{StretchesValue, status_in};
     ghost use Rattle.program_stretches.specs.Closing.{IsSameRun};
     ghost use Rattle.stretch_queue.specs.Hooked.{bare, is_stopped, Reopens};

@@ -1,7 +1,7 @@
 //! What the workers of a run share: its stretches, which of them are ready, and the members of the tree that arrive for their tasks.
 ghost use Rattle.std.specs.Prelude.{◌≡◌, ℕ, [], true, false, None, Err, IfErr, IfOk, IfSome, is_some};
 ghost use Rattle.stretch_queue.specs.Refusals.{IsOfWorkers};
-ghost use Rattle.stretch_parts.specs.Parts.{reading_of};
+ghost use Rattle.program_stretches.specs.Parts.{reading_of};
 ghost use Rattle.stretch_queue.specs.Watched.{LeavesAs, can_leave_in};
 ghost use Rattle.stretch_queue.specs.declared.fault.WorkerFault.TheVariants as worker_fault;
 ghost use Rattle.stretch_queue.specs.declared.fault.Refused.TheVariants as refused;
@@ -150,7 +150,7 @@ pub fn lengths_of<P: Program>(
 
 impl<'t, 'p, P: TaskLoop, H: Hook<P>, J: Running> Queue<'t, 'p, P, H, J> {
     ghost use Rattle.std.specs.Prelude.{◌≡◌, ◌≢◌, ◌<◌, ◌&&◌, ◌∷◌, [], None, Some, Err, true, false, not, is_some, IfOk, IfSome, IfErr, MatchOption, Ok, OnOk, OnErr, length};
-    ghost use Rattle.stretch_parts.specs.Parts.{covers, reading_of};
+    ghost use Rattle.program_stretches.specs.Parts.{covers, reading_of};
     ghost use Rattle.stretch_queue.specs.QueueValue.{AreNew, AreNamed, refused_by, is_over, begins_below};
     ghost use Rattle.program_stretches.specs.Closing.{Accepts};
     ghost use Rattle.program_stretches.specs.StretchesValue.{with_slot, status_in};

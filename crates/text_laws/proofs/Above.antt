@@ -13,9 +13,9 @@ use Rattle.text_lines.specs.Text.{lines_of, words_of, is_skipped, bad_byte_line}
 use Rattle.text_lines.specs.Laws.{is_line}
 use Rattle.text_lines.proofs.Readings.{lines_back}
 use Rattle.task_code.specs.Names.{is_free}
-use Rattle.job_words.specs.Words.{Word, Words}
-use Rattle.job_words.proofs.SaidLemmas.{made-ok, and-true}
-use Rattle.job_words.proofs.GrowLemmas.{and-left}
+use Rattle.job_reader.specs.Words.{Word, Words}
+use Rattle.job_reader.proofs.SaidLemmas.{made-ok, and-true}
+use Rattle.job_reader.proofs.GrowLemmas.{and-left}
 use Rattle.job_reader.specs.Trees.{JobTree}
 use Rattle.job_reader.proofs.SpelledOuter.{bind-ok}
 use Rattle.job_reader.specs.Above.{Above}

@@ -4,8 +4,8 @@ use Rattle.std.specs.Prelude.{nat_lt, replicate}
 use Rattle.std.specs.List.{list_all}
 use Rattle.std.proofs.lemmas.Bool.{ltb-true}
 use Rattle.task_code.specs.declared.job.Start.{Start}
-use Rattle.job_words.specs.Words.{Word, Words}
-use Rattle.job_words.proofs.GrowLemmas.{and-left, and-right}
+use Rattle.job_reader.specs.Words.{Word, Words}
+use Rattle.job_reader.proofs.GrowLemmas.{and-left, and-right}
 use Rattle.job_reader.specs.Trees.{BodyTree, JobTree, array_names}
 use Rattle.job_reader.specs.Grammar.{Item, AnArray, ABody, AStart, array_words, body_lines, start_words, items_lines, IsSoundBody, IsFilled, AreSound, with_item, job_of, array_lines, bodies_lines, start_lines}
 use Rattle.job_reader.proofs.ItemLemmas.{items-append, sound-append}

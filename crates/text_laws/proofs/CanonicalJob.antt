@@ -16,13 +16,13 @@ use Rattle.task_code.specs.Rules.{IsBody, IsOfFirst, is_format, is_array}
 use Rattle.task_code.specs.declared.code.Line.{Line}
 use Rattle.task_code.specs.declared.code.Line.TheVariants as line
 use Rattle.task_code.specs.declared.job.Start.{Start}
-use Rattle.job_words.specs.Words.{Word, Words, name_at, noted}
-use Rattle.job_words.specs.Exprs.{Names}
-use Rattle.job_words.specs.Lines.{end_words, line_names, line_fits, mentions_of}
-use Rattle.job_words.proofs.SaidLemmas.{and-true, AllBelow}
-use Rattle.job_words.proofs.GrowLemmas.{and-left, and-right, all-left, all-right}
-use Rattle.job_words.proofs.WrittenLemmas.{names-free}
-use Rattle.job_words.proofs.WrittenExprs.{AreGood}
+use Rattle.job_reader.specs.Words.{Word, Words, name_at, noted}
+use Rattle.job_reader.specs.Exprs.{Names}
+use Rattle.job_reader.specs.Lines.{end_words, line_names, line_fits, mentions_of}
+use Rattle.job_reader.proofs.SaidLemmas.{and-true, AllBelow}
+use Rattle.job_reader.proofs.GrowLemmas.{and-left, and-right, all-left, all-right}
+use Rattle.job_reader.proofs.WrittenLemmas.{names-free}
+use Rattle.job_reader.proofs.WrittenExprs.{AreGood}
 use Rattle.job_reader.specs.Trees.{BodyTree, JobTree, array_names, body_names}
 use Rattle.job_reader.specs.Legal.{flat_body, IsJobTree}
 use Rattle.job_reader.specs.Writing.{code_lines}

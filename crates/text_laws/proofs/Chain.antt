@@ -3,8 +3,8 @@ use Rattle.std.proofs.Common.{◌≡◌, ℕ, ◌+◌, Bool, true, false, List, 
 use Rattle.std.specs.Prelude.{if◌then◌else◌}
 use Rattle.text_lines.specs.declared.refusal.Code.{Code}
 use Rattle.text_lines.specs.Text.{words_of, is_skipped}
-use Rattle.job_words.specs.Words.{Word, Words}
-use Rattle.job_words.specs.Faults.{made}
+use Rattle.job_reader.specs.Words.{Word, Words}
+use Rattle.job_reader.specs.Faults.{made}
 use Rattle.job_reader.specs.Trees.{JobTree}
 use Rattle.job_reader.specs.Above.{Inside, Above, nothing}
 use Rattle.job_reader.specs.Grammar.{header_words, kept}

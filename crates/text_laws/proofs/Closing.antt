@@ -10,11 +10,11 @@ use Rattle.task_code.specs.declared.job.Start.{Start}
 use Rattle.task_code.specs.Limits.{opened}
 use Rattle.task_code.specs.declared.code.Line.{Line}
 use Rattle.task_code.specs.declared.code.Line.TheVariants as line
-use Rattle.job_words.specs.Faults.{made}
-use Rattle.job_words.specs.Words.{Word, Words}
-use Rattle.job_words.specs.Lines.{keyword_of, known_in, line_behind, mentions_behind}
-use Rattle.job_words.specs.declared.lines.Keyword.{Keyword}
-use Rattle.job_words.proofs.SaidLemmas.{made-ok}
+use Rattle.job_reader.specs.Faults.{made}
+use Rattle.job_reader.specs.Words.{Word, Words}
+use Rattle.job_reader.specs.Lines.{keyword_of, known_in, line_behind, mentions_behind}
+use Rattle.job_reader.specs.declared.lines.Keyword.{Keyword}
+use Rattle.job_reader.proofs.SaidLemmas.{made-ok}
 use Rattle.job_reader.specs.declared.outer.Outer.{Outer}
 use Rattle.job_reader.specs.declared.outer.Outer.TheVariants as outer
 use Rattle.job_reader.specs.Above.{nothing, statements_behind}

@@ -10,9 +10,9 @@ use Rattle.task_code.specs.declared.code.Line.{Line}
 use Rattle.task_code.specs.declared.code.Line.TheVariants as line
 use Rattle.task_code.specs.Tree.{Block, flat}
 use Rattle.superstep_memory.specs.declared.arrays.PutKind.TheVariants.{Set, Add}
-use Rattle.job_words.specs.Words.{Word, Words}
-use Rattle.job_words.specs.Exprs.{Names}
-use Rattle.job_words.specs.Lines.{line_words, end_words}
+use Rattle.job_reader.specs.Words.{Word, Words}
+use Rattle.job_reader.specs.Exprs.{Names}
+use Rattle.job_reader.specs.Lines.{line_words, end_words}
 use Rattle.job_reader.specs.Trees.{BodyTree, body_names}
 use Rattle.job_reader.specs.Grammar.{
   Item,

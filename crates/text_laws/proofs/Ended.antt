@@ -6,9 +6,9 @@ use Rattle.text_lines.specs.declared.refusal.Code.{Code}
 use Rattle.text_lines.specs.Text.{lines_of, words_of, is_skipped, is_allowed, bad_byte_line}
 use Rattle.text_lines.specs.Laws.{is_line, joined}
 use Rattle.text_lines.proofs.Readings.{joined_lines}
-use Rattle.job_words.specs.Words.{Word, Words}
-use Rattle.job_words.proofs.SaidLemmas.{made-ok}
-use Rattle.job_words.proofs.GrowLemmas.{and-left, and-right}
+use Rattle.job_reader.specs.Words.{Word, Words}
+use Rattle.job_reader.proofs.SaidLemmas.{made-ok}
+use Rattle.job_reader.proofs.GrowLemmas.{and-left, and-right}
 use Rattle.job_reader.specs.Trees.{JobTree}
 use Rattle.job_reader.specs.Above.{Inside, Above}
 use Rattle.job_reader.specs.Reading.{
@@ -33,7 +33,7 @@ use Rattle.text_laws.proofs.Seen.{Seen, seen_body, seen}
 use Rattle.text_laws.proofs.Folds.{step, read, glance, see_words, see_lines, missing_in, header-missing, skip-ok, read-next, step-seen}
 use Rattle.text_laws.proofs.BadLines.{bad_line, by-lines}
 use Rattle.text_laws.proofs.Held.{short-read}
-use Rattle.job_words.proofs.WrittenLemmas.{not-true}
+use Rattle.job_reader.proofs.WrittenLemmas.{not-true}
 
 -- the bodies that these lines name are there
 abbrev pub are_found : List Word → List (List ℕ) → Bool

@@ -18,12 +18,12 @@ use Rattle.task_code.specs.declared.code.Action.TheVariants as action
 use Rattle.task_code.specs.declared.code.Line.{Line}
 use Rattle.task_code.specs.declared.code.Line.TheVariants as line
 use Rattle.superstep_memory.specs.declared.arrays.PutKind.TheVariants.{Set, Add}
-use Rattle.job_words.specs.Words.{Word}
-use Rattle.job_words.specs.Exprs.{Names}
-use Rattle.job_words.specs.Lines.{line_words, line_names, line_fits}
-use Rattle.job_words.proofs.GrowLemmas.{and-left, and-right, all-left, all-right}
-use Rattle.job_words.proofs.WrittenExprs.{IndexIs, OperandIs, ExprIs}
-use Rattle.job_words.proofs.WrittenLines.{ActionIs, LineIs}
+use Rattle.job_reader.specs.Words.{Word}
+use Rattle.job_reader.specs.Exprs.{Names}
+use Rattle.job_reader.specs.Lines.{line_words, line_names, line_fits}
+use Rattle.job_reader.proofs.GrowLemmas.{and-left, and-right, all-left, all-right}
+use Rattle.job_reader.proofs.WrittenExprs.{IndexIs, OperandIs, ExprIs}
+use Rattle.job_reader.proofs.WrittenLines.{ActionIs, LineIs}
 use Rattle.job_reader.specs.Above.{can_else}
 use Rattle.job_reader.specs.Reading.{is_missing}
 use Rattle.text_laws.proofs.Known.{are_below, name-among}

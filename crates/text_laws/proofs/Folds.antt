@@ -5,9 +5,9 @@ use Rattle.text_lines.specs.declared.refusal.Code.{Code}
 use Rattle.text_lines.specs.declared.refusal.Code.TheVariants.{BadHeader, UnknownName}
 use Rattle.text_lines.specs.declared.refusal.Refusal.{Refusal}
 use Rattle.text_lines.specs.Text.{words_of, is_skipped}
-use Rattle.job_words.specs.Faults.{made}
-use Rattle.job_words.specs.Words.{Word, Words}
-use Rattle.job_words.proofs.SaidLemmas.{made-ok}
+use Rattle.job_reader.specs.Faults.{made}
+use Rattle.job_reader.specs.Words.{Word, Words}
+use Rattle.job_reader.proofs.SaidLemmas.{made-ok}
 use Rattle.job_reader.specs.Trees.{JobTree}
 use Rattle.job_reader.specs.Above.{Inside, Above, nothing}
 use Rattle.job_reader.specs.Reading.{

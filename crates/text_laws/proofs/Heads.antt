@@ -5,11 +5,11 @@ use Rattle.std.specs.List.{list_all, list_any}
 use Rattle.text_lines.specs.declared.refusal.Code.{Code}
 use Rattle.text_lines.specs.declared.refusal.Code.TheVariants.{BadName, BadLine, Reserved}
 use Rattle.task_code.specs.Names.{is_name, is_reserved, is_free, is_among, are_names}
-use Rattle.job_words.specs.Faults.{both, made}
-use Rattle.job_words.specs.Words.{Word, named}
-use Rattle.job_words.proofs.GrowLemmas.{and-left, and-right}
-use Rattle.job_words.proofs.SaidLemmas.{and-true}
-use Rattle.job_words.proofs.WrittenLemmas.{named-free, not-true}
+use Rattle.job_reader.specs.Faults.{both, made}
+use Rattle.job_reader.specs.Words.{Word, named}
+use Rattle.job_reader.proofs.GrowLemmas.{and-left, and-right}
+use Rattle.job_reader.proofs.SaidLemmas.{and-true}
+use Rattle.job_reader.proofs.WrittenLemmas.{named-free, not-true}
 use Rattle.job_reader.specs.Grammar.{listed_in}
 use Rattle.job_reader.specs.Reading.{all_named, may_list, body_of, are_apart}
 use Rattle.job_reader.proofs.NotedNames.{or-false as or-none}

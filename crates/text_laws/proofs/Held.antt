@@ -7,7 +7,7 @@ use Rattle.std.proofs.Math.Seq.{take-append_seam}
 use Rattle.text_lines.specs.declared.refusal.Code.TheVariants.{TooLong, BadByte}
 use Rattle.text_lines.specs.declared.refusal.Refusal.{Refusal}
 use Rattle.text_lines.specs.Text.{lines_of, bad_byte_line}
-use Rattle.job_words.specs.Words.{Word}
+use Rattle.job_reader.specs.Words.{Word}
 use Rattle.job_reader.specs.Trees.{JobTree}
 use Rattle.job_reader.specs.Reading.{refused, declared, read_from, unless_bad, job_in}
 use Rattle.text_laws.proofs.Joined.{texts-are-read}

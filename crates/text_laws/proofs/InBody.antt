@@ -13,16 +13,16 @@ use Rattle.task_code.specs.Tree.{Block}
 use Rattle.task_code.specs.Open.{Frame, InIf, InElse, InWhile, step_of, build}
 use Rattle.task_code.specs.declared.code.Line.{Line}
 use Rattle.task_code.specs.declared.code.Line.TheVariants as line
-use Rattle.job_words.specs.Words.{Word, Words, noted}
-use Rattle.job_words.specs.Exprs.{Names}
-use Rattle.job_words.specs.Faults.{made}
-use Rattle.job_words.specs.Lines.{keyword_of, line_words, line_fits, line_names, line_of, line_behind, mentions_of, mentions_behind, end_words}
-use Rattle.job_words.proofs.SaidLemmas.{and-true}
-use Rattle.job_words.proofs.GrowLemmas.{and-left, and-right, line-grows, noted-grows}
-use Rattle.job_words.specs.declared.lines.Keyword.{Keyword}
-use Rattle.job_words.specs.declared.lines.Keyword.TheVariants.{End}
-use Rattle.job_words.proofs.WrittenExprs.{AreGood}
-use Rattle.job_words.proofs.WrittenLines.{as_read, line-written}
+use Rattle.job_reader.specs.Words.{Word, Words, noted}
+use Rattle.job_reader.specs.Exprs.{Names}
+use Rattle.job_reader.specs.Faults.{made}
+use Rattle.job_reader.specs.Lines.{keyword_of, line_words, line_fits, line_names, line_of, line_behind, mentions_of, mentions_behind, end_words}
+use Rattle.job_reader.proofs.SaidLemmas.{and-true}
+use Rattle.job_reader.proofs.GrowLemmas.{and-left, and-right, line-grows, noted-grows}
+use Rattle.job_reader.specs.declared.lines.Keyword.{Keyword}
+use Rattle.job_reader.specs.declared.lines.Keyword.TheVariants.{End}
+use Rattle.job_reader.proofs.WrittenExprs.{AreGood}
+use Rattle.job_reader.proofs.WrittenLines.{as_read, line-written}
 use Rattle.job_reader.specs.Trees.{JobTree, array_names}
 use Rattle.job_reader.specs.Above.{Inside, can_else, grown, statements_behind}
 use Rattle.job_reader.specs.Reading.{◌>>=◌, is_over, within_limits, behind, with_line, noted_line, inner_line, any_line}

@@ -8,8 +8,8 @@ use Rattle.text_lines.specs.Number.{fits_i64}
 use Rattle.task_code.specs.Names.{is_free, are_names}
 use Rattle.task_code.specs.Rules.{IsBody, is_array}
 use Rattle.task_code.specs.declared.job.Start.{Start}
-use Rattle.job_words.specs.Words.{Word}
-use Rattle.job_words.proofs.GrowLemmas.{and-left, and-right}
+use Rattle.job_reader.specs.Words.{Word}
+use Rattle.job_reader.proofs.GrowLemmas.{and-left, and-right}
 use Rattle.job_reader.specs.Trees.{BodyTree, JobTree, array_names, body_names}
 use Rattle.job_reader.specs.Grammar.{Item, AnArray, ABody, AStart, body_lines, items_lines, AreSound, no_job, job_of}
 use Rattle.job_reader.specs.Legal.{flat_body}

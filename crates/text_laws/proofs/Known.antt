@@ -5,13 +5,13 @@ use Rattle.std.specs.List.{list_all}
 use Rattle.std.specs.Str.{bytes_eq}
 use Rattle.std.proofs.lemmas.Bool.{ltb-true}
 use Rattle.task_code.specs.Names.{is_free, is_among, are_names}
-use Rattle.job_words.specs.Words.{Word, name_at, noted}
-use Rattle.job_words.proofs.SaidLemmas.{and-true, below-true, same-word}
-use Rattle.job_words.proofs.GrowLemmas.{and-left, and-right, noted-grows}
-use Rattle.job_words.proofs.NotedLemmas.{among-some}
-use Rattle.job_words.proofs.WrittenLemmas.{same-bytes, place-name, not-true, or-left, or-right, among-not}
+use Rattle.job_reader.specs.Words.{Word, name_at, noted}
+use Rattle.job_reader.proofs.SaidLemmas.{and-true, below-true, same-word}
+use Rattle.job_reader.proofs.GrowLemmas.{and-left, and-right, noted-grows}
+use Rattle.job_reader.proofs.NotedLemmas.{among-some}
+use Rattle.job_reader.proofs.WrittenLemmas.{same-bytes, place-name, not-true, or-left, or-right, among-not}
 use Rattle.text_laws.proofs.Mentioned.{named_at}
-use Rattle.job_words.proofs.WrittenExprs.{or-true}
+use Rattle.job_reader.proofs.WrittenExprs.{or-true}
 
 -- a declared name is among its names
 pub name-among : (names : List Word) (i : ℕ) → are_names names ≡ true → i < length names → is_among names (name_at names i) ≡ true

@@ -10,18 +10,18 @@ use Rattle.text_lines.specs.Text.{words_of, is_allowed}
 use Rattle.text_lines.specs.Laws.{is_line, is_word}
 use Rattle.text_lines.proofs.Readings.{spaced_words}
 use Rattle.task_code.specs.Names.{is_in_name, begins_lower, is_name, is_reserved, is_free, is_among}
-use Rattle.job_words.specs.Faults.{both, made}
-use Rattle.job_words.specs.Words.{Word, Words}
-use Rattle.job_words.proofs.SaidLemmas.{and-true}
-use Rattle.job_words.proofs.GrowLemmas.{and-left, and-right}
-use Rattle.job_words.proofs.WrittenLemmas.{same-bytes, named-free}
+use Rattle.job_reader.specs.Faults.{both, made}
+use Rattle.job_reader.specs.Words.{Word, Words}
+use Rattle.job_reader.proofs.SaidLemmas.{and-true}
+use Rattle.job_reader.proofs.GrowLemmas.{and-left, and-right}
+use Rattle.job_reader.proofs.WrittenLemmas.{same-bytes, named-free}
 use Rattle.job_reader.specs.Reading.{◌>>=◌, outer_of, declared_by, is_missing}
 use Rattle.text_laws.specs.Refusals.{named_by, declared_in, named_in, lacking, empty_bodies}
 use Rattle.text_laws.proofs.Seen.{Seen, see_body, see_any}
 use Rattle.text_laws.proofs.Folds.{see_words, see_lines}
 use Rattle.text_laws.proofs.Closing.{IsClosed, begun_body, after_body, begun-within, end_line, end-read}
 use Rattle.text_laws.proofs.Ended.{are_found, are_allowed}
-use Rattle.job_words.proofs.WrittenExprs.{or-true}
+use Rattle.job_reader.proofs.WrittenExprs.{or-true}
 use Rattle.job_reader.proofs.NotedNames.{or-true-left as or-this}
 use Rattle.text_laws.proofs.TextOfLines.{all-through}
 

@@ -19,13 +19,13 @@ use Rattle.task_code.specs.declared.code.Action.TheVariants as action
 use Rattle.task_code.specs.declared.code.Line.{Line}
 use Rattle.task_code.specs.declared.code.Line.TheVariants as line
 use Rattle.superstep_memory.specs.declared.arrays.PutKind.TheVariants.{Set, Add}
-use Rattle.job_words.specs.Words.{Word, name_at, index_word, in_index}
-use Rattle.job_words.specs.Exprs.{Names, cell_word, operand_word, expr_words, in_parts, in_operand, in_expr}
-use Rattle.job_words.specs.Lines.{line_words, keyword_of, mentions_behind, mentions_of}
-use Rattle.job_words.proofs.GrowLemmas.{and-right}
-use Rattle.job_words.proofs.WrittenLemmas.{names-free, not-true, other-word, arg-reserved, step-reserved, free-begins}
-use Rattle.job_words.proofs.WrittenExprs.{plain-cell, cell-bracket, plain-bracket, name-plain, AreGood, IndexIs, CellIs, OperandIs, ExprIs, index-plain}
-use Rattle.job_words.proofs.WrittenLines.{ActionIs, LineIs}
+use Rattle.job_reader.specs.Words.{Word, name_at, index_word, in_index}
+use Rattle.job_reader.specs.Exprs.{Names, cell_word, operand_word, expr_words, in_parts, in_operand, in_expr}
+use Rattle.job_reader.specs.Lines.{line_words, keyword_of, mentions_behind, mentions_of}
+use Rattle.job_reader.proofs.GrowLemmas.{and-right}
+use Rattle.job_reader.proofs.WrittenLemmas.{names-free, not-true, other-word, arg-reserved, step-reserved, free-begins}
+use Rattle.job_reader.proofs.WrittenExprs.{plain-cell, cell-bracket, plain-bracket, name-plain, AreGood, IndexIs, CellIs, OperandIs, ExprIs, index-plain}
+use Rattle.job_reader.proofs.WrittenLines.{ActionIs, LineIs}
 use Rattle.text_laws.proofs.MentionedLocals.{number-none, arg-none, step-none, operand-if as operand-by}
 
 name-one : (w : Word) → is_free w ≡ true → in_index w ≡ w ∷ []

@@ -21,15 +21,15 @@ use Rattle.task_code.specs.declared.code.Action.TheVariants as action
 use Rattle.task_code.specs.declared.code.Line.{Line}
 use Rattle.task_code.specs.declared.code.Line.TheVariants as line
 use Rattle.superstep_memory.specs.declared.arrays.PutKind.TheVariants.{Set, Add}
-use Rattle.job_words.specs.Faults.{made}
-use Rattle.job_words.specs.Words.{Word, begins_number, numbered, declared_at, name_at, index_word, index_of, in_index, noted}
-use Rattle.job_words.specs.Exprs.{Names, cell_parts, cell_word, has_bracket, operand_word, expr_words, in_parts, in_operand, in_expr}
-use Rattle.job_words.specs.Lines.{keyword_of, line_words, action_words, mentions_behind, mentions_of}
-use Rattle.job_words.proofs.GrowLemmas.{and-left, and-right}
-use Rattle.job_words.proofs.WrittenLemmas.{names-free, local-written}
+use Rattle.job_reader.specs.Faults.{made}
+use Rattle.job_reader.specs.Words.{Word, begins_number, numbered, declared_at, name_at, index_word, index_of, in_index, noted}
+use Rattle.job_reader.specs.Exprs.{Names, cell_parts, cell_word, has_bracket, operand_word, expr_words, in_parts, in_operand, in_expr}
+use Rattle.job_reader.specs.Lines.{keyword_of, line_words, action_words, mentions_behind, mentions_of}
+use Rattle.job_reader.proofs.GrowLemmas.{and-left, and-right}
+use Rattle.job_reader.proofs.WrittenLemmas.{names-free, local-written}
 use Rattle.text_lines.proofs.NumbersLemmas.{number-begins}
-use Rattle.job_words.proofs.WrittenExprs.{plain-cell, cell-bracket, plain-bracket, name-plain, IndexIs, AreGood, CellIs, OperandIs, ExprIs, index-plain}
-use Rattle.job_words.proofs.WrittenLines.{ActionIs, LineIs}
+use Rattle.job_reader.proofs.WrittenExprs.{plain-cell, cell-bracket, plain-bracket, name-plain, IndexIs, AreGood, CellIs, OperandIs, ExprIs, index-plain}
+use Rattle.job_reader.proofs.WrittenLines.{ActionIs, LineIs}
 use Rattle.job_reader.specs.Writing.{code_lines}
 use Rattle.job_reader.proofs.NotedNames.{among-below, among-beyond, take-next, same-number}
 

@@ -10,15 +10,15 @@ use Rattle.task_code.specs.Limits.{opened}
 use Rattle.task_code.specs.declared.code.Line.{Line}
 use Rattle.task_code.specs.declared.job.Start.{Start}
 use Rattle.superstep_memory.specs.declared.arrays.PutKind.TheVariants.{Set, Add}
-use Rattle.job_words.specs.Faults.{both}
-use Rattle.job_words.specs.Words.{Word, Words, named, numbered}
-use Rattle.job_words.specs.Exprs.{Names, expr_of}
-use Rattle.job_words.specs.declared.lines.Keyword.{Keyword}
-use Rattle.job_words.specs.declared.lines.Keyword.TheVariants.{Let, Put, Print, Spawn, Sync, Stop, If, Else, While, End}
-use Rattle.job_words.specs.Lines.{keyword_of, known_in, line_behind, body_at, spawn_line, spawn_of}
-use Rattle.job_words.proofs.SaidLemmas.{made-ok, both-ok, and-true}
-use Rattle.job_words.proofs.GrowLemmas.{and-left}
-use Rattle.job_words.proofs.LineSaid.{keyword_text, keyword-said}
+use Rattle.job_reader.specs.Faults.{both}
+use Rattle.job_reader.specs.Words.{Word, Words, named, numbered}
+use Rattle.job_reader.specs.Exprs.{Names, expr_of}
+use Rattle.job_reader.specs.declared.lines.Keyword.{Keyword}
+use Rattle.job_reader.specs.declared.lines.Keyword.TheVariants.{Let, Put, Print, Spawn, Sync, Stop, If, Else, While, End}
+use Rattle.job_reader.specs.Lines.{keyword_of, known_in, line_behind, body_at, spawn_line, spawn_of}
+use Rattle.job_reader.proofs.SaidLemmas.{made-ok, both-ok, and-true}
+use Rattle.job_reader.proofs.GrowLemmas.{and-left}
+use Rattle.job_reader.proofs.LineSaid.{keyword_text, keyword-said}
 use Rattle.job_reader.specs.declared.outer.Outer.{Outer}
 use Rattle.job_reader.specs.declared.outer.Outer.TheVariants as outer
 use Rattle.job_reader.specs.Above.{nothing, statements_behind}

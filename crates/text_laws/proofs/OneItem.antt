@@ -15,14 +15,14 @@ use Rattle.task_code.specs.Open.{build}
 use Rattle.task_code.proofs.Building.{build-flat}
 use Rattle.task_code.specs.declared.code.Line.{Line}
 use Rattle.task_code.specs.declared.job.Start.{Start}
-use Rattle.job_words.specs.Words.{Word, Words, numbered, place_from, name_at}
-use Rattle.job_words.specs.Faults.{both, made}
-use Rattle.job_words.specs.Exprs.{Names}
-use Rattle.job_words.specs.Lines.{body_at, end_words}
-use Rattle.job_words.proofs.GrowLemmas.{and-left, and-right}
-use Rattle.job_words.proofs.SaidLemmas.{and-true}
-use Rattle.job_words.proofs.WrittenLemmas.{named-free, names-free, place-name}
-use Rattle.job_words.proofs.WrittenExprs.{number-written}
+use Rattle.job_reader.specs.Words.{Word, Words, numbered, place_from, name_at}
+use Rattle.job_reader.specs.Faults.{both, made}
+use Rattle.job_reader.specs.Exprs.{Names}
+use Rattle.job_reader.specs.Lines.{body_at, end_words}
+use Rattle.job_reader.proofs.GrowLemmas.{and-left, and-right}
+use Rattle.job_reader.proofs.SaidLemmas.{and-true}
+use Rattle.job_reader.proofs.WrittenLemmas.{named-free, names-free, place-name}
+use Rattle.job_reader.proofs.WrittenExprs.{number-written}
 use Rattle.job_reader.specs.Trees.{BodyTree, JobTree, array_names, body_names}
 use Rattle.job_reader.specs.Above.{Inside, begun}
 use Rattle.job_reader.specs.Grammar.{AnArray, ABody, AStart, array_words, body_words, start_words, block_lines, body_lines, listed_in, locals_by, IsSoundBody, IsFilled}

@@ -37,14 +37,14 @@ use Rattle.task_code.specs.declared.code.Action.TheVariants as action
 use Rattle.task_code.specs.declared.code.Line.{Line}
 use Rattle.task_code.specs.declared.code.Line.TheVariants as line
 use Rattle.superstep_memory.specs.declared.arrays.PutKind.TheVariants.{Set, Add}
-use Rattle.job_words.specs.Words.{Word, name_at, index_word}
-use Rattle.job_words.specs.Exprs.{Names, cell_word, operand_word, operator_word, expr_words}
-use Rattle.job_words.specs.Lines.{line_words, line_fits, action_words}
-use Rattle.job_words.proofs.SaidLemmas.{and-true, AllBelow}
-use Rattle.job_words.proofs.GrowLemmas.{and-left, and-right, all-left, all-right}
-use Rattle.job_words.proofs.WrittenLemmas.{names-free}
-use Rattle.job_words.proofs.WrittenExprs.{IndexIs, AreGood, CellIs, OperandIs, ExprIs}
-use Rattle.job_words.proofs.WrittenLines.{ActionIs, LineIs}
+use Rattle.job_reader.specs.Words.{Word, name_at, index_word}
+use Rattle.job_reader.specs.Exprs.{Names, cell_word, operand_word, operator_word, expr_words}
+use Rattle.job_reader.specs.Lines.{line_words, line_fits, action_words}
+use Rattle.job_reader.proofs.SaidLemmas.{and-true, AllBelow}
+use Rattle.job_reader.proofs.GrowLemmas.{and-left, and-right, all-left, all-right}
+use Rattle.job_reader.proofs.WrittenLemmas.{names-free}
+use Rattle.job_reader.proofs.WrittenExprs.{IndexIs, AreGood, CellIs, OperandIs, ExprIs}
+use Rattle.job_reader.proofs.WrittenLines.{ActionIs, LineIs}
 use Rattle.text_laws.proofs.TextOfLines.{is_seen, is_printed, is_plain_line, printed-seen}
 use Rattle.text_lines.proofs.NumbersLemmas.{fits as fits-signed}
 

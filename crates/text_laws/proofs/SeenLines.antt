@@ -15,12 +15,12 @@ use Rattle.task_code.specs.declared.code.Action.TheVariants as action
 use Rattle.task_code.specs.declared.code.Line.{Line}
 use Rattle.task_code.specs.declared.code.Line.TheVariants as line
 use Rattle.task_code.specs.declared.job.Start.{Start}
-use Rattle.job_words.specs.Faults.{both, made}
-use Rattle.job_words.specs.Words.{Word, Words, named, numbered, place_from, declared_at}
-use Rattle.job_words.specs.Exprs.{Names, expr_of, operand_of, cell_of}
-use Rattle.job_words.specs.declared.lines.Keyword.{Keyword}
-use Rattle.job_words.specs.declared.lines.Keyword.TheVariants as keyword
-use Rattle.job_words.specs.Lines.{keyword_of, known_in, line_behind, let_of, put_of, spawn_of, let_line, put_line, spawn_line, is_equals}
+use Rattle.job_reader.specs.Faults.{both, made}
+use Rattle.job_reader.specs.Words.{Word, Words, named, numbered, place_from, declared_at}
+use Rattle.job_reader.specs.Exprs.{Names, expr_of, operand_of, cell_of}
+use Rattle.job_reader.specs.declared.lines.Keyword.{Keyword}
+use Rattle.job_reader.specs.declared.lines.Keyword.TheVariants as keyword
+use Rattle.job_reader.specs.Lines.{keyword_of, known_in, line_behind, let_of, put_of, spawn_of, let_line, put_line, spawn_line, is_equals}
 use Rattle.job_reader.specs.declared.outer.Outer.{Outer}
 use Rattle.job_reader.specs.declared.outer.Outer.TheVariants as outer
 use Rattle.job_reader.specs.Trees.{BodyTree, JobTree, array_names, body_names}

@@ -7,7 +7,7 @@ use Rattle.task_code.specs.Names as names
 use Rattle.task_code.specs.Names.{is_lower, is_digit, is_in_name, is_reserved}
 use Rattle.text_lines.specs.Text.{is_allowed}
 use Rattle.text_laws.specs.WorkedNames.{IsFrom, words}
-use Rattle.job_words.proofs.WrittenExprs.{or-true as or_right}
+use Rattle.job_reader.proofs.WrittenExprs.{or-true as or_right}
 use Rattle.job_reader.proofs.NotedNames.{or-true-left as or_left}
 
 pub from_to : (a b c : ℕ) → ((nat_le a c && nat_le c b) ≡ true) ↔ IsFrom a b c

@@ -7,11 +7,11 @@ use Rattle.std.proofs.lemmas.List.Folds.{list_all-append}
 use Rattle.text_lines.specs.Text.{lines_of, words_of, is_skipped, begins_comment, is_allowed, bad_byte_line}
 use Rattle.text_lines.specs.Laws as laws
 use Rattle.text_lines.proofs.Readings.{joined_lines, spaced_words}
-use Rattle.job_words.specs.Words.{Word, Words}
-use Rattle.job_words.proofs.SaidLemmas.{and-true}
-use Rattle.job_words.proofs.GrowLemmas.{and-left, and-right}
+use Rattle.job_reader.specs.Words.{Word, Words}
+use Rattle.job_reader.proofs.SaidLemmas.{and-true}
+use Rattle.job_reader.proofs.GrowLemmas.{and-left, and-right}
 use Rattle.job_reader.specs.Grammar.{spaced, line_text, text_of, kept}
-use Rattle.job_words.proofs.WrittenLemmas.{not-true}
+use Rattle.job_reader.proofs.WrittenLemmas.{not-true}
 
 -- a byte that is seen in print
 abbrev pub is_seen : ℕ → Bool

@@ -6,7 +6,7 @@ use Rattle.job_reader.specs.Legal.{flat_job, IsJobTree}
 use Rattle.job_reader.specs.Grammar.{canonical_text}
 use Rattle.job_reader.specs.Reading.{job_in}
 use Rattle.job_reader.specs.Upgrade.{upgraded_tree}
-use Rattle.job_words.proofs.Upgraded.{upgraded-job}
+use Rattle.job_reader.proofs.Upgraded.{upgraded-job}
 use Rattle.text_laws.specs.Laws.{IsTextOfJob}
 use Rattle.text_laws.specs.Upgrades.{UpgradedTextsAreRead, UpgradingTwiceIsUpgradingOnce}
 use Rattle.text_laws.proofs.ReadJobs.{read-jobs}

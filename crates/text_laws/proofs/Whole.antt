@@ -7,7 +7,7 @@ use Rattle.text_lines.specs.declared.refusal.Refusal.{Refusal}
 use Rattle.text_lines.specs.Text.{lines_of, bad_byte_line}
 use Rattle.task_code.specs.Names.{are_names}
 use Rattle.task_code.specs.BodyValue.{BodyValue}
-use Rattle.job_words.specs.Words.{Word, Words}
+use Rattle.job_reader.specs.Words.{Word, Words}
 use Rattle.job_reader.specs.Trees.{BodyTree, JobTree, body_names}
 use Rattle.job_reader.specs.Grammar.{no_job, items_lines, job_of, kept, IsTextOf}
 use Rattle.job_reader.specs.Legal.{flat_body, IsJobTree}

@@ -8,7 +8,7 @@ use Rattle.text_lines.specs.Limits.{most_bytes}
 use Rattle.text_lines.specs.Text.{lines_of, words_of, bad_byte_line}
 use Rattle.text_lines.specs.Laws.{joined}
 use Rattle.task_code.specs.Names.{is_among}
-use Rattle.job_words.specs.Words.{Word, Words}
+use Rattle.job_reader.specs.Words.{Word, Words}
 use Rattle.job_reader.specs.Trees.{JobTree}
 use Rattle.job_reader.specs.Reading.{declared_by, declared, is_missing, job_in}
 use Rattle.text_laws.specs.Laws.{IsTextOfJob, IsAJobs}

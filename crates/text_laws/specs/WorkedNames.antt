@@ -6,7 +6,7 @@ use Rattle.text_lines.specs.declared.refusal.Code.TheVariants.{BadName, Reserved
 use Rattle.text_lines.specs.Number.{begins_number}
 use Rattle.text_lines.specs.Text.{is_allowed, is_skipped, bad_byte_line}
 use Rattle.task_code.specs.Names.{is_name, is_in_name, begins_lower, is_reserved}
-use Rattle.job_words.specs.Words.{Word, Words}
+use Rattle.job_reader.specs.Words.{Word, Words}
 use Rattle.job_reader.specs.Reading.{job_in}
 use Rattle.text_laws.specs.WorkedRefusals.{refused}
 

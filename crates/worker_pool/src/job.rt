@@ -2,14 +2,14 @@
 ghost use Rattle.std.specs.Prelude.{◌≡◌, ◌≤◌, Some, IfOk, IfErr};
 ghost use Rattle.advance_rule.specs.Stored.{Answers};
 ghost use Rattle.advance_rule.specs.Plan.{end_ends_at};
-ghost use Rattle.job_program.specs.Program.{program_of};
-ghost use Rattle.job_program.specs.JobMeaning.{report_of};
+ghost use Rattle.step_core.specs.Program.{program_of};
+ghost use Rattle.step_core.specs.JobMeaning.{report_of};
 ghost use Rattle.worker_pool.specs.JobPlan.{limit_of, IsJobPlan};
 ghost use Rattle.stretch_queue.specs.Refusals.{IsOfWorkers};
 
 use crate::program::run_program;
 use advance_rule::StoredAdvance;
-use job_program::{Beginning, JobProgram, MOST_TASKS, begin};
+use step_core::{Beginning, JobProgram, MOST_TASKS, begin};
 use phase_records::Report;
 use programs::alone::Ran;
 use std::alloc::Global;

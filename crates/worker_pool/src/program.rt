@@ -3,7 +3,7 @@ ghost use Rattle.std.specs.Prelude.{◌≡◌, ◌≤◌, ◌<◌, ◌^◌, ◌�
 ghost use Rattle.advance_rule.specs.Stored.{Answers};
 ghost use Rattle.advance_rule.specs.Plan.{end_ends_at};
 ghost use Rattle.program_stretches.specs.SuperstepStart.{SuperstepStartValue, live_of};
-ghost use Rattle.stretch_parts.specs.Parts.{AreFresh, tasks_in};
+ghost use Rattle.program_stretches.specs.Parts.{AreFresh, tasks_in};
 ghost use Rattle.programs.specs.Meaning.{children};
 ghost use Rattle.programs.specs.History.{HasRun, HasRunTo};
 ghost use Rattle.worker_pool.specs.JobPlan.{limit_of, IsJobPlan};

@@ -4,7 +4,7 @@ ghost use Rattle.advance_rule.specs.Stored.{Answers};
 ghost use Rattle.advance_rule.specs.Action.{AnswersAction};
 ghost use Rattle.advance_rule.specs.Plan.{end_ends_at};
 ghost use Rattle.tier_shape.specs.Leaves.{leaves_of};
-ghost use Rattle.stretch_parts.specs.Parts.{reading_of};
+ghost use Rattle.program_stretches.specs.Parts.{reading_of};
 ghost use Rattle.program_stretches.specs.StretchesValue.{status_in};
 ghost use Rattle.stretch_queue.specs.Hooked.{bare, AreNext};
 ghost use Rattle.stretch_queue.specs.QueueValue.{AreNew, AreNamed};

@@ -56,7 +56,7 @@ impl<'t, 'p, P: TaskLoop, H: Hook<P>, J: Running, F: Fn(u32, u32) -> bool> Share
     ghost use Rattle.std.specs.Prelude.{◌<◌, IfOk, IfErr};
     ghost use Rattle.advance_rule.specs.Stored.{Answers};
     ghost use Rattle.advance_rule.specs.Plan.{end_ends_at};
-    ghost use Rattle.stretch_parts.specs.Parts.{reading_of};
+    ghost use Rattle.program_stretches.specs.Parts.{reading_of};
     ghost use Rattle.stretch_queue.specs.Watched.{HasLeftKept};
     ghost use Rattle.stretch_queue.specs.Refusals.{IsOfWorkers};
 

@@ -1,7 +1,7 @@
 //! A job on worker threads, within a limit of supersteps.
 ghost use Rattle.std.specs.Prelude.{◌≡◌, ◌≤◌, Some, IfOk, IfErr};
-ghost use Rattle.job_program.specs.Program.{program_of};
-ghost use Rattle.job_program.specs.JobMeaning.{report_of};
+ghost use Rattle.step_core.specs.Program.{program_of};
+ghost use Rattle.step_core.specs.JobMeaning.{report_of};
 ghost use Rattle.stretch_queue.specs.Refusals.{IsOfWorkers};
 
 use crate::job::run_job;

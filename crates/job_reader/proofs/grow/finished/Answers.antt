@@ -1,6 +1,6 @@
 use Rattle.std.proofs.Common.{◌≡◌, ◌∙◌, ap}
 use Rattle.std.specs.List.{list_all}
-use Rattle.job_words.specs.Views.{lent}
+use Rattle.job_reader.specs.Views.{lent}
 use Rattle.task_code.specs.BodyValue.{BodyValue, body_value}
 use Rattle.job_reader.proofs.OpenLemmas.{body-ended, if-some}
 use Rattle.task_code.specs.Names.{is_free}

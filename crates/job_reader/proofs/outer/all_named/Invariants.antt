@@ -1,7 +1,7 @@
 use Rattle.std.proofs.Common.{◌≡◌, ◌&&◌, drop}
 use Rattle.std.specs.List.{list_all, list_any}
 use Rattle.task_code.specs.Names.{is_name, is_reserved}
-use Rattle.job_words.specs.Views.{lent}
+use Rattle.job_reader.specs.Views.{lent}
 use Rattle.job_reader.proofs.outer.all_named.Given as goal
 
 abbrev pub invariant-loop-word : goal.invariant-loop-word

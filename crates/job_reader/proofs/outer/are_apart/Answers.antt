@@ -1,6 +1,6 @@
 use Rattle.std.proofs.Common.{ap}
 use Rattle.std.specs.List.{list_any}
-use Rattle.job_words.specs.Views.{lent}
+use Rattle.job_reader.specs.Views.{lent}
 use Rattle.job_reader.proofs.ApartNames.{word_eq, apart-begins, apart-next}
 use Rattle.job_reader.proofs.outer.are_apart.Goals as goal
 

@@ -1,5 +1,5 @@
 use Rattle.std.proofs.Common.{◌≡◌, drop, take}
-use Rattle.job_words.specs.Views.{lent}
+use Rattle.job_reader.specs.Views.{lent}
 use Rattle.job_reader.specs.Reading.{are_apart}
 use Rattle.job_reader.proofs.ApartNames.{AreFound, apart_from}
 use Rattle.job_reader.proofs.outer.are_apart.Given as goal

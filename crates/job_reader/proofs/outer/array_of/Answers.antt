@@ -1,6 +1,6 @@
 use Rattle.std.proofs.Common.{rules, ◌∙◌, ◌∷◌, ap, sym}
 use Rattle.text_lines.specs.Text.{words_of}
-use Rattle.job_words.specs.Words.{Words}
+use Rattle.job_reader.specs.Words.{Words}
 use Rattle.job_reader.proofs.OuterRefused.{array-said, array-failed}
 use Rattle.job_reader.proofs.outer.array_of.Goals as goal
 

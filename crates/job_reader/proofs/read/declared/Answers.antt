@@ -1,8 +1,8 @@
 use Rattle.std.proofs.Common.{◌≤◌, ℕ, List, ◌++◌, ◌∙◌, ap, sym, arith, take, length}
 use Rattle.std.specs.List.{filter_map}
 use Rattle.text_lines.specs.Text.{lines_of, words_of}
-use Rattle.job_words.specs.Words.{Word}
-use Rattle.job_words.specs.Views.{lent}
+use Rattle.job_reader.specs.Words.{Word}
+use Rattle.job_reader.specs.Views.{lent}
 use Rattle.job_reader.specs.Reading.{declared_by}
 use Rattle.job_reader.proofs.DeclaredLemmas.{length-lent, take-full, take-whole}
 use Rattle.job_reader.proofs.read.declared.Goals as goal

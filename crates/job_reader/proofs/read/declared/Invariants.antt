@@ -1,7 +1,7 @@
 use Rattle.std.proofs.Common.{◌≡◌, ◌≤◌, ◌++◌, take, length}
 use Rattle.std.specs.List.{filter_map}
 use Rattle.text_lines.specs.Text.{lines_of, words_of}
-use Rattle.job_words.specs.Views.{lent}
+use Rattle.job_reader.specs.Views.{lent}
 use Rattle.job_reader.specs.Reading.{declared_by, declared}
 use Rattle.job_reader.proofs.read.declared.Given as goal
 

@@ -1,6 +1,6 @@
 use Rattle.std.proofs.Common.{◌∙◌, sym, ap}
 use Rattle.text_lines.specs.Text.{lines_of}
-use Rattle.job_words.specs.Views.{lent}
+use Rattle.job_reader.specs.Views.{lent}
 use Rattle.job_reader.proofs.ReadJobs.{text-says}
 use Rattle.job_reader.proofs.read.read_job.Goals as goal
 

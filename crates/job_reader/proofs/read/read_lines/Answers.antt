@@ -1,6 +1,6 @@
 use Rattle.std.proofs.Common.{arith}
 use Rattle.text_lines.specs.Text.{lines_of}
-use Rattle.job_words.specs.Views.{lent}
+use Rattle.job_reader.specs.Views.{lent}
 use Rattle.job_reader.proofs.StepLemmas.{line-next}
 use Rattle.job_reader.proofs.read.read_lines.Goals as goal
 

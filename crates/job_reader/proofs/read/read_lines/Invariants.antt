@@ -1,6 +1,6 @@
 use Rattle.std.proofs.Common.{◌≡◌, ◌+◌, ◌≤◌, length}
 use Rattle.text_lines.specs.Text.{lines_of}
-use Rattle.job_words.specs.Views.{lent}
+use Rattle.job_reader.specs.Views.{lent}
 use Rattle.job_reader.specs.Above.{Above, nothing}
 use Rattle.job_reader.specs.Kept.{KeptAt}
 use Rattle.job_reader.specs.Reading.{read_lines}

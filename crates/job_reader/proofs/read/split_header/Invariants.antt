@@ -1,6 +1,6 @@
 use Rattle.std.proofs.Common.{◌≡◌, ◌+◌, ◌≤◌, length, List}
 use Rattle.text_lines.specs.Text.{lines_of}
-use Rattle.job_words.specs.Words.{Word}
+use Rattle.job_reader.specs.Words.{Word}
 use Rattle.job_reader.specs.Begins.{has_header}
 use Rattle.job_reader.specs.Reading.{read_from}
 use Rattle.job_reader.proofs.read.split_header.Given as goal

@@ -1,7 +1,7 @@
 use Rattle.std.proofs.Common.{◌∙◌, ℤ, List, ◌++◌, ap, sym, map}
 use Rattle.task_code.specs.BodyValue.{BodyValue}
-use Rattle.job_words.specs.Words.{Word}
-use Rattle.job_words.specs.Trees.{body_tree}
+use Rattle.job_reader.specs.Words.{Word}
+use Rattle.job_reader.specs.Trees.{body_tree}
 use Rattle.job_reader.specs.Grammar.{text_of, bodies_lines}
 use Rattle.job_reader.proofs.TextLemmas.{bodies-next}
 use Rattle.job_reader.proofs.write.push_bodies.Goals as goal

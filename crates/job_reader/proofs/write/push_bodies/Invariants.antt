@@ -1,5 +1,5 @@
 use Rattle.std.proofs.Common.{◌≡◌, ◌++◌, length, map}
-use Rattle.job_words.specs.Trees.{body_tree}
+use Rattle.job_reader.specs.Trees.{body_tree}
 use Rattle.job_reader.specs.Grammar.{text_of, bodies_lines}
 use Rattle.job_reader.proofs.write.push_bodies.Given as goal
 

@@ -1,8 +1,8 @@
 use Rattle.std.proofs.Common.{◌∙◌, ℕ, ℤ, List, ◌++◌, ap, map}
 use Rattle.task_code.specs.declared.code.Line.{Line}
 use Rattle.task_code.specs.BodyValue.{BodyValue}
-use Rattle.job_words.specs.Words.{Word}
-use Rattle.job_words.specs.Exprs.{Names}
+use Rattle.job_reader.specs.Words.{Word}
+use Rattle.job_reader.specs.Exprs.{Names}
 use Rattle.job_reader.specs.Grammar.{listed_in, spaced, text_of}
 use Rattle.job_reader.specs.Writing.{code_lines}
 use Rattle.job_reader.proofs.TextLemmas.{body-text}

@@ -1,5 +1,5 @@
 use Rattle.std.proofs.Common.{◌++◌, map}
-use Rattle.job_participants.specs.ParticipantValue.{participant_path, own_participant, child_participant, living_participants}
+use Rattle.job_schedule.specs.ParticipantValue.{participant_path, own_participant, child_participant, living_participants}
 use Rattle.superstep_memory.proofs.InOrder.{put_next_all}
 use Rattle.job_schedule.proofs.Participating.{living_last}
 use Rattle.job_schedule.proofs.next.collect.Goals as goal

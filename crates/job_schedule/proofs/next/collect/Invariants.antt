@@ -1,6 +1,6 @@
 use Rattle.std.proofs.Common.{◌≡◌, length, reverse}
 use Rattle.superstep_memory.specs.PathOrder.{put_all}
-use Rattle.job_participants.specs.ParticipantValue.{participant_path, living_participants, next_participants}
+use Rattle.job_schedule.specs.ParticipantValue.{participant_path, living_participants, next_participants}
 use Rattle.job_schedule.proofs.next.collect.Given as goal
 
 abbrev pub invariant-loop-participant : goal.invariant-loop-participant

@@ -1,5 +1,5 @@
 use Rattle.std.proofs.Common.{◌≡◌, length, reverse}
-use Rattle.job_participants.specs.ParticipantValue.{freed}
+use Rattle.job_schedule.specs.ParticipantValue.{freed}
 use Rattle.job_schedule.proofs.next.free_tokens.Given as goal
 
 abbrev pub invariant-loop-participant : goal.invariant-loop-participant

@@ -1,5 +1,5 @@
 use Rattle.std.proofs.Common.{length}
-use Rattle.job_participants.specs.ParticipantValue.{participant_path}
+use Rattle.job_schedule.specs.ParticipantValue.{participant_path}
 use Rattle.superstep_memory.proofs.InOrder.{Passed}
 use Rattle.job_schedule.proofs.next.place_for.Given as goal
 

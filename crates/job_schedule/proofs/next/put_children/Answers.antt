@@ -1,5 +1,5 @@
 use Rattle.std.proofs.Common.{◌∙◌, ◌∷◌, ◌++◌, [], map, ap, sym}
-use Rattle.job_participants.specs.ParticipantValue.{ParticipantValue, participant_path, child_participant}
+use Rattle.job_schedule.specs.ParticipantValue.{ParticipantValue, participant_path, child_participant}
 use Rattle.superstep_memory.proofs.InOrder.{put_next}
 use Rattle.job_schedule.proofs.Participating.{children_last}
 use Rattle.job_schedule.proofs.next.put_children.Goals as goal

@@ -1,6 +1,6 @@
 use Rattle.std.proofs.Common.{◌≡◌, length, map, reverse}
 use Rattle.superstep_memory.specs.PathOrder.{put_all}
-use Rattle.job_participants.specs.ParticipantValue.{participant_path, child_participant}
+use Rattle.job_schedule.specs.ParticipantValue.{participant_path, child_participant}
 use Rattle.job_schedule.proofs.next.put_children.Given as goal
 
 abbrev pub invariant-loop-child : goal.invariant-loop-child

@@ -2,9 +2,9 @@ use Rattle.std.proofs.Common.{◌≡◌, ℕ, List, [], ◌+◌, ◌++◌, refl,
 use Rattle.phase_records.specs.PrintValue.{PrintValue}
 use Rattle.phase_records.specs.declared.record.PhaseRecord.{PhaseRecord}
 use Rattle.phase_records.specs.ReportText.{steps_text}
-use Rattle.job_program.specs.Program.{program_of}
+use Rattle.step_core.specs.Program.{program_of}
 use Rattle.programs.proofs.Reached.{ok_is}
-use Rattle.job_program.specs.JobRun.{JobRunValue, IsAfter}
+use Rattle.step_core.specs.JobRun.{JobRunValue, IsAfter}
 use Rattle.job_stream.specs.Streamed.{lines_of}
 use Rattle.job_stream.specs.Running.{IsWritten}
 use Rattle.job_stream.proofs.Streams.{piece_continues, fails_continue}

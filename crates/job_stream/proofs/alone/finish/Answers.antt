@@ -1,4 +1,4 @@
-use Rattle.job_program.specs.Program.{program_of}
+use Rattle.step_core.specs.Program.{program_of}
 use Rattle.job_stream.proofs.Streams.{ends_after}
 use Rattle.job_stream.proofs.Stepped.{rest_of_report}
 use Rattle.job_stream.proofs.alone.finish.Goals as goal

@@ -1,5 +1,5 @@
 use Rattle.std.proofs.Common.{ℕ, subst}
-use Rattle.job_program.specs.Program.{program_of}
+use Rattle.step_core.specs.Program.{program_of}
 use Rattle.job_stream.specs.Streamed.{IsRest}
 use Rattle.job_stream.proofs.Pieces.{left_rest}
 use Rattle.job_stream.proofs.alone.rest_of.Goals as goal

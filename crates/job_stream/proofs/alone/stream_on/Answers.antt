@@ -1,6 +1,6 @@
 use Rattle.std.proofs.Common.{◌≡◌, ℕ, ◌+◌, ◌∙◌, subst, arith}
 use Rattle.std.specs.Io.KnownBytes.{Appends}
-use Rattle.job_program.specs.Program.{program_of}
+use Rattle.step_core.specs.Program.{program_of}
 use Rattle.job_stream.specs.Running.{IsWritten}
 use Rattle.job_stream.specs.Streamed.{lines_of}
 use Rattle.job_stream.proofs.Streams.{goes_on, streams_failed, streams_ended}

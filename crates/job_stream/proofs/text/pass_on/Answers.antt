@@ -1,6 +1,6 @@
 use Rattle.std.proofs.Common.{◌≡◌, ◌≤◌, ◌∙◌, ap, sym, subst}
 use Rattle.phase_records.specs.ReportText.{steps_text}
-use Rattle.job_program.specs.Program.{program_of}
+use Rattle.step_core.specs.Program.{program_of}
 use Rattle.program_stretches.specs.LinesValue.{LinesValue}
 use Rattle.job_stream.specs.Streamed.{lines_of}
 use Rattle.job_stream.proofs.Streams.{piece_continues, fails_continue}

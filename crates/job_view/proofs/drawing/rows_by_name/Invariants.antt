@@ -1,6 +1,6 @@
 use Rattle.std.proofs.Common.{◌≡◌, ◌++◌, map, length}
 use Rattle.text_lines.specs.Text.{words_of}
-use Rattle.job_program.specs.Program.{program_of}
+use Rattle.step_core.specs.Program.{program_of}
 use Rattle.job_view.specs.Drawing.{all_rows}
 use Rattle.job_view.proofs.drawing.rows_by_name.Given as goal
 

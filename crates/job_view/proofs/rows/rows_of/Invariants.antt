@@ -1,5 +1,5 @@
 use Rattle.std.proofs.Common.{◌≡◌, ◌-◌, ◌≤◌}
-use Rattle.job_program.specs.Program.{program_of}
+use Rattle.step_core.specs.Program.{program_of}
 use Rattle.job_view.specs.Rows.{rows}
 use Rattle.job_view.proofs.Steps.{IsAt}
 use Rattle.job_view.proofs.rows.rows_of.Given as goal

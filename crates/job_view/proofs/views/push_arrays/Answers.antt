@@ -1,8 +1,8 @@
 use Rattle.std.proofs.Common.{◌∙◌, ap, Vec}
 use Rattle.std.specs.declared.alloc.Global.{Global}
 use Rattle.text_lines.specs.Text.{words_of}
-use Rattle.job_picture.specs.Views.{views_of}
-use Rattle.job_picture.specs.declared.panels.Panel.{Panel}
+use Rattle.job_view.specs.Views.{views_of}
+use Rattle.job_view.specs.declared.panels.Panel.{Panel}
 use Rattle.job_view.specs.Look.{array_view}
 use Rattle.job_view.proofs.Listing.{next_view, no_view}
 use Rattle.job_view.proofs.views.push_arrays.Goals as goal

@@ -1,6 +1,6 @@
 use Rattle.std.proofs.Common.{◌≡◌, ◌++◌, length}
 use Rattle.text_lines.specs.Text.{words_of}
-use Rattle.job_picture.specs.Views.{views_of}
+use Rattle.job_view.specs.Views.{views_of}
 use Rattle.job_view.specs.Look.{missing_views}
 use Rattle.job_view.proofs.views.push_unknowns.Given as goal
 

@@ -1,6 +1,6 @@
 use Rattle.std.proofs.Common.{◌≡◌, ◌++◌, length}
 use Rattle.text_lines.specs.Text.{lines_of}
-use Rattle.job_words.specs.Views.{lent}
+use Rattle.job_reader.specs.Views.{lent}
 use Rattle.refusal_reasons.specs.Known.{above, arrays_in}
 use Rattle.refusal_reasons.proofs.known.arrays_above.Given as goal
 

@@ -1,6 +1,6 @@
 use Rattle.std.proofs.Common.{◌≡◌, ◌++◌, length}
 use Rattle.text_lines.specs.Text.{words_of}
-use Rattle.job_words.specs.Views.{lent}
+use Rattle.job_reader.specs.Views.{lent}
 use Rattle.refusal_reasons.proofs.known.words_in.Given as goal
 
 abbrev pub invariant-loop-word : goal.invariant-loop-word

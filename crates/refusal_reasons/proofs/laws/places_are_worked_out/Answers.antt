@@ -1,7 +1,7 @@
 use Rattle.std.proofs.Common.{refl}
 use Rattle.std.specs.Fmt as fmt
 use Rattle.task_code.specs.Names as names
-use Rattle.job_words.specs.Lines as lines
+use Rattle.job_reader.specs.Lines as lines
 use Rattle.refusal_reasons.proofs.laws.places_are_worked_out.Goals as goal
 
 pub returns : goal.returns

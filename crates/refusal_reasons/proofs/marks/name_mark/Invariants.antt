@@ -1,5 +1,5 @@
 use Rattle.std.proofs.Common.{◌≡◌, ◌+◌, drop}
-use Rattle.job_words.specs.Views.{lent}
+use Rattle.job_reader.specs.Views.{lent}
 use Rattle.refusal_reasons.specs.Marks.{name_mark}
 use Rattle.refusal_reasons.proofs.marks.name_mark.Given as goal
 

@@ -1,5 +1,5 @@
 use Rattle.std.proofs.Common.{◌≡◌, ◌+◌, [], drop}
-use Rattle.job_words.specs.Views.{lent}
+use Rattle.job_reader.specs.Views.{lent}
 use Rattle.refusal_reasons.specs.Marks.{repeated}
 use Rattle.refusal_reasons.proofs.marks.repeated.Given as goal
 

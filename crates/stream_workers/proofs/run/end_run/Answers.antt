@@ -1,4 +1,4 @@
-use Rattle.job_program.specs.Program.{program_of}
+use Rattle.step_core.specs.Program.{program_of}
 use Rattle.stretch_queue.specs.Refusals.{IsOfWorkers}
 use Rattle.stream_workers.proofs.Outlets.{ends_on, fails_on}
 use Rattle.stream_workers.proofs.run.end_run.Goals as goal

@@ -1,9 +1,9 @@
 use Rattle.std.proofs.Common.{refl}
 use Rattle.std.specs.Fmt as fmt
 use Rattle.task_code.specs.Names as names
-use Rattle.job_words.specs.Words as words
-use Rattle.job_words.specs.Exprs as exprs
-use Rattle.job_words.specs.Lines as lines
+use Rattle.job_reader.specs.Words as words
+use Rattle.job_reader.specs.Exprs as exprs
+use Rattle.job_reader.specs.Lines as lines
 use Rattle.job_reader.specs.Reading as reading
 use Rattle.text_laws.proofs.worked.refusals_are_worked_out.Goals as goal
 

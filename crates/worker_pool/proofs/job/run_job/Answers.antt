@@ -1,6 +1,6 @@
 use Rattle.std.proofs.Common.{map}
 use Rattle.task_lang.specs.Views.{plans, task_of}
-use Rattle.job_program.proofs.Starts.{job_left}
+use Rattle.step_core.proofs.Starts.{job_left}
 use Rattle.worker_pool.specs.JobPlan.{limit_of}
 use Rattle.worker_pool.proofs.job.run_job.Goals as goal
 

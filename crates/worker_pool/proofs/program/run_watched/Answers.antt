@@ -1,7 +1,7 @@
 use Rattle.std.proofs.Common.{◌≡◌, ◌∙◌, ◌++◌, map, ap, sym, subst}
 use Rattle.programs.specs.History.{HasRunTo}
 use Rattle.program_stretches.specs.SuperstepStart.{SuperstepStartValue, live_of}
-use Rattle.stretch_parts.specs.Parts.{reading_of}
+use Rattle.program_stretches.specs.Parts.{reading_of}
 use Rattle.program_stretches.proofs.RunsSoFar.{last_same}
 use Rattle.stretch_queue.specs.Watched.{HasLeftWatched}
 use Rattle.stretch_queue.proofs.Watching.{kept_watched}

@@ -1,5 +1,5 @@
 use Rattle.std.proofs.Common.{◌∙◌, sym, ap}
-use Rattle.job_words.specs.Views.{lent}
+use Rattle.job_reader.specs.Views.{lent}
 use Rattle.job_reader.proofs.KeptLines.{array-read}
 use Rattle.job_reader.proofs.NewArrays.{array-new}
 use Rattle.job_reader.proofs.so_far.SoFar.add_array.Goals as goal

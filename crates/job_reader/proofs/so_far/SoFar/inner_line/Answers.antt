@@ -1,5 +1,5 @@
 use Rattle.std.proofs.Common.{rules, ℕ, ◌∙◌, ap, subst, refl}
-use Rattle.job_words.specs.Views.{lent}
+use Rattle.job_reader.specs.Views.{lent}
 use Rattle.job_reader.specs.Relates.{IsInside}
 use Rattle.job_reader.specs.Reading.{mentioning}
 use Rattle.job_reader.proofs.LineLemmas.{said-stands, line-refused, line-put}

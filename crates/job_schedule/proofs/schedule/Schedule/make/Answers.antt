@@ -1,10 +1,10 @@
 use Rattle.std.proofs.Common.{◌≡◌, sym, subst, refl, Result, Ok, Err}
 use Rattle.std.specs.Prelude.{OnOk}
 use Rattle.step_core.specs.RoundValue.{RoundValue}
-use Rattle.job_participants.specs.declared.stage.Move.{Move}
+use Rattle.job_schedule.specs.declared.stage.Move.{Move}
 use Rattle.job_schedule.specs.Parts.{IsAllowed, IsKept, world_of}
 use Rattle.step_core.specs.OrderValue.{has_synced, spawned_paths}
-use Rattle.job_participants.specs.ParticipantValue.{participant_at}
+use Rattle.job_schedule.specs.ParticipantValue.{participant_at}
 use Rattle.job_schedule.specs.World.{World, deed_of, next_job}
 use Rattle.job_schedule.proofs.Kept.{is_wanted, delivered_kept, called_kept, advanced_kept, closed_kept, ended_kept, all_handed}
 use Rattle.job_schedule.proofs.schedule.Schedule.make.Goals as goal

@@ -1,5 +1,5 @@
 use Rattle.std.proofs.Common.{List, ℕ, ◌∷◌, ◌++◌, [], ◌∙◌, ap, arith}
-use Rattle.job_participants.specs.ParticipantValue.{ParticipantValue}
+use Rattle.job_schedule.specs.ParticipantValue.{ParticipantValue}
 use Rattle.tier_shape.specs.Preferred.{leaf_at}
 use Rattle.job_schedule.specs.Parts.{world_of}
 use Rattle.job_schedule.proofs.Initial.{started}

@@ -1,6 +1,6 @@
 use Rattle.std.specs.Prelude.{IfOk, OnOk}
 use Rattle.std.proofs.Common.{◌≡◌, Option, Result, Ok, Err, subst, sym, refl, ◌∙◌}
-use Rattle.job_participants.specs.declared.stage.Move.{Move}
+use Rattle.job_schedule.specs.declared.stage.Move.{Move}
 use Rattle.job_schedule.specs.AnswerValue.{AnswerValue, answer_seen}
 use Rattle.job_schedule.specs.Parts.{world_of}
 use Rattle.job_schedule.specs.World.{World}

@@ -1,6 +1,6 @@
 use Rattle.std.proofs.Common.{◌≡◌, ◌∙◌, ℕ, None, List, ap, map, subst}
 use Rattle.std.specs.Prelude.{ℤ, OnOk}
-use Rattle.stretch_parts.specs.Parts.{HasRun, reading_of}
+use Rattle.program_stretches.specs.Parts.{HasRun, reading_of}
 use Rattle.program_stretches.specs.StretchesValue.{StretchValue}
 use Rattle.program_stretches.specs.SuperstepStart.{live_of}
 use Rattle.program_stretches.proofs.Owning.{run_is_part}

@@ -1,5 +1,5 @@
 use Rattle.std.proofs.Common.{◌≡◌, ◌∙◌, ap, sym, None}
-use Rattle.stretch_parts.specs.Parts.{reading_of}
+use Rattle.program_stretches.specs.Parts.{reading_of}
 use Rattle.program_stretches.specs.StretchView.{stretch_of}
 use Rattle.program_stretches.specs.SuperstepStart.{live_of}
 use Rattle.program_stretches.specs.StretchesValue.{StretchValue}

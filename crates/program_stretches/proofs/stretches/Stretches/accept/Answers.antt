@@ -2,7 +2,7 @@ use Rattle.std.proofs.Common.{◌≡◌, ◌∙◌, Option, Some, None, ap, sym,
 use Rattle.std.specs.Prelude.{MatchOption}
 use Rattle.std.specs.Vec.{with_item}
 use Rattle.ghost_lists.specs.Agreed.{LogValue}
-use Rattle.stretch_parts.specs.Parts.{reading_of}
+use Rattle.program_stretches.specs.Parts.{reading_of}
 use Rattle.program_stretches.specs.SuperstepStart.{SuperstepStartValue}
 use Rattle.program_stretches.specs.StretchesValue.{StretchesValue, StretchValue, with_slot, IsRunSoFar}
 use Rattle.program_stretches.specs.StretchesView.{stretches_of}

@@ -1,8 +1,8 @@
 use Rattle.std.proofs.Common.{◌≡◌, ◌∙◌, true, List, [], Option, Some, None, map, ap, sym, subst, inl}
 use Rattle.program_stretches.specs.declared.fault.Outcome.TheVariants.{Faulted}
-use Rattle.stretch_parts.specs.PartValue.{PartValue}
-use Rattle.stretch_parts.specs.Next.{CanAllSettle}
-use Rattle.stretch_parts.specs.Parts.{reading_of, EachDid, covers, fault_in, tasks_in, puts_in, deeds_in, prints_in}
+use Rattle.program_stretches.specs.PartValue.{PartValue}
+use Rattle.program_stretches.specs.Next.{CanAllSettle}
+use Rattle.program_stretches.specs.Parts.{reading_of, EachDid, covers, fault_in, tasks_in, puts_in, deeds_in, prints_in}
 use Rattle.program_stretches.specs.SuperstepStart.{live_of}
 use Rattle.program_stretches.specs.StretchesValue.{StretchesValue, status_in, HaveRun}
 use Rattle.program_stretches.specs.StretchesView.{stretches_of}

@@ -1,6 +1,6 @@
 use Rattle.std.proofs.Common.{◌≡◌, ◌∙◌, List, ap, sym, subst}
 use Rattle.ghost_lists.specs.Agreed.{LogValue, WasBefore}
-use Rattle.stretch_parts.specs.Parts.{reading_of}
+use Rattle.program_stretches.specs.Parts.{reading_of}
 use Rattle.program_stretches.specs.SuperstepStart.{SuperstepStartValue}
 use Rattle.program_stretches.specs.StretchesValue.{StretchesValue, IsRunSoFar}
 use Rattle.program_stretches.specs.StretchesView.{stretches_of}

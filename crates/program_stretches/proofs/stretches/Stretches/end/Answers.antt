@@ -1,5 +1,5 @@
 use Rattle.std.proofs.Common.{refl, inl, ap, sym, subst, ◌∙◌}
-use Rattle.stretch_parts.specs.Parts.{reading_of}
+use Rattle.program_stretches.specs.Parts.{reading_of}
 use Rattle.program_stretches.specs.StretchesValue.{StretchesValue, status_in}
 use Rattle.program_stretches.specs.Closing.{EndsBy}
 use Rattle.program_stretches.specs.StretchesView.{stretches_of}

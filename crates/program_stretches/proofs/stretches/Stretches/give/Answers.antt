@@ -1,5 +1,5 @@
 use Rattle.std.proofs.Common.{ap, ◌∙◌}
-use Rattle.stretch_parts.specs.Parts.{reading_of}
+use Rattle.program_stretches.specs.Parts.{reading_of}
 use Rattle.program_stretches.specs.StretchesValue.{StretchesValue}
 use Rattle.program_stretches.specs.StretchesView.{stretches_of}
 use Rattle.program_stretches.proofs.RunsSoFar.{run_given}

@@ -2,7 +2,7 @@ use Rattle.std.proofs.Common.{◌≡◌, ◌∙◌, true, false, Some, Bool, ap,
 use Rattle.std.specs.Prelude.{not, ◌||◌}
 use Rattle.std.specs.Option.{option_map}
 use Rattle.phase_records.specs.StatusSeen.{status_seen}
-use Rattle.stretch_parts.specs.Parts.{reading_of}
+use Rattle.program_stretches.specs.Parts.{reading_of}
 use Rattle.program_stretches.specs.StretchesValue.{status_in}
 use Rattle.program_stretches.specs.Closing.{HasLeft}
 use Rattle.program_stretches.proofs.Closed.{has_left, left_when}

@@ -6,7 +6,7 @@ use Rattle.superstep_memory.proofs.InOrder.{count_in_order}
 use Rattle.phase_records.specs.PrintValue.{PrintValue}
 use Rattle.programs.specs.InPlace.{living_with}
 use Rattle.programs.proofs.InPlace.{few_left}
-use Rattle.stretch_parts.specs.Parts.{reading_of, AreFresh, tasks_in, puts_in, deeds_in, prints_in}
+use Rattle.program_stretches.specs.Parts.{reading_of, AreFresh, tasks_in, puts_in, deeds_in, prints_in}
 use Rattle.program_stretches.specs.StretchesValue.{StretchesValue, IsAfter, IsRunSoFar, status_in}
 use Rattle.program_stretches.specs.StretchesView.{stretches_of}
 use Rattle.program_stretches.specs.Closing.{opened_with}

@@ -1,8 +1,8 @@
 use Rattle.std.proofs.Common.{◌∷◌, ◌∙◌, List, [], Option, ap, sym, refl, subst, arith, length, map}
 use Rattle.std.specs.Arc.{arc_value}
 use Rattle.programs.specs.Meaning.{children}
-use Rattle.stretch_parts.specs.PartValue.{PartValue}
-use Rattle.stretch_parts.specs.Parts.{reading_of, AreFresh, tasks_in}
+use Rattle.program_stretches.specs.PartValue.{PartValue}
+use Rattle.program_stretches.specs.Parts.{reading_of, AreFresh, tasks_in}
 use Rattle.program_stretches.specs.SuperstepStart.{SuperstepStartValue}
 use Rattle.program_stretches.proofs.RunsSoFar.{run_begun}
 use Rattle.program_stretches.proofs.stretches.Stretches.new.Goals as goal

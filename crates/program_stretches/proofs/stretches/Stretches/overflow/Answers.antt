@@ -1,7 +1,7 @@
 use Rattle.std.proofs.Common.{◌≡◌, ◌∙◌, ap, sym, subst, Some, None, Option, ℕ, List, map}
 use Rattle.program_stretches.specs.declared.fault.Outcome.TheVariants.{Overflowed}
 use Rattle.std.specs.Prelude.{IfSome}
-use Rattle.stretch_parts.specs.Parts.{reading_of, tasks_in, deeds_in, prints_in}
+use Rattle.program_stretches.specs.Parts.{reading_of, tasks_in, deeds_in, prints_in}
 use Rattle.program_stretches.specs.SuperstepStart.{live_of}
 use Rattle.program_stretches.specs.Closing.{EndsBy}
 use Rattle.program_stretches.proofs.Closed.{ends_over, closed_end}

@@ -1,7 +1,7 @@
 use Rattle.std.proofs.Common.{◌∷◌, length, map, refl, ap, sym, subst, ◌∙◌}
 use Rattle.std.specs.Arc.{arc_value}
 use Rattle.ghost_lists.specs.Agreed.{LogValue}
-use Rattle.stretch_parts.specs.Parts.{reading_of}
+use Rattle.program_stretches.specs.Parts.{reading_of}
 use Rattle.program_stretches.specs.SuperstepStart.{SuperstepStartValue, live_of}
 use Rattle.program_stretches.specs.StretchesValue.{StretchesValue, IsAfter}
 use Rattle.program_stretches.specs.Closing.{opened_with}

@@ -1,7 +1,7 @@
 use Rattle.std.proofs.Common.{◌≡◌, ◌∙◌, None, length, ap, sym, subst}
 use Rattle.std.proofs.lemmas.List.{length-map}
 use Rattle.phase_records.specs.Status.{Limit}
-use Rattle.stretch_parts.specs.Parts.{reading_of}
+use Rattle.program_stretches.specs.Parts.{reading_of}
 use Rattle.program_stretches.specs.StretchesValue.{status_in, IsRunSoFar}
 use Rattle.program_stretches.specs.Closing.{HasLeftTo}
 use Rattle.program_stretches.proofs.Closed.{has_stopped, still_live, left_when, nothing_if}

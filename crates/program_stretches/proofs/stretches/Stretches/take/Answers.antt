@@ -2,8 +2,8 @@ use Rattle.std.proofs.Common.{◌≡◌, ◌∙◌, ℕ, List, Bool, true, Optio
 use Rattle.std.specs.Prelude.{ℤ}
 use Rattle.std.specs.Vec.{with_item}
 use Rattle.ghost_lists.specs.Agreed.{LogValue}
-use Rattle.stretch_parts.specs.PartValue.{PartValue}
-use Rattle.stretch_parts.specs.Parts.{reading_of, IsPartOf}
+use Rattle.program_stretches.specs.PartValue.{PartValue}
+use Rattle.program_stretches.specs.Parts.{reading_of, IsPartOf}
 use Rattle.program_stretches.specs.SuperstepStart.{SuperstepStartValue, live_of}
 use Rattle.program_stretches.specs.StretchesValue.{StretchesValue, ready_at, with_slot, IsRunSoFar}
 use Rattle.program_stretches.specs.StretchesView.{stretches_of}

@@ -3,7 +3,7 @@ use Rattle.std.specs.Prelude.{MatchOption}
 use Rattle.programs.specs.InPlace.{left_in, spawned_in, record_in}
 use Rattle.programs.proofs.InPlace.{few_left}
 use Rattle.program_stretches.specs.declared.fault.Outcome.TheVariants.{TooMany}
-use Rattle.stretch_parts.specs.Parts.{reading_of, covers, tasks_in, deeds_in, prints_in}
+use Rattle.program_stretches.specs.Parts.{reading_of, covers, tasks_in, deeds_in, prints_in}
 use Rattle.program_stretches.specs.SuperstepStart.{live_of}
 use Rattle.program_stretches.specs.StretchesValue.{StretchesValue}
 use Rattle.program_stretches.specs.Closing.{EndsBy}

@@ -1,7 +1,7 @@
 use Rattle.std.proofs.Common.{sym, subst, arith}
 use Rattle.std.specs.Arc.{arc_value}
 use Rattle.task_lang.specs.Views.{plans}
-use Rattle.job_program.specs.SlotParts.{AllSmall}
+use Rattle.step_core.specs.SlotParts.{AllSmall}
 use Rattle.step_core.proofs.Closed.{looked_through, ends_faulted, ends_by_many, all_small}
 use Rattle.step_core.proofs.round.Round.close_round.Goals as goal
 

@@ -1,9 +1,9 @@
 use Rattle.std.proofs.Common.{◌≡◌, ◌∙◌, ◌<◌, sym, ap, subst, arith, length, List}
-use Rattle.job_program.specs.SlotValue.{SlotValue}
-use Rattle.job_program.specs.Slots.{with_segment, missing_in}
+use Rattle.step_core.specs.SlotValue.{SlotValue}
+use Rattle.step_core.specs.Slots.{with_segment, missing_in}
 use Rattle.step_core.specs.RoundView.{round_of}
-use Rattle.job_program.specs.RoundValue.{RoundValue, IsRound, with_slots}
-use Rattle.job_program.specs.Taking.{with_delivery}
+use Rattle.step_core.specs.RoundValue.{RoundValue, IsRound, with_slots}
+use Rattle.step_core.specs.Taking.{with_delivery}
 use Rattle.step_core.proofs.Rounds.{takes, met_below, met_kept, met_fewer}
 use Rattle.step_core.proofs.round.Round.keep.Goals as goal
 

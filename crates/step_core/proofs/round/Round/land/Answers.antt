@@ -3,8 +3,8 @@ use Rattle.std.specs.Arc.{arc_value}
 use Rattle.std.proofs.lemmas.List.{length-map}
 use Rattle.task_lang.specs.Views.{plans}
 use Rattle.superstep_memory.specs.PathOrder.{in_path_order}
-use Rattle.job_program.specs.Slots.{missing_in}
-use Rattle.job_program.specs.SlotParts.{path_in, living_in, fresh_slot}
+use Rattle.step_core.specs.Slots.{missing_in}
+use Rattle.step_core.specs.SlotParts.{path_in, living_in, fresh_slot}
 use Rattle.step_core.specs.RoundView.{round_of}
 use Rattle.step_core.proofs.Closed.{lands, went_on, all_small, closed_now, few_outcome, ends_by_over, over_now, over_opens}
 use Rattle.step_core.proofs.Closed.{is_there}

@@ -1,9 +1,9 @@
 use Rattle.std.proofs.Common.{◌∙◌, ap, map, sym}
 use Rattle.std.proofs.lemmas.Result.{IfOk-weaker}
 use Rattle.task_lang.specs.Views.{plans}
-use Rattle.job_program.specs.Superstep.{live_paths}
-use Rattle.job_program.specs.SlotParts.{path_in}
-use Rattle.job_program.specs.RoundValue.{RoundValue, state_of}
+use Rattle.step_core.specs.Superstep.{live_paths}
+use Rattle.step_core.specs.SlotParts.{path_in}
+use Rattle.step_core.specs.RoundValue.{RoundValue, state_of}
 use Rattle.superstep_memory.specs.Paths.{is_rising}
 use Rattle.step_core.proofs.Rounds.{paths_at}
 use Rattle.step_core.proofs.Apart.{reached_rises}

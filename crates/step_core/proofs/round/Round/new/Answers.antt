@@ -1,8 +1,8 @@
 use Rattle.std.proofs.Common.{◌∙◌, ap, map, List, arith}
 use Rattle.std.specs.Arc.{arc_value}
 use Rattle.task_lang.specs.Views.{plans}
-use Rattle.job_program.specs.SlotValue.{SlotValue}
-use Rattle.job_program.specs.Slots.{slots_of, fresh, missing_in}
+use Rattle.step_core.specs.SlotValue.{SlotValue}
+use Rattle.step_core.specs.Slots.{slots_of, fresh, missing_in}
 use Rattle.step_core.proofs.Closed.{opened_so, fresh_mapped}
 use Rattle.step_core.proofs.Rounds.{all_missing}
 use Rattle.step_core.proofs.round.Round.new.Goals as goal

@@ -1,13 +1,13 @@
 use Rattle.std.proofs.Common.{◌≡◌, ◌∙◌, ◌<◌, Some, slice_get, sym, ap, length, subst, arith}
 use Rattle.std.specs.Arc.{arc_value}
 use Rattle.std.specs.Option.{option_map}
-use Rattle.job_program.specs.SlotParts.{IsPlaceOf}
-use Rattle.job_program.specs.Taking.{task_at}
-use Rattle.job_program.specs.OrderValue.{OrderValue}
-use Rattle.job_program.specs.RoundValue.{RoundValue, status_in}
-use Rattle.job_program.proofs.Places.{is_place}
+use Rattle.step_core.specs.SlotParts.{IsPlaceOf}
+use Rattle.step_core.specs.Taking.{task_at}
+use Rattle.step_core.specs.OrderValue.{OrderValue}
+use Rattle.step_core.specs.RoundValue.{RoundValue, status_in}
+use Rattle.step_core.proofs.Places.{is_place}
 use Rattle.step_core.proofs.Rounds.{is_order, some_there, task_there}
-use Rattle.job_program.proofs.Beside.{task_found, tasks_count}
+use Rattle.step_core.proofs.Beside.{task_found, tasks_count}
 use Rattle.step_core.proofs.round.Round.order_at.Goals as goal
 
 pub new-requires-clause-order : goal.new-requires-clause-order

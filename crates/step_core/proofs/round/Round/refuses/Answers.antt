@@ -1,6 +1,6 @@
 use Rattle.std.proofs.Common.{◌∙◌, ◌<◌, sym, ap, subst, length, slice_get}
 use Rattle.step_core.specs.RoundView.{round_of}
-use Rattle.job_program.specs.Taking.{is_done}
+use Rattle.step_core.specs.Taking.{is_done}
 use Rattle.step_core.proofs.Rounds.{meets, met_below, is_double, is_first}
 use Rattle.step_core.proofs.round.Round.refuses.Goals as goal
 

@@ -1,2 +1,0 @@
-pub mod ParticipantValue
-pub mod Moves

@@ -1,9 +1,0 @@
-use Rattle.std.proofs.Common.{◌≡◌, ◌++◌, length}
-use Rattle.job_picture.specs.Columns.{columns_of}
-use Rattle.job_picture.proofs.columns.columns_of.Given as goal
-
-abbrev pub invariant-loop-counts : goal.invariant-loop-counts
-invariant-loop-counts l = l.columns.items ++ columns_of l.prints l.rest ≡ columns_of l.fn.prints l.fn.records
-
-abbrev pub decreases-loop-counts : goal.decreases-loop-counts
-decreases-loop-counts l = length l.rest

@@ -1,9 +1,0 @@
-use Rattle.std.proofs.Common.{◌≡◌, ◌++◌, map, length}
-use Rattle.job_program.specs.SlotParts.{path_of, path_in}
-use Rattle.job_program.proofs.order.paths_of.Given as goal
-
-abbrev pub invariant-loop-task : goal.invariant-loop-task
-invariant-loop-task l = map path_of l.paths.items ++ map path_in l.rest ≡ map path_in l.fn.tasks
-
-abbrev pub decreases-loop-task : goal.decreases-loop-task
-decreases-loop-task l = length l.rest

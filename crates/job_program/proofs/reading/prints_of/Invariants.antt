@@ -1,9 +1,0 @@
-use Rattle.std.proofs.Common.{◌≡◌, ◌++◌, length}
-use Rattle.job_program.specs.Slots.{all_prints}
-use Rattle.job_program.proofs.reading.prints_of.Given as goal
-
-abbrev pub invariant-loop-one : goal.invariant-loop-one
-invariant-loop-one l = l.prints.items ++ all_prints l.rest ≡ all_prints l.fn.finished
-
-abbrev pub decreases-loop-one : goal.decreases-loop-one
-decreases-loop-one l = length l.rest

@@ -1,0 +1,9 @@
+use Rattle.std.proofs.Common.{◌≡◌, ◌++◌, length}
+use Rattle.job_view.specs.Cells.{values_from}
+use Rattle.job_view.proofs.cells.push_values.Given as goal
+
+abbrev pub invariant-loop-value : goal.invariant-loop-value
+invariant-loop-value l = l.out.items ++ values_from l.count l.rest ≡ l.fn.out.items ++ values_from l.count l.fn.values
+
+abbrev pub decreases-loop-value : goal.decreases-loop-value
+decreases-loop-value l = length l.rest

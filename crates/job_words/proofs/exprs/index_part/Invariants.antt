@@ -1,5 +1,0 @@
-use Rattle.job_words.proofs.CellLemmas.{Plain}
-use Rattle.job_words.proofs.exprs.index_part.Given as goal
-
-abbrev pub invariant-loop-i : goal.invariant-loop-i
-invariant-loop-i l = Plain l.i l.rest

@@ -1,7 +1,0 @@
-use Rattle.std.proofs.Common.{◌≡◌, drop}
-use Rattle.job_words.specs.Words.{place_from}
-use Rattle.job_words.specs.Views.{lent}
-use Rattle.job_words.proofs.words.place.Given as goal
-
-abbrev pub invariant-loop-i : goal.invariant-loop-i
-invariant-loop-i l = place_from 0 (lent l.names) l.word ≡ place_from l.i (lent (drop l.i l.names)) l.word

@@ -1,5 +1,0 @@
-use Rattle.schedule_laws.proofs.Casting.{advances_turn_the_cast}
-use Rattle.schedule_laws.proofs.cast.advances_turn_the_cast.Goals as goal
-
-pub returns : goal.returns
-returns c = advances_turn_the_cast

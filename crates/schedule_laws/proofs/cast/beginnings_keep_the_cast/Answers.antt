@@ -1,5 +1,0 @@
-use Rattle.schedule_laws.proofs.Casting.{beginnings_keep_the_cast}
-use Rattle.schedule_laws.proofs.cast.beginnings_keep_the_cast.Goals as goal
-
-pub returns : goal.returns
-returns c = beginnings_keep_the_cast

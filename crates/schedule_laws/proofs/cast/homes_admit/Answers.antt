@@ -1,5 +1,0 @@
-use Rattle.schedule_laws.proofs.Admitting.{homes_admit}
-use Rattle.schedule_laws.proofs.cast.homes_admit.Goals as goal
-
-pub returns : goal.returns
-returns c = homes_admit

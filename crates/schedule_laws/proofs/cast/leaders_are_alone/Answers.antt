@@ -1,5 +1,0 @@
-use Rattle.schedule_laws.proofs.Playing.{leaders_are_alone}
-use Rattle.schedule_laws.proofs.cast.leaders_are_alone.Goals as goal
-
-pub returns : goal.returns
-returns c = leaders_are_alone

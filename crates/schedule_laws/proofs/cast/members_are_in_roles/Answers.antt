@@ -1,5 +1,0 @@
-use Rattle.schedule_laws.proofs.Playing.{members_are_in_roles}
-use Rattle.schedule_laws.proofs.cast.members_are_in_roles.Goals as goal
-
-pub returns : goal.returns
-returns c = members_are_in_roles

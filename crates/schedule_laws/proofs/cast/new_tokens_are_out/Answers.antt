@@ -1,5 +1,0 @@
-use Rattle.schedule_laws.proofs.Casting.{new_tokens_are_out}
-use Rattle.schedule_laws.proofs.cast.new_tokens_are_out.Goals as goal
-
-pub returns : goal.returns
-returns c = new_tokens_are_out

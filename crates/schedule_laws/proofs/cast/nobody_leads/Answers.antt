@@ -1,5 +1,0 @@
-use Rattle.schedule_laws.proofs.Playing.{nobody_leads}
-use Rattle.schedule_laws.proofs.cast.nobody_leads.Goals as goal
-
-pub returns : goal.returns
-returns c = nobody_leads

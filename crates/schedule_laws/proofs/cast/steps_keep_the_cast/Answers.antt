@@ -1,5 +1,0 @@
-use Rattle.schedule_laws.proofs.Steps.{steps_keep_the_cast}
-use Rattle.schedule_laws.proofs.cast.steps_keep_the_cast.Goals as goal
-
-pub returns : goal.returns
-returns c = steps_keep_the_cast

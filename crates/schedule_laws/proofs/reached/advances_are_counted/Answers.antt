@@ -1,5 +1,0 @@
-use Rattle.schedule_laws.proofs.Claiming.{advances_are_counted}
-use Rattle.schedule_laws.proofs.reached.advances_are_counted.Goals as goal
-
-pub returns : goal.returns
-returns c = advances_are_counted

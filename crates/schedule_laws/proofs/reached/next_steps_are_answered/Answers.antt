@@ -1,5 +1,0 @@
-use Rattle.schedule_laws.proofs.Answered.{next_steps_are_answered}
-use Rattle.schedule_laws.proofs.reached.next_steps_are_answered.Goals as goal
-
-pub returns : goal.returns
-returns c = next_steps_are_answered

@@ -1,5 +1,0 @@
-use Rattle.schedule_laws.proofs.Spawning.{spawns_have_room_at_home}
-use Rattle.schedule_laws.proofs.reached.spawns_have_room_at_home.Goals as goal
-
-pub returns : goal.returns
-returns c = spawns_have_room_at_home

@@ -1,5 +1,0 @@
-use Rattle.schedule_laws.proofs.Claiming.{worlds_are_kept}
-use Rattle.schedule_laws.proofs.reached.worlds_are_kept.Goals as goal
-
-pub returns : goal.returns
-returns c = worlds_are_kept

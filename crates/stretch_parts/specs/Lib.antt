@@ -1,5 +1,0 @@
-pub mod PartValue
-pub mod Kept
-pub mod Parts
-pub mod PartView
-pub mod Next
