@@ -17,9 +17,8 @@ ghost use Rattle.bsp_cli.specs.Ends.{TakesJob, Checks, ChecksAll, Draws, ChecksT
 use crate::fault::RunFault;
 use crate::progress::{NoProgress, ObserveEnd, Progress};
 use crate::status::{LIMIT_REACHED, TASK_FAULT};
-use job_view::picture_of;
 use job_reader::{Code, ReadJobFault, Refusal, read_job, upgrade as upgraded, write_job};
-use job_view::{Look, draw_job, json_text_of};
+use job_view::{Look, draw_job, json_text_of, picture_of};
 use phase_records::{
     CountedRead, CountedWrite, JobStatus, ReadFault, Report, WriteFault, read_all, write_all,
     write_report,

@@ -3,9 +3,9 @@ ghost use Rattle.std.specs.Prelude.{◌≡◌, IfOk, MatchOption};
 ghost use Rattle.programs.specs.Steps.{ended};
 ghost use Rattle.fault_reasons.specs.Begun.{Begins, GetsTo, is_limit};
 
-use step_core::JobSteps;
 use phase_records::JobStatus;
 use std::alloc::{AllocError, Global};
+use step_core::JobSteps;
 use task_code::job::Job;
 
 // Returns true if a run has reached its limit.

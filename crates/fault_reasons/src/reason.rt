@@ -10,10 +10,10 @@ use crate::again::run_to;
 use crate::limit::push_limit;
 use crate::sums::{push_overflow, push_too_many};
 use crate::task::{Superstep, push_task_fault};
-use step_core::JobSteps;
 use job_reader::{ReadJobFault, read_job};
 use phase_records::JobStatus;
 use std::alloc::{AllocError, Global};
+use step_core::JobSteps;
 use task_code::job::Job;
 
 // Returns the superstep that a run takes next, which has this number.

@@ -11,11 +11,11 @@ ghost use Rattle.step_core.specs.Program.{program_of};
 use crate::fault::StreamFault;
 use crate::text::{write_lines, write_rest};
 use ghost_lists::log::{Log, Snapshot};
-use step_core::{JobProgram, JobSteps};
 use phase_records::{CountedWrite, JobStatus, Report};
 use program_stretches::{Left, Lines, SuperstepStart};
 use programs::alone::Ran;
 use std::alloc::{AllocError, Global};
+use step_core::{JobProgram, JobSteps};
 use task_code::job::Job;
 use task_lang::task::Task;
 

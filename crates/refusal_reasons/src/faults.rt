@@ -7,8 +7,8 @@ ghost use Rattle.refusal_reasons.specs.Faults.{block_left, ends_list, faults_in,
 
 use crate::lines::line_at;
 use crate::replacing::with_line;
-use job_reader::{Code, ReadJobFault, Refusal, read_job};
 use job_reader::words::is_word;
+use job_reader::{Code, ReadJobFault, Refusal, read_job};
 use std::alloc::{AllocError, Global};
 use text_lines::split_word;
 

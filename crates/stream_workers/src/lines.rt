@@ -11,12 +11,12 @@ ghost use Rattle.stretch_queue.specs.declared.fault.WorkerFault.TheVariants as w
 
 use crate::outlet::Outlet;
 use crate::streaming::Streaming;
-use step_core::JobProgram;
 use phase_records::CountedWrite;
 use program_stretches::{Lines, Outcome, Stretches};
 use std::alloc::{AllocError, Global};
 use std::marker::Model;
 use std::sync::{Mutex, Wait};
+use step_core::JobProgram;
 use stretch_queue::fault::{WorkerFault, fault_of_closing};
 use stretch_queue::hook;
 use stretch_queue::hook::{Closed, Hook};

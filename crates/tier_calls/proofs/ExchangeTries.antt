@@ -36,7 +36,7 @@ lost_pass {b} {c} z any some' tree view tokens = record {
 }
 
 -- tokens that are to arrive and have found their tier open
-looked_note : (w : Fields) (v : View) → v.errand ≡ Rest → (looked w v).note ≡ None
+pub looked_note : (w : Fields) (v : View) → v.errand ≡ Rest → (looked w v).note ≡ None
 looked_note w v rests =
     let n : cond (is_going_back v.errand) v.note None ≡ None = ap (λ (e : Errand). cond (is_going_back e) v.note None) rests in
     looked_cases (λ u. u.note ≡ None) w v (λ e. n) (λ e. n) (λ e. n)

@@ -24,13 +24,17 @@ use Rattle.tier_calls.specs.ArrivesAll.{Each, Did, HasSpent, OnlyLooks, Looks, S
 use Rattle.tier_calls.specs.ArrivesWith.{FirstLook, OnlyTried}
 use Rattle.tier_calls.specs.declared.groups.TriedAll.{TriedAll}
 use Rattle.tier_calls.specs.declared.groups.TriedAll.TheVariants as tried
+use Rattle.tier_calls.specs.Passes.{IsFresh}
+use Rattle.tier_core.proofs.Turns.{not_both}
+use Rattle.tier_calls.proofs.Passing.{looked_fresh}
+use Rattle.tier_calls.proofs.Settling.{none_of, end_found}
 use Rattle.tier_calls.proofs.Making.{made_none}
 use Rattle.tier_calls.proofs.Grouping.{alike_own, unled, looked_alike, looked_long, seated_group}
 use Rattle.tier_calls.proofs.Arrivals.{enough}
-use Rattle.tier_calls.proofs.Splitting.{first_alike_key}
-use Rattle.tier_calls.proofs.ExchangeTries.{eager_first, parties_there}
+use Rattle.tier_calls.proofs.Splitting.{first_alike_key, Joined}
+use Rattle.tier_calls.proofs.ExchangeTries.{eager_first, looked_note, parties_there}
 use Rattle.tier_calls.proofs.Waits.{lags_parts}
-use Rattle.tier_calls.proofs.ArrivingAll.{among_beside, crowd_alike, each_long, each_looked, spent_looks, looked_keeps, looked_yet, none_now, ready, last_count, yet, keeps_none, keeps_then, counts_then, last_then, comes_then, arrived_counts, may_pass_all, first_tokens, first_look, unseen_all, looked_unled, glanced_here, to_arrive, still}
+use Rattle.tier_calls.proofs.ArrivingAll.{among_beside, crowd_alike, each_long, each_looked, spent_looks, looked_keeps, looked_yet, none_now, ready, last_count, yet, keeps_none, keeps_then, counts_then, last_then, comes_then, arrived_counts, may_pass, may_pass_all, first_tokens, first_look, unseen_all, looked_unled, glanced_here, to_arrive, still}
 
 abbrev Seat : Type 0
 Seat = Me Kind (List Sight)
@@ -49,6 +53,37 @@ found_after {w} {h} {id} {u} me (Some f) r is =
           (subst (λ (z : Named). Among z.key.shape 0 w (those me.0)) (sym r.tree) r.looked.after);
       may = subst (λ (n : ℕ). CanPass n w u) (sym may.root) (may_pass_all r may.root none may.going may.current);
       eager = eager_first r may.going none;
+    })
+
+-- what two groups keep together of a look at the root
+pub found_joined : {k : Key} {w : Fields} {v z : View} {me mo : Seat} {count count' : ℕ} (now : Seat) (o : Option Fields)
+    → AreSeated me v count → AreSeated now z count' → Joined k w v me mo now → Among k.shape 0 w (those now.0) → z ≡ looked w v
+    → IfSome o (λ f. (f ≡ w) × MayKeep z w) → IfSome o (FoundThere now z)
+found_joined {k} {w} {v} {z} {me} {mo} {count} {count'} now None seated both j among is r = tt
+found_joined {k} {w} {v} {z} {me} {mo} {count} {count'} now (Some f) seated both j among is r =
+    let may = r.1 in
+    let some' : 0 < length now.0 = let a = both.long in let b = both.some in omega arith in
+    let key : (sight_of now).key ≡ k = first_alike_key k (looked w v) now.0 some' j.alike in
+    let alike : AreAlike k z now.0 = subst (λ (y : View). AreAlike k y now.0) (sym is) j.alike in
+    let none = to_arrive z both.view may.some in
+    let fresh : IsFresh z =
+    subst IsFresh (sym is)
+    (looked_fresh w v may.going (none_of v.end_seen (λ p e. not_both w.ended (end_found k.shape w v p j.beside e) may.going))) in
+    subst (FoundThere now z) (sym r.0) (record {
+      root = may.root;
+      among =
+          subst (λ (n : ℕ). Among (sight_of now).key.shape n w (those now.0)) (sym may.root)
+          (subst (λ (y : Key). Among y.shape 0 w (those now.0)) (sym key) among);
+      may =
+          subst (λ (n : ℕ). CanPass n w z) (sym may.root)
+          (may_pass k 0 w z now.0 among alike some' may.root both.view none may.going may.current);
+      eager =
+          record {
+            none = none;
+            unseen = fresh.unseen;
+            unled = fresh.unled;
+            unnoted = ap (λ (y : View). y.note) is ∙ looked_note w v seated.view.rests;
+          };
     })
 
 begin_by : {id : TableId} {me : Seat} {v : View} {count : ℕ} {h : GroupHeld} {w : Fields} → AreSeated me v count → FoundThere me v w

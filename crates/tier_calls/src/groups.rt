@@ -501,8 +501,8 @@ impl Tiers {
     /// the phase to pass.
     ///
     /// Makes at most `tries` tries, each of which may also bring the tier into the root's phase. The first one needs no load
-    /// if the group's last call was a poll, its members are at the root, and they may arrive. See [`ArrivedAll`] for what to do
-    /// after each answer.
+    /// if the group's last call was a poll or an append, its members are at the root, and they may arrive. See [`ArrivedAll`] for
+    /// what to do after each answer.
     pub fn arrive_all(&self, mut group: Group, tries: u32) -> ArrivedAll
         requires own { group.tree ≡ self.now }
         ensures answer { ArrivesAll group tries result }
@@ -655,11 +655,11 @@ impl Tiers {
             count,
             found: _,
         } = other;
-        group.found = None;
         self.table.shared.join_seat::<Joins>(&mut group.seat, seat);
         let word = self.look_seat(&mut group.seat, 0);
         group.count += count;
         group.view = look(word, group.view);
+        group.found = kept_after(word, &group.view);
     }
 
     /// Parts the token that has arrived last at a tier from the others that arrived with it. `before` is the word before its

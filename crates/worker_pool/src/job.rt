@@ -9,12 +9,12 @@ ghost use Rattle.stretch_queue.specs.Refusals.{IsOfWorkers};
 
 use crate::program::run_program;
 use advance_rule::StoredAdvance;
-use step_core::{Beginning, JobProgram, MOST_TASKS, begin};
 use phase_records::Report;
 use programs::alone::Ran;
 use std::alloc::Global;
 use std::sync::Wait;
 use std::thread::Threads;
+use step_core::{Beginning, JobProgram, MOST_TASKS, begin};
 use stretch_queue::fault::Refused;
 use stretch_queue::hooks::{Gate, Starter};
 use task_code::job::Job;

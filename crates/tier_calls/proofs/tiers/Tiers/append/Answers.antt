@@ -3,6 +3,7 @@ use Rattle.tier_rule.proofs.Allowed.{joins_allow}
 use Rattle.tier_calls.proofs.Grouping.{facts}
 use Rattle.tier_calls.proofs.Splitting.{joined_own, joined_now, joined_crowd, together_now}
 use Rattle.tier_calls.proofs.Few.{few_joined}
+use Rattle.tier_calls.proofs.Keeping.{found_joined}
 use Rattle.tier_calls.proofs.tiers.Tiers.append.Goals as goal
 
 pub join_seat-requires : goal.join_seat-requires
@@ -18,15 +19,18 @@ look_seat-word-requires-clause-tokens c =
     c.requires.own.0 c.other.invariant.0 c.other.view_is c.requires.own.1 c.join_seat.ensures.2
 
 pub invariant_of-group : goal.invariant_of-group
-invariant_of-group c = (
-  let j =
-      joined_now {me = c.group.inside.seat.me} {mo = c.other.inside.seat.me} c.join_seat.new.seat.me c.look_seat-word.new.seat.me
-      c.group.invariant.0 c.group.view_is c.requires.own.0 c.other.invariant.0 c.other.view_is c.requires.own.1 c.requires.together
-      c.join_seat.ensures.2 c.look_seat-word.ensures.looked in
-      joined_crowd c.look_seat-word.new.seat.me c.group.invariant.0 c.other.invariant.0 c.look_seat-word.ensures.bare j
-      c.look-group-inside.ensures,
-  tt,
-)
+invariant_of-group c =
+    let j =
+    joined_now {me = c.group.inside.seat.me} {mo = c.other.inside.seat.me} c.join_seat.new.seat.me c.look_seat-word.new.seat.me
+    c.group.invariant.0 c.group.view_is c.requires.own.0 c.other.invariant.0 c.other.view_is c.requires.own.1 c.requires.together
+    c.join_seat.ensures.2 c.look_seat-word.ensures.looked in
+    let both =
+    joined_crowd c.look_seat-word.new.seat.me c.group.invariant.0 c.other.invariant.0 c.look_seat-word.ensures.bare j
+    c.look-group-inside.ensures in (
+      both,
+      found_joined c.look_seat-word.new.seat.me c.kept_after-group-inside.result c.group.invariant.0 both j
+          c.look_seat-word.ensures.looked.after c.look-group-inside.ensures c.kept_after-group-inside.ensures,
+    )
 
 pub returns : goal.returns
 returns c =
