@@ -38,12 +38,10 @@ pub(crate) struct Sight<'a> {
 fn is_among(items: &[Vec<u8>], item: &[u8]) -> bool
     ensures { result ≡ is_among_of (map (λ v. v.items) items.now) item.now }
 {
-    let mut rest = items;
-    while let Some((known, after)) = rest.split_first() {
+    for known in items {
         if known.as_slice() == item {
             return true;
         }
-        rest = after;
     }
     false
 }

@@ -30,11 +30,10 @@ fn count_living(alloc: Global, at: Superstep<'_>) -> Result<u128, AllocError>
     ensures { IfOk result (λ n. n ≡ all_living (again_seen at.entry) (again_seen at.entry).tasks) }
 {
     let mut count: u128 = 0;
-    let mut rest = at.tasks;
-    while let Some((task, after)) = rest.split_first() {
+    let rest = at.tasks;
+    for task in rest {
         let (end, doing) = walk_task(alloc, at, task)?;
         count += u128::from(living(end, &doing));
-        rest = after;
     }
     Ok(count)
 }
@@ -69,11 +68,10 @@ fn all_puts(alloc: Global, at: Superstep<'_>) -> Result<Vec<Put>, AllocError>
     ensures { IfOk result (λ puts. puts.items ≡ all_puts_of (again_seen at.entry) (again_seen at.entry).tasks) }
 {
     let mut puts = Vec::new(alloc);
-    let mut rest = at.tasks;
-    while let Some((task, after)) = rest.split_first() {
+    let rest = at.tasks;
+    for task in rest {
         let (_, doing) = walk_task(alloc, at, task)?;
         puts.extend_from_slice(&doing.puts)?;
-        rest = after;
     }
     Ok(puts)
 }

@@ -112,13 +112,12 @@ pub(crate) fn walk_task(
 pub(crate) fn push_path(out: &mut Vec<u8>, path: &[u16]) -> Result<(), AllocError>
     ensures { OnOk result (out.new.items ≡ out.old.items ++ path_text path.now) }
 {
-    let Some((first, mut rest)) = path.split_first() else {
+    let Some((first, rest)) = path.split_first() else {
         return Ok(());
     };
     push_number(out, *first)?;
-    while let Some((number, after)) = rest.split_first() {
+    for number in rest {
         push_field(out, b".", *number)?;
-        rest = after;
     }
     Ok(())
 }
@@ -272,12 +271,11 @@ pub(crate) fn push_task_fault(
 ) -> Result<(), AllocError>
     ensures { OnOk result (out.new.items ≡ out.old.items ++ fault_at (again_seen at.entry) path.now (again_seen at.entry).tasks) }
 {
-    let mut rest = at.tasks;
-    while let Some((task, after)) = rest.split_first() {
+    let rest = at.tasks;
+    for task in rest {
         if task.path.as_slice() == path {
             return push_end(alloc, out, at, task);
         }
-        rest = after;
     }
     Ok(())
 }

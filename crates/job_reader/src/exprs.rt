@@ -62,12 +62,10 @@ pub fn cell_parts(word: &[u8]) -> Option<(&[u8], &[u8])>
 pub fn has_bracket(word: &[u8]) -> bool
     ensures { result ≡ spec.has_bracket word.now }
 {
-    let mut rest = word;
-    while let Some((first, after)) = rest.split_first() {
+    for first in word {
         if *first == b'[' {
             return true;
         }
-        rest = after;
     }
     false
 }

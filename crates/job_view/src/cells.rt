@@ -76,13 +76,12 @@ pub(crate) fn push_escaped(out: &mut Vec<u8>, name: &[u8]) -> Result<(), AllocEr
 fn least(values: &[i64]) -> i64
     ensures { result ≡ least_of values.now }
 {
-    let Some((first, mut rest)) = values.split_first() else {
+    let Some((first, rest)) = values.split_first() else {
         return 0;
     };
     let mut low = *first;
-    while let Some((value, after)) = rest.split_first() {
+    for value in rest {
         low = low.min(*value);
-        rest = after;
     }
     low
 }
@@ -91,13 +90,12 @@ fn least(values: &[i64]) -> i64
 fn most(values: &[i64]) -> i64
     ensures { result ≡ most_of values.now }
 {
-    let Some((first, mut rest)) = values.split_first() else {
+    let Some((first, rest)) = values.split_first() else {
         return 0;
     };
     let mut high = *first;
-    while let Some((value, after)) = rest.split_first() {
+    for value in rest {
         high = high.max(*value);
-        rest = after;
     }
     high
 }
@@ -164,11 +162,9 @@ fn longest(values: &[i64]) -> usize
     ensures longest { result ≡ longest_of values.now }
     ensures some { 0 < result }
 {
-    let mut rest = values;
     let mut signs = 1;
-    while let Some((value, after)) = rest.split_first() {
+    for value in values {
         signs = signs.max(Buffer::new().format(*value).len());
-        rest = after;
     }
     signs
 }

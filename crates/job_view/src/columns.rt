@@ -63,15 +63,13 @@ pub(crate) fn columns_of(
 {
     let mut columns = Vec::new(alloc);
     let mut prints = prints;
-    let mut rest = records;
-    while let Some((counts, after)) = rest.split_first() {
+    for counts in records {
         columns.push(Column {
             counts: *counts,
             steps: 1,
             prints: begins_in(prints, counts.phase),
         })?;
         prints = skip_prints(prints, counts.phase);
-        rest = after;
     }
     Ok(columns)
 }
@@ -113,13 +111,12 @@ fn nothing() -> Column
 pub(crate) fn greatest(columns: &[Column]) -> Column
     ensures { result ≡ greatest_of columns.now }
 {
-    let Some((first, mut rest)) = columns.split_first() else {
+    let Some((first, rest)) = columns.split_first() else {
         return nothing();
     };
     let mut all = *first;
-    while let Some((column, after)) = rest.split_first() {
+    for column in rest {
         all = greater(all, *column);
-        rest = after;
     }
     all
 }
@@ -194,10 +191,8 @@ fn push_bars(out: &mut Vec<u8>, column: Column) -> Result<(), AllocError>
 pub(crate) fn push_all_bars(out: &mut Vec<u8>, columns: &[Column]) -> Result<(), AllocError>
     ensures { OnOk result (out.new.items ≡ out.old.items ++ flat_map bars columns.now) }
 {
-    let mut rest = columns;
-    while let Some((column, after)) = rest.split_first() {
+    for column in columns {
         push_bars(out, *column)?;
-        rest = after;
     }
     Ok(())
 }
@@ -216,10 +211,8 @@ fn push_tick(out: &mut Vec<u8>, column: Column) -> Result<(), AllocError>
 pub(crate) fn push_all_ticks(out: &mut Vec<u8>, columns: &[Column]) -> Result<(), AllocError>
     ensures { OnOk result (out.new.items ≡ out.old.items ++ flat_map tick columns.now) }
 {
-    let mut rest = columns;
-    while let Some((column, after)) = rest.split_first() {
+    for column in columns {
         push_tick(out, *column)?;
-        rest = after;
     }
     Ok(())
 }

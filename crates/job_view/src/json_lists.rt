@@ -23,10 +23,8 @@ fn write_numbers(out: &mut Writer, path: &[u16]) -> Result<(), AllocError>
     ensures tokens { OnOk result (out.new.tokens ≡ out.old.tokens ++ items_tokens (items_of (map natural path.now))) }
     ensures before { out.new.before ≡ out.old.before }
 {
-    let mut rest = path;
-    while let Some((number, after)) = rest.split_first() {
+    for number in path {
         out.u64(u64::from(*number))?;
-        rest = after;
     }
     out.end_array()
 }
@@ -45,10 +43,8 @@ fn write_values(out: &mut Writer, cells: &[i64]) -> Result<(), AllocError>
     ensures tokens { OnOk result (out.new.tokens ≡ out.old.tokens ++ items_tokens (items_of (map integer cells.now))) }
     ensures before { out.new.before ≡ out.old.before }
 {
-    let mut rest = cells;
-    while let Some((cell, after)) = rest.split_first() {
+    for cell in cells {
         out.i64(*cell)?;
-        rest = after;
     }
     out.end_array()
 }
@@ -91,10 +87,8 @@ fn write_records(out: &mut Writer, records: &[PhaseRecord]) -> Result<(), AllocE
     ensures tokens { OnOk result (out.new.tokens ≡ out.old.tokens ++ items_tokens (items_of (map superstep_json records.now))) }
     ensures before { out.new.before ≡ out.old.before }
 {
-    let mut rest = records;
-    while let Some((counts, after)) = rest.split_first() {
+    for counts in records {
         write_superstep(out, *counts)?;
-        rest = after;
     }
     out.end_array()
 }
@@ -129,10 +123,8 @@ fn write_each_print(out: &mut Writer, prints: &[Print]) -> Result<(), AllocError
     ensures tokens { OnOk result (out.new.tokens ≡ out.old.tokens ++ items_tokens (items_of (map print_json prints.now))) }
     ensures before { out.new.before ≡ out.old.before }
 {
-    let mut rest = prints;
-    while let Some((print, after)) = rest.split_first() {
+    for print in prints {
         write_print(out, print)?;
-        rest = after;
     }
     out.end_array()
 }

@@ -24,10 +24,9 @@ pub fn spaced_text(alloc: Global, text: &str) -> Result<Vec<u8>, AllocError>
     ensures { IfOk result (λ words. words.items ≡ map spaced_of text.now) }
 {
     let mut words = Vec::new(alloc);
-    let mut rest = text.as_bytes();
-    while let Some((byte, after)) = rest.split_first() {
+    let rest = text.as_bytes();
+    for byte in rest {
         words.push(spaced(*byte))?;
-        rest = after;
     }
     Ok(words)
 }

@@ -24,10 +24,8 @@ fn push_fault(out: &mut Vec<u8>, refusal: Refusal) -> Result<(), AllocError>
 fn push_faults(out: &mut Vec<u8>, faults: &[Refusal]) -> Result<(), AllocError>
     ensures { OnOk result (out.new.items ≡ out.old.items ++ flat_map fault_line faults.now) }
 {
-    let mut rest = faults;
-    while let Some((refusal, after)) = rest.split_first() {
+    for refusal in faults {
         push_fault(out, *refusal)?;
-        rest = after;
     }
     Ok(())
 }

@@ -42,10 +42,8 @@ fn push_byte(out: &mut Vec<u8>, byte: u8) -> Result<(), AllocError>
 fn push_shown(out: &mut Vec<u8>, line: &[u8]) -> Result<(), AllocError>
     ensures { OnOk result (out.new.items ≡ out.old.items ++ shown_of line.now) }
 {
-    let mut rest = line;
-    while let Some((byte, after)) = rest.split_first() {
+    for byte in line {
         push_byte(out, *byte)?;
-        rest = after;
     }
     Ok(())
 }

@@ -64,10 +64,8 @@ pub fn paths_of(alloc: Global, tasks: &[Task]) -> Result<Vec<Path>, AllocError>
     ensures { IfOk result (λ paths. map path_of paths.items ≡ map path_in tasks.now) }
 {
     let mut paths = Vec::new(alloc);
-    let mut rest = tasks;
-    while let Some((task, after)) = rest.split_first() {
+    for task in tasks {
         paths.push(task_path(task))?;
-        rest = after;
     }
     Ok(paths)
 }

@@ -74,10 +74,8 @@ pub fn prints_of(alloc: Global, finished: &[Finished]) -> Result<Vec<Print>, All
     ensures { IfOk result (λ prints. prints.items ≡ all_prints finished.now) }
 {
     let mut prints = Vec::new(alloc);
-    let mut rest = finished;
-    while let Some((one, after)) = rest.split_first() {
+    for one in finished {
         copy_prints(&mut prints, &one.prints)?;
-        rest = after;
     }
     Ok(prints)
 }
@@ -86,15 +84,13 @@ pub fn prints_of(alloc: Global, finished: &[Finished]) -> Result<Vec<Print>, All
 fn copy_prints(prints: &mut Vec<Print>, more: &[Print]) -> Result<(), AllocError>
     ensures { OnOk result (prints.new.items ≡ prints.old.items ++ more.now) }
 {
-    let mut rest = more;
-    while let Some((print, after)) = rest.split_first() {
+    for print in more {
         let path = SmallVec::from_slice(*print.path.allocator(), print.path.as_slice())?;
         prints.push(Print {
             step: print.step,
             path,
             value: print.value,
         })?;
-        rest = after;
     }
     Ok(())
 }
@@ -104,10 +100,8 @@ pub fn records_of(alloc: Global, finished: &[Finished]) -> Result<Vec<PhaseRecor
     ensures { IfOk result (λ records. records.items ≡ all_counts finished.now) }
 {
     let mut records = Vec::with_capacity(alloc, finished.len())?;
-    let mut rest = finished;
-    while let Some((one, after)) = rest.split_first() {
+    for one in finished {
         records.push(one.counts)?;
-        rest = after;
     }
     Ok(records)
 }

@@ -98,14 +98,12 @@ fn after_lot<'a>(lot: Lot, rows: &'a [Row]) -> &'a [Row]
 pub(crate) fn are_all_in(arrays: &Arrays, lots: &[Lot], rows: &[Row]) -> bool
     ensures { result ≡ list_all (is_cell arrays.now) (puts_in lots.now rows.now) }
 {
-    let mut rest = lots;
     let mut left = rows;
-    while let Some((lot, after)) = rest.split_first() {
+    for lot in lots {
         if !is_lot_in(arrays, *lot, left) {
             return false;
         }
         left = after_lot(*lot, left);
-        rest = after;
     }
     true
 }

@@ -55,11 +55,9 @@ pub(crate) fn list_of(alloc: Global, lots: &[Lot], rows: &[Row]) -> Result<Vec<P
     ensures { IfOk result (λ puts. puts.items ≡ puts_in lots.now rows.now) }
 {
     let mut puts = Vec::new(alloc);
-    let mut rest = lots;
     let mut left = rows;
-    while let Some((lot, after)) = rest.split_first() {
+    for lot in lots {
         left = list_lot(&mut puts, *lot, left)?;
-        rest = after;
     }
     Ok(puts)
 }

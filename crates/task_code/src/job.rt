@@ -105,12 +105,10 @@ fn are_arrays(arrays: &Arrays) -> bool
 fn is_among(bodies: &[Body], name: &[u8]) -> bool
     ensures { result ≡ names.is_among (map (λ b. b.name) bodies.now) name.now }
 {
-    let mut rest = bodies;
-    while let Some((first, after)) = rest.split_first() {
+    for first in bodies {
         if are_same(first.name().as_bytes(), name) {
             return true;
         }
-        rest = after;
     }
     false
 }
@@ -135,12 +133,10 @@ fn are_within(bodies: &[Body], arrays: usize, count: usize) -> bool
     ensures within { result ≡ list_all (λ b. list_all (limits.is_line arrays count) b.code) bodies.now }
     ensures each { IsTrue result → AllByRecursion IsBody bodies.now }
 {
-    let mut rest = bodies;
-    while let Some((first, after)) = rest.split_first() {
+    for first in bodies {
         if !are_lines(first.code(), arrays, count) {
             return false;
         }
-        rest = after;
     }
     true
 }

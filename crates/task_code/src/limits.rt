@@ -34,12 +34,10 @@ pub(crate) fn statements(code: &[Line]) -> usize
     ensures { result ≡ spec.statements code.now }
 {
     let mut count = 0;
-    let mut rest = code;
-    while let Some((line, after)) = rest.split_first() {
+    for line in code {
         if is_statement(line) {
             count += 1;
         }
-        rest = after;
     }
     count
 }

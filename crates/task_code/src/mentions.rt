@@ -70,12 +70,10 @@ pub(crate) fn are_below(code: &[Line], count: usize) -> bool
     ensures below { result ≡ spec.are_below count (spec.mentions code.now) }
     ensures fits { IsTrue result → IsTrue (list_all fits_line code.now) }
 {
-    let mut rest = code;
-    while let Some((line, after)) = rest.split_first() {
+    for line in code {
         if !is_below(line, count) {
             return false;
         }
-        rest = after;
     }
     true
 }

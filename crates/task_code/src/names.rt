@@ -75,12 +75,10 @@ pub fn is_free(word: &[u8]) -> bool
 fn is_among(names: &[String], name: &[u8]) -> bool
     ensures { result ≡ spec.is_among (map string_bytes names.now) name.now }
 {
-    let mut rest = names;
-    while let Some((first, after)) = rest.split_first() {
+    for first in names {
         if are_same(first.as_bytes(), name) {
             return true;
         }
-        rest = after;
     }
     false
 }

@@ -1,10 +1,7 @@
-use Rattle.std.proofs.Common.{◌≡◌, ◌++◌, length}
+use Rattle.std.proofs.Common.{◌≡◌, ◌++◌, drop}
 use Rattle.fault_reasons.specs.AgainSeen.{again_seen}
 use Rattle.fault_reasons.specs.Texts.{all_puts}
 use Rattle.fault_reasons.proofs.sums.all_puts.Given as goal
 
 abbrev pub invariant-loop-task : goal.invariant-loop-task
-invariant-loop-task l = l.puts.items ++ all_puts (again_seen l.at) l.rest ≡ all_puts (again_seen l.at) (again_seen l.at).tasks
-
-abbrev pub decreases-loop-task : goal.decreases-loop-task
-decreases-loop-task l = length l.rest
+invariant-loop-task l = l.puts.items ++ all_puts (again_seen l.at) (drop l.task-index l.rest) ≡ all_puts (again_seen l.at) (again_seen l.at).tasks

@@ -1,10 +1,7 @@
-use Rattle.std.proofs.Common.{◌≡◌, ◌++◌, length}
+use Rattle.std.proofs.Common.{◌≡◌, ◌++◌, drop}
 use Rattle.phase_records.specs.ReportText.{path_text}
 use Rattle.phase_records.proofs.ReportProofs.{points_text}
 use Rattle.fault_reasons.proofs.task.push_path.Given as goal
 
 abbrev pub invariant-loop-number : goal.invariant-loop-number
-invariant-loop-number l = l.out.items ++ points_text l.rest ≡ l.fn.out.items ++ path_text l.fn.path
-
-abbrev pub decreases-loop-number : goal.decreases-loop-number
-decreases-loop-number l = length l.rest
+invariant-loop-number l = l.out.items ++ points_text (drop l.number-index l.rest) ≡ l.fn.out.items ++ path_text l.fn.path

@@ -1,4 +1,4 @@
-use Rattle.std.proofs.Common.{◌≡◌, ◌<◌, max, length}
+use Rattle.std.proofs.Common.{◌≡◌, ◌<◌, max, length, drop}
 use Rattle.std.specs.List.{fold}
 use Rattle.std.specs.Fmt.{signed_decimal}
 use Rattle.job_view.specs.Cells.{longest}
@@ -6,9 +6,6 @@ use Rattle.job_view.proofs.cells.longest.Given as goal
 
 abbrev pub invariant-loop-value : goal.invariant-loop-value
 invariant-loop-value l = record {
-  same : fold (λ n v. max n (length (signed_decimal v))) l.signs l.rest ≡ longest l.fn.values;
+  same : fold (λ n v. max n (length (signed_decimal v))) l.signs (drop l.value-index l.values) ≡ longest l.fn.values;
   some : 0 < l.signs;
 }
-
-abbrev pub decreases-loop-value : goal.decreases-loop-value
-decreases-loop-value l = length l.rest

@@ -1,10 +1,7 @@
-use Rattle.std.proofs.Common.{◌≡◌, length}
+use Rattle.std.proofs.Common.{◌≡◌, drop}
 use Rattle.std.specs.List.{fold}
 use Rattle.job_view.specs.Columns.{greater, greatest}
 use Rattle.job_view.proofs.columns.greatest.Given as goal
 
 abbrev pub invariant-loop-column : goal.invariant-loop-column
-invariant-loop-column l = fold greater l.all l.rest ≡ greatest l.fn.columns
-
-abbrev pub decreases-loop-column : goal.decreases-loop-column
-decreases-loop-column l = length l.rest
+invariant-loop-column l = fold greater l.all (drop l.column-index l.rest) ≡ greatest l.fn.columns

@@ -1,10 +1,7 @@
-use Rattle.std.proofs.Common.{◌≡◌, ◌++◌, length}
+use Rattle.std.proofs.Common.{◌≡◌, ◌++◌, drop}
 use Rattle.std.specs.List.{flat_map}
 use Rattle.job_view.specs.Columns.{bars}
 use Rattle.job_view.proofs.columns.push_all_bars.Given as goal
 
 abbrev pub invariant-loop-column : goal.invariant-loop-column
-invariant-loop-column l = l.out.items ++ flat_map bars l.rest ≡ l.fn.out.items ++ flat_map bars l.fn.columns
-
-abbrev pub decreases-loop-column : goal.decreases-loop-column
-decreases-loop-column l = length l.rest
+invariant-loop-column l = l.out.items ++ flat_map bars (drop l.column-index l.columns) ≡ l.fn.out.items ++ flat_map bars l.fn.columns

@@ -1,4 +1,4 @@
-use Rattle.std.proofs.Common.{◌≡◌, ◌++◌, length, map}
+use Rattle.std.proofs.Common.{◌≡◌, ◌++◌, map, drop}
 use Rattle.json.specs.Tree.{items_tokens}
 use Rattle.json.specs.Value.{items_of}
 use Rattle.job_view.specs.ReportJson.{print_json}
@@ -6,10 +6,7 @@ use Rattle.job_view.proofs.json_lists.write_each_print.Given as goal
 
 abbrev pub invariant-loop-print : goal.invariant-loop-print
 invariant-loop-print l = record {
-  tokens : l.out.tokens ++ items_tokens (items_of (map print_json l.rest))
+  tokens : l.out.tokens ++ items_tokens (items_of (map print_json (drop l.print-index l.prints)))
       ≡ l.fn.out.tokens ++ items_tokens (items_of (map print_json l.fn.prints));
   before : l.out.before ≡ l.fn.out.before;
 }
-
-abbrev pub decreases-loop-print : goal.decreases-loop-print
-decreases-loop-print l = length l.rest

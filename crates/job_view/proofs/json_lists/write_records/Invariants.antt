@@ -1,4 +1,4 @@
-use Rattle.std.proofs.Common.{◌≡◌, ◌++◌, length, map}
+use Rattle.std.proofs.Common.{◌≡◌, ◌++◌, map, drop}
 use Rattle.json.specs.Tree.{items_tokens}
 use Rattle.json.specs.Value.{items_of}
 use Rattle.job_view.specs.ReportJson.{superstep_json}
@@ -6,10 +6,7 @@ use Rattle.job_view.proofs.json_lists.write_records.Given as goal
 
 abbrev pub invariant-loop-counts : goal.invariant-loop-counts
 invariant-loop-counts l = record {
-  tokens : l.out.tokens ++ items_tokens (items_of (map superstep_json l.rest))
+  tokens : l.out.tokens ++ items_tokens (items_of (map superstep_json (drop l.counts-index l.records)))
       ≡ l.fn.out.tokens ++ items_tokens (items_of (map superstep_json l.fn.records));
   before : l.out.before ≡ l.fn.out.before;
 }
-
-abbrev pub decreases-loop-counts : goal.decreases-loop-counts
-decreases-loop-counts l = length l.rest

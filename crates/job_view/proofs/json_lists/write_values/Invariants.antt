@@ -1,4 +1,4 @@
-use Rattle.std.proofs.Common.{◌≡◌, ◌++◌, length, map}
+use Rattle.std.proofs.Common.{◌≡◌, ◌++◌, map, drop}
 use Rattle.json.specs.Tree.{items_tokens}
 use Rattle.json.specs.Value.{items_of}
 use Rattle.job_view.specs.ReportJson.{integer}
@@ -6,10 +6,7 @@ use Rattle.job_view.proofs.json_lists.write_values.Given as goal
 
 abbrev pub invariant-loop-cell : goal.invariant-loop-cell
 invariant-loop-cell l = record {
-  tokens : l.out.tokens ++ items_tokens (items_of (map integer l.rest))
+  tokens : l.out.tokens ++ items_tokens (items_of (map integer (drop l.cell-index l.cells)))
       ≡ l.fn.out.tokens ++ items_tokens (items_of (map integer l.fn.cells));
   before : l.out.before ≡ l.fn.out.before;
 }
-
-abbrev pub decreases-loop-cell : goal.decreases-loop-cell
-decreases-loop-cell l = length l.rest

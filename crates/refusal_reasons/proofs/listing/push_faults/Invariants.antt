@@ -1,10 +1,7 @@
-use Rattle.std.proofs.Common.{◌≡◌, ◌++◌, length}
+use Rattle.std.proofs.Common.{◌≡◌, ◌++◌, drop}
 use Rattle.std.specs.List.{flat_map}
 use Rattle.refusal_reasons.specs.Listing.{fault_line}
 use Rattle.refusal_reasons.proofs.listing.push_faults.Given as goal
 
 abbrev pub invariant-loop-refusal : goal.invariant-loop-refusal
-invariant-loop-refusal l = l.out.items ++ flat_map fault_line l.rest ≡ l.fn.out.items ++ flat_map fault_line l.fn.faults
-
-abbrev pub decreases-loop-refusal : goal.decreases-loop-refusal
-decreases-loop-refusal l = length l.rest
+invariant-loop-refusal l = l.out.items ++ flat_map fault_line (drop l.refusal-index l.faults) ≡ l.fn.out.items ++ flat_map fault_line l.fn.faults

@@ -1,4 +1,4 @@
-use Rattle.std.proofs.Common.{◌≡◌, length}
+use Rattle.std.proofs.Common.{◌≡◌, drop}
 use Rattle.std.specs.List.{list_all, AllByRecursion}
 use Rattle.task_code.specs.Limits as limits
 use Rattle.task_code.specs.Rules.{IsBody}
@@ -7,9 +7,6 @@ use Rattle.task_code.proofs.job.are_within.Given as goal
 abbrev pub invariant-loop-first : goal.invariant-loop-first
 invariant-loop-first l = record {
   within : list_all (λ b. list_all (limits.is_line l.arrays l.count) b.code) l.bodies
-      ≡ list_all (λ b. list_all (limits.is_line l.arrays l.count) b.code) l.rest;
-  each : AllByRecursion IsBody l.rest → AllByRecursion IsBody l.bodies;
+      ≡ list_all (λ b. list_all (limits.is_line l.arrays l.count) b.code) (drop l.first-index l.bodies);
+  each : AllByRecursion IsBody (drop l.first-index l.bodies) → AllByRecursion IsBody l.bodies;
 }
-
-abbrev pub decreases-loop-first : goal.decreases-loop-first
-decreases-loop-first l = length l.rest
