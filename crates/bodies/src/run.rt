@@ -45,7 +45,8 @@ impl<'b, B: TaskBody> Model for Run<'b, B> {
 impl<'b, B: TaskBody> Run<'b, B> {
     ghost use Rattle.std.specs.Prelude.{◌≡◌, ◌≤◌, ◌↔◌, [], true, false, IfOk, IfErr, length};
     ghost use Rattle.programs.specs.History.{HasRun};
-    ghost use Rattle.task_bodies.specs.Bodies.{member_frame, are_too_many, BodyMay, numbered};
+    ghost use Rattle.task_bodies.specs.Bodies.{are_too_many};
+    ghost use Rattle.bodies.specs.RunValue.{setup_in};
     ghost use Rattle.task_bodies.specs.declared.run.BodiesFault.TheVariants.{TooMany as TooManyStart};
     ghost use Rattle.bodies.specs.Leaving.{are_too_many_parties, RefusesFor};
 
@@ -92,7 +93,7 @@ impl<'b, B: TaskBody> Run<'b, B> {
     /// back with what they keep.
     pub fn alone(self, alloc: Global) -> Result<Ran<Member<B::Kept>>, BodiesFault>
         requires ready { B.ready self.body }
-        ensures ran { IfOk result (λ ran. let r = self.entry in HasRun member_frame (BodyMay (B.may r.body)) r.most r.arrays (numbered [] 0 r.tasks) r.limit ran.report ran.tasks.items) }
+        ensures ran { IfOk result (λ ran. let r = self.entry in HasRun (setup_in B.may r) ran.report ran.tasks.items) }
         ensures few { IfOk result (λ ran. are_too_many self.entry.most (length self.entry.tasks) ≡ false) }
         ensures fault { IfErr result (λ e. (e ≡ TooManyStart) ↔ (are_too_many self.entry.most (length self.entry.tasks) ≡ true)) }
     {
@@ -113,7 +114,7 @@ where
 {
     ghost use Rattle.std.specs.Prelude.{◌≡◌, [], false, IfOk, IfErr, length};
     ghost use Rattle.programs.specs.History.{HasRun};
-    ghost use Rattle.task_bodies.specs.Bodies.{member_frame, BodyMay, numbered};
+    ghost use Rattle.bodies.specs.RunValue.{setup_in};
     ghost use Rattle.bodies.specs.Leaving.{are_too_many_parties, RefusesFor};
 
     /// Runs the body on these workers. What it promises is what [`Run::alone`] promises. If what the body does depends only on its
@@ -125,7 +126,7 @@ where
         workers: Workers,
     ) -> Result<Ran<Member<B::Kept>>, WorkersFault>
         requires ready { B.ready self.body }
-        ensures ran { IfOk result (λ ran. let r = self.entry in HasRun member_frame (BodyMay (B.may r.body)) r.most r.arrays (numbered [] 0 r.tasks) r.limit ran.report ran.tasks.items) }
+        ensures ran { IfOk result (λ ran. let r = self.entry in HasRun (setup_in B.may r) ran.report ran.tasks.items) }
         ensures few { IfOk result (λ ran. are_too_many_parties self.entry.most (length self.entry.tasks) ≡ false) }
         ensures refused { IfErr result (RefusesFor workers.count self.entry.most (length self.entry.tasks)) }
     {
@@ -145,7 +146,7 @@ where
         hooks: Hooks<'_, G, S>,
     ) -> Result<Ran<Member<B::Kept>>, WorkersFault>
         requires ready { B.ready self.body }
-        ensures ran { IfOk result (λ ran. let r = self.entry in HasRun member_frame (BodyMay (B.may r.body)) r.most r.arrays (numbered [] 0 r.tasks) r.limit ran.report ran.tasks.items) }
+        ensures ran { IfOk result (λ ran. let r = self.entry in HasRun (setup_in B.may r) ran.report ran.tasks.items) }
         ensures few { IfOk result (λ ran. are_too_many_parties self.entry.most (length self.entry.tasks) ≡ false) }
         ensures refused { IfErr result (RefusesFor workers.count self.entry.most (length self.entry.tasks)) }
     {

@@ -37,13 +37,14 @@ impl<'b, 'w, B: TaskBody, W: Watch> Model for WatchedRun<'b, 'w, B, W> {
 impl<'b, 'w, B: TaskBody, W: Watch> WatchedRun<'b, 'w, B, W> {
     ghost use Rattle.std.specs.Prelude.{◌≡◌, ◌↔◌, [], true, false, IfOk, IfErr, length};
     ghost use Rattle.programs.specs.History.{HasRunTo};
-    ghost use Rattle.task_bodies.specs.Bodies.{member_frame, are_too_many, BodyMay, numbered};
+    ghost use Rattle.task_bodies.specs.Bodies.{are_too_many};
+    ghost use Rattle.bodies.specs.RunValue.{setup_in};
     ghost use Rattle.task_bodies.specs.declared.run.BodiesFault.TheVariants.{TooMany as TooManyStart};
 
     /// Runs the body as [`Run::alone`] does. Calls the watcher before each superstep, which can stop the run there, as a limit does.
     pub fn alone(self, alloc: Global) -> Result<Ran<Member<B::Kept>>, BodiesFault>
         requires ready { B.ready self.body }
-        ensures ran { IfOk result (λ ran. let r = self.entry in HasRunTo W.stops W.goes member_frame (BodyMay (B.may r.body)) r.most r.arrays (numbered [] 0 r.tasks) r.limit ran.report ran.tasks.items) }
+        ensures ran { IfOk result (λ ran. let r = self.entry in HasRunTo W.stops W.goes (setup_in B.may r) ran.report ran.tasks.items) }
         ensures few { IfOk result (λ ran. are_too_many self.entry.most (length self.entry.tasks) ≡ false) }
         ensures fault { IfErr result (λ e. (e ≡ TooManyStart) ↔ (are_too_many self.entry.most (length self.entry.tasks) ≡ true)) }
     {
@@ -65,7 +66,7 @@ where
 {
     ghost use Rattle.std.specs.Prelude.{◌≡◌, [], false, IfOk, IfErr, length};
     ghost use Rattle.programs.specs.History.{HasRunTo};
-    ghost use Rattle.task_bodies.specs.Bodies.{member_frame, BodyMay, numbered};
+    ghost use Rattle.bodies.specs.RunValue.{setup_in};
     ghost use Rattle.bodies.specs.Leaving.{are_too_many_parties, RefusesFor};
 
     /// Runs the body as [`Run::on`] does. Calls the watcher before each superstep. At most one thread calls it at a time, and no body
@@ -77,7 +78,7 @@ where
         workers: Workers,
     ) -> Result<Ran<Member<B::Kept>>, WorkersFault>
         requires ready { B.ready self.body }
-        ensures ran { IfOk result (λ ran. let r = self.entry in HasRunTo W.stops W.goes member_frame (BodyMay (B.may r.body)) r.most r.arrays (numbered [] 0 r.tasks) r.limit ran.report ran.tasks.items) }
+        ensures ran { IfOk result (λ ran. let r = self.entry in HasRunTo W.stops W.goes (setup_in B.may r) ran.report ran.tasks.items) }
         ensures few { IfOk result (λ ran. are_too_many_parties self.entry.most (length self.entry.tasks) ≡ false) }
         ensures refused { IfErr result (RefusesFor workers.count self.entry.most (length self.entry.tasks)) }
     {
@@ -97,7 +98,7 @@ where
         hooks: Hooks<'_, G, S>,
     ) -> Result<Ran<Member<B::Kept>>, WorkersFault>
         requires ready { B.ready self.body }
-        ensures ran { IfOk result (λ ran. let r = self.entry in HasRunTo W.stops W.goes member_frame (BodyMay (B.may r.body)) r.most r.arrays (numbered [] 0 r.tasks) r.limit ran.report ran.tasks.items) }
+        ensures ran { IfOk result (λ ran. let r = self.entry in HasRunTo W.stops W.goes (setup_in B.may r) ran.report ran.tasks.items) }
         ensures few { IfOk result (λ ran. are_too_many_parties self.entry.most (length self.entry.tasks) ≡ false) }
         ensures refused { IfErr result (RefusesFor workers.count self.entry.most (length self.entry.tasks)) }
     {

@@ -95,14 +95,12 @@ fn put_some(arrays: &Arrays, given: &[PutGiven], puts: &mut Puts) -> Result<bool
     ensures all { IfOk result (λ all. all ≡ list_all (is_cell arrays.now) (puts_given given.now)) }
     ensures put { IfOk result (λ all. all ≡ true → puts.new ≡ puts.old ++ puts_given given.now) }
 {
-    let mut rest = given;
-    while let Some((next, after)) = rest.split_first() {
+    for next in given {
         let put = put_of(next);
         if !arrays.has_cell(put) {
             return Ok(false);
         }
         puts.put(put)?;
-        rest = after;
     }
     Ok(true)
 }

@@ -71,10 +71,8 @@ fn copy_placed(tasks: &[Task], copies: &mut Vec<Task>) -> Result<(), AllocError>
 {
     copies.clear();
     copies.reserve(tasks.len())?;
-    let mut rest = tasks;
-    while let Some((task, after)) = rest.split_first() {
+    for task in tasks {
         copies.push(task.placed(copies.len()))?;
-        rest = after;
     }
     Ok(())
 }

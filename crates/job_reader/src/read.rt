@@ -177,7 +177,7 @@ fn split_header(text: &[u8]) -> Result<(u32, usize, &[u8]), Refusal>
 }
 
 /// Reads a text as a job, or returns its first refusal. The order is: `TooLong` above 1048576 bytes; the first byte
-/// that isn't allowed; the first line that is refused, by its first fault in the order of `crate::faults`;
+/// that isn't allowed; the first line that is refused, by its first fault in the order of `job_reader::faults`;
 /// `Unclosed` if the text ends in a body; the first line that names a body that doesn't exist. Checks the length, the
 /// bytes and the header before it allocates.
 ///

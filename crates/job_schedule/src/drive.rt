@@ -44,10 +44,8 @@ fn take_each(
     ensures { IfOk result (λ replies. map answer_seen replies.items ≡ answers (world_of schedule.old) steps.now) }
 {
     let mut replies = Vec::new(alloc);
-    let mut rest = steps;
-    while let Some((step, after)) = rest.split_first() {
+    for step in steps {
         take_step(alloc, schedule, *step, &mut replies)?;
-        rest = after;
     }
     Ok(replies)
 }

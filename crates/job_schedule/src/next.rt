@@ -108,12 +108,10 @@ pub fn next_participants(
 pub fn free_tokens(participants: &[Participant], free: &mut Vec<usize>) -> Result<(), AllocError>
     ensures { OnOk result (reverse free.new.items ≡ freed participants.now (reverse free.old.items)) }
 {
-    let mut rest = participants;
-    while let Some((participant, after)) = rest.split_first() {
+    for participant in participants {
         if !participant.synced {
             free.push(participant.token)?;
         }
-        rest = after;
     }
     Ok(())
 }

@@ -80,12 +80,10 @@ pub fn is_over(stage: Stage) -> bool
 pub fn all_over(participants: &[Participant]) -> bool
     ensures { result ≡ all_over participants.now }
 {
-    let mut rest = participants;
-    while let Some((participant, after)) = rest.split_first() {
+    for participant in participants {
         if !is_over(participant.stage) {
             return false;
         }
-        rest = after;
     }
     true
 }

@@ -191,10 +191,8 @@ impl<'j> Schedule<'j> {
         ensures world { OnOk result (world_of self.new ≡ with_starts (world_of self.old) (map path_items paths.now)) }
         ensures round { OnOk result (self.new.round ≡ self.old.round) }
     {
-        let mut rest = paths;
-        while let Some((path, after)) = rest.split_first() {
+        for path in paths {
             self.start_copy(alloc, path)?;
-            rest = after;
         }
         Ok(())
     }
@@ -270,10 +268,8 @@ impl<'j> Schedule<'j> {
         ensures world { OnOk result (world_of self.new ≡ with_children (world_of self.old) place (map path_items paths.now)) }
         ensures round { OnOk result (self.new.round ≡ self.old.round) }
     {
-        let mut rest = paths;
-        while let Some((path, after)) = rest.split_first() {
+        for path in paths {
             self.add_child(place, copy_path(path)?)?;
-            rest = after;
         }
         Ok(())
     }

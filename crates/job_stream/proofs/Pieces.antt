@@ -18,7 +18,7 @@ use Rattle.step_core.specs.declared.job.JobProgram.{JobProgram}
 use Rattle.step_core.specs.JobTasks.{JobMay}
 use Rattle.step_core.specs.Superstep.{State, job_frame, job_says}
 use Rattle.step_core.specs.JobMeaning.{so_far, starts}
-use Rattle.step_core.proofs.Starts.{starts_begin, job_report}
+use Rattle.step_core.proofs.Starts.{setup_of, starts_begin, job_report}
 use Rattle.program_stretches.specs.SuperstepStart.{SuperstepStartValue, live_of}
 use Rattle.program_stretches.specs.LinesValue.{LinesValue}
 use Rattle.program_stretches.specs.Reached.{IsReached, HasRunOn}
@@ -46,7 +46,7 @@ module _ (p : Program) (limit : ℕ) (history : List (List (Entry job.Task))) (l
   same_within : (s : Status) → gm.status n (by_history n n) ≡ Some s → (m : ℕ) → m ≤ n → by_history limit m ≡ so_far p limit m
   same_within s e m lm =
       let st = by_history n n in
-      let run : HasRun job_frame (JobMay p.plans) 4096 p.arrays (starts p) n
+      let run : HasRun (setup_of p n)
       (record { prints = st.prints; records = st.records; arrays = st.arrays; status = s }) (living_after s st.live) =
       record {
         history = history;
@@ -72,7 +72,8 @@ module _ (p : Program) (limit : ℕ) (history : List (List (Entry job.Task))) (l
 -- ---- what is given away
 
 abbrev Reached : JobValue → ℕ → List (List ℕ × List ℤ) → List job.Task → ℕ → ℕ → State → Type 0
-Reached j most arrays tasks limit given st = IsReached job_frame (JobMay (plans j.bodies)) most arrays tasks limit given st
+Reached j most arrays tasks limit given st =
+    IsReached (record { frame = job_frame; may = JobMay (plans j.bodies); most = most; arrays = arrays; tasks = tasks; limit = limit }) given st
 
 -- a state that was reached, and what was printed and recorded since the last was given away
 piece_at : (j : JobValue) (limit given : ℕ) (st : State) (l : LinesValue) → Reached j 4096 j.arrays (starts (program_of j)) limit given st
@@ -133,7 +134,8 @@ given_piece j limit log l r h le =
 
 abbrev RunOn : JobValue → ℕ → List (List ℕ × List ℤ) → List job.Task → ℕ → ℕ → ReportValue → List job.Task → Type 0
 RunOn j most arrays tasks limit given outcome living =
-    HasRunOn job_frame (JobMay (plans j.bodies)) most arrays tasks limit given outcome living
+    HasRunOn (record { frame = job_frame; may = JobMay (plans j.bodies); most = most; arrays = arrays; tasks = tasks; limit = limit })
+    given outcome living
 
 rest_of_run : (j : JobValue) (limit given : ℕ) (outcome : ReportValue) (living : List job.Task)
     → RunOn j 4096 j.arrays (starts (program_of j)) limit given outcome living

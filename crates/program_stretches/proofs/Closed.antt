@@ -25,7 +25,7 @@ use Rattle.programs.specs.InPlace.{living_with, left_in, spawned_in, record_in, 
 use Rattle.programs.proofs.Reached.{starts_read}
 use Rattle.program_stretches.specs.declared.fault.Outcome.{Outcome}
 use Rattle.program_stretches.specs.declared.fault.Outcome.TheVariants.{Landed, Faulted, TooMany, Overflowed}
-use Rattle.program_stretches.specs.Parts.{Reading, HasDone, AreOwn, AreFresh, fresh_part, covers, is_done, fault_in, tasks_in, puts_in, deeds_in, prints_in, without_puts, renewed}
+use Rattle.program_stretches.specs.Parts.{Reading, setup_by, HasDone, AreOwn, AreFresh, fresh_part, covers, is_done, fault_in, tasks_in, puts_in, deeds_in, prints_in, without_puts, renewed}
 use Rattle.program_stretches.specs.SuperstepStart.{SuperstepStartValue, live_of, states_by, AllOpen}
 use Rattle.program_stretches.specs.Did.{DidAll, IsStepTo}
 use Rattle.program_stretches.specs.StretchesValue.{StretchesValue, state_with, status_for, status_in, is_at_limit, IsAfter, IsOpen, IsRunSoFar, HaveRun}
@@ -439,7 +439,7 @@ module _ {Q S T : Type 0} (m : Q → Reading S T) (v : StretchesValue Q S) (h : 
 
   -- what it leaves, taken to this limit
   record LeftBy (r : Reading S T) (most limit : ℕ) (first : SuperstepStartValue Q S) (outcome : ReportValue) (tasks : List S) : Type 0 where
-    run : HasRunOn r.frame r.may most first.arrays (map r.meant (live_of first)) limit v.given outcome (map r.meant tasks)
+    run : HasRunOn (setup_by r most first.arrays (map r.meant (live_of first)) limit) v.given outcome (map r.meant tasks)
     all_open : AllOpen r.meant v.log (states_by r most run.run.history first limit)
     as_long : length run.run.history ≤ length v.log
     counted : CountsAs outcome.status (length run.run.history)
@@ -535,7 +535,7 @@ module _ {Q S T : Type 0} (m : Q → Reading S T) (v : StretchesValue Q S) (h : 
         let as_before : (n : ℕ) → n ≤ v.step → so_far says b.first.arrays live v.step n ≡ so_far says b.first.arrays live v.limit n =
         λ n le. so_far_shorter (m v.program).frame v.most says b.first.arrays live v.limit v.step n (omega (arith, below)) le in
         let within = r.within in
-        let shorter : IsReached (m v.program).frame (m v.program).may v.most b.first.arrays live v.step v.given (state_with v h.live) =
+        let shorter : IsReached (setup_by (m v.program) v.most b.first.arrays live v.step) v.given (state_with v h.live) =
         record {
           history = r.history;
           entered =

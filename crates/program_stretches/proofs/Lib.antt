@@ -14,3 +14,4 @@ pub mod Closed
 pub mod Refusing
 pub mod EachDone
 pub mod Reopening
+pub mod Counted

@@ -27,7 +27,7 @@ use Rattle.programs.proofs.InPlace.{counted}
 use Rattle.programs.proofs.Reached.{entered_more}
 use Rattle.programs.proofs.Runs.{goes, going_on, ended_is_last}
 use Rattle.programs.proofs.Apart.{live-paths-rise}
-use Rattle.program_stretches.specs.Parts.{Reading}
+use Rattle.program_stretches.specs.Parts.{Reading, setup_by}
 use Rattle.program_stretches.specs.Reached.{IsReached, HasRunOn, with_earlier, with_before}
 use Rattle.program_stretches.specs.declared.fault.Outcome.{Outcome}
 use Rattle.program_stretches.specs.declared.fault.Outcome.TheVariants.{Landed, Faulted, TooMany, Overflowed}
@@ -66,7 +66,7 @@ moved {T} s st next e none =
 module _ {S T : Type 0} (r : Reading S T) (law : (t : S) → r.frame.path (r.meant t) ≡ r.path t) (most : ℕ) (arrays : List (List ℕ × List ℤ))
     (tasks : List T) (limit given : ℕ) where
   abbrev pub Reached : State T → Type 0
-  Reached st = IsReached r.frame r.may most arrays tasks limit given st
+  Reached st = IsReached (setup_by r most arrays tasks limit) given st
 
   -- one superstep more
   abbrev pub reached_next : (st next : State T) (h : Reached st) → status limit st ≡ None → IsStep r.frame r.may most st next → Reached next
@@ -90,7 +90,7 @@ module _ {S T : Type 0} (r : Reading S T) (law : (t : S) → r.frame.path (r.mea
       record {
         history = more;
         entered =
-            entered_more r.frame r.may most r.meant r.path law arrays tasks limit h.history es h.entered
+            entered_more (setup_by r most arrays tasks limit) h.history es h.entered
             (subst (λ (x : State T). IsEntered r.frame r.may x es) h.state entered);
         within = omega (arith, k, within);
         count = λ none. let up = moved (says_in r.frame most es) st next s.is none in omega (arith, k, step, up);
@@ -114,7 +114,7 @@ module _ {S T : Type 0} (r : Reading S T) (law : (t : S) → r.frame.path (r.mea
   -- a run that has ended
   abbrev pub has_run : (st : State T) (h : Reached st) (s : Status) → status limit st ≡ Some s → (outcome : ReportValue)
       → outcome ≡ record { prints = st.prints; records = st.records; arrays = st.arrays; status = s }
-      → (living : List T) → living_after s st.live ≡ living → HasRunOn r.frame r.may most arrays tasks limit given outcome living
+      → (living : List T) → living_after s st.live ≡ living → HasRunOn (setup_by r most arrays tasks limit) given outcome living
   has_run st h s e outcome is living l =
       let says = says_by r.frame most h.history in
       let n = length h.history in

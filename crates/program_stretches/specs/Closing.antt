@@ -16,7 +16,7 @@ use Rattle.program_stretches.specs.declared.fault.Outcome.{Outcome}
 use Rattle.program_stretches.specs.declared.fault.Outcome.TheVariants.{Landed}
 use Rattle.program_stretches.specs.PartValue.{PartValue}
 use Rattle.program_stretches.specs.Parts.{Reading, AreFresh, EachDid, covers, of_slot, tasks_in, living_in, renewed}
-use Rattle.program_stretches.specs.SuperstepStart.{SuperstepStartValue, live_of, states_by, AllOpen}
+use Rattle.program_stretches.specs.SuperstepStart.{SuperstepStartValue, live_of, setup_of, states_by, AllOpen}
 use Rattle.program_stretches.specs.Did.{IsStep, IsStepTo}
 use Rattle.program_stretches.specs.StretchesValue.{StretchesValue, StretchValue, is_at_limit, state_with, with_slot, IsAfter, IsRunSoFar}
 
@@ -159,8 +159,7 @@ module _ {Q S T : Type 0} where
     pub since : List (SuperstepStartValue Q S)
     pub begun : log ≡ since ++ first ∷ []
     pub within : limit first ≤ first.limit
-    pub run : HasRunOn (m first.program).frame (m first.program).may first.most first.arrays (map (m first.program).meant (live_of first))
-        (limit first) given outcome (map (m first.program).meant living)
+    pub run : HasRunOn (record (setup_of m first) { limit = limit first }) given outcome (map (m first.program).meant living)
     pub all_open : AllOpen (m first.program).meant log (states_by (m first.program) first.most run.run.history first (limit first))
     pub as_long : length run.run.history ≤ length log
     pub counted : CountsAs outcome.status (length run.run.history)

@@ -4,6 +4,7 @@ use Rattle.superstep_memory.specs.declared.arrays.Put.{Put}
 use Rattle.phase_records.specs.PrintValue.{PrintValue}
 use Rattle.programs.specs.Meaning.{Segment, Frame}
 use Rattle.programs.specs.Superstep.{or_next}
+use Rattle.programs.specs.History.{Setup}
 use Rattle.programs.specs.DeedValue.{DeedValue}
 use Rattle.programs.specs.InPlace.{living_with}
 use Rattle.programs.specs.Done.{HasDoneRange}
@@ -19,6 +20,11 @@ pub record Reading (S T : Type 0) : Type 1 where
 abbrev pub reading_of : {Q S T : Type 0} → (Q → Frame T) → (Q → T → List (List ℕ × List ℤ) → ℕ → Segment T → Type 0) → (Q → S → T)
     → (S → List ℕ) → Q → Reading S T
 reading_of frame may meant path q = record { frame = frame q; may = may q; meant = meant q; path = path }
+
+-- the setup of a run of tasks that are read so
+abbrev pub setup_by : {S T : Type 0} → Reading S T → ℕ → List (List ℕ × List ℤ) → List T → ℕ → Setup T
+setup_by r most arrays tasks limit =
+    record { frame = r.frame; may = r.may; most = most; arrays = arrays; tasks = tasks; limit = limit }
 
 module _ {S : Type 0} where
   -- one whose tasks haven't run

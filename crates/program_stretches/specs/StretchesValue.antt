@@ -12,7 +12,7 @@ use Rattle.programs.specs.Meaning.{children}
 use Rattle.programs.specs.Superstep.{State}
 use Rattle.programs.specs.InPlace.{living_with}
 use Rattle.program_stretches.specs.PartValue.{PartValue}
-use Rattle.program_stretches.specs.Parts.{Reading, IsPartOf, AreOwn, covers}
+use Rattle.program_stretches.specs.Parts.{Reading, setup_by, IsPartOf, AreOwn, covers}
 use Rattle.program_stretches.specs.SuperstepStart.{SuperstepStartValue, live_of, states_by, AllOpen}
 use Rattle.program_stretches.specs.Reached.{IsReached}
 use Rattle.program_stretches.specs.Did.{DidAll}
@@ -87,8 +87,9 @@ module _ {Q S T : Type 0} where
   -- It is the run after some of its supersteps, in which these tasks live. The starts are those of its supersteps.
   pub record IsAfter (m : Q → Reading S T) (v : StretchesValue Q S) (live : List T) : Type 0 where
     pub begun : HasBegun m v
-    pub reached : IsReached (m v.program).frame (m v.program).may v.most begun.first.arrays (map (m v.program).meant (live_of begun.first))
-        v.limit v.given (state_with v live)
+    pub reached : IsReached
+        (setup_by (m v.program) v.most begun.first.arrays (map (m v.program).meant (live_of begun.first)) v.limit)
+        v.given (state_with v live)
     pub all_open : AllOpen (m v.program).meant v.log (states_by (m v.program) v.most reached.history begun.first v.limit)
     pub as_long : length reached.history ≤ length v.log
     pub count : v.count ≡ length live

@@ -2,9 +2,9 @@
 use Rattle.std.specs.Prelude.{◌≡◌, ℕ, ℤ, List, [], ◌∷◌, length, map, Option}
 use Rattle.programs.specs.Superstep.{State}
 use Rattle.programs.specs.Supersteps.{so_far}
-use Rattle.programs.specs.History.{Entry, says_by}
+use Rattle.programs.specs.History.{Entry, says_by, Setup}
 use Rattle.program_stretches.specs.PartValue.{PartValue}
-use Rattle.program_stretches.specs.Parts.{Reading, tasks_in}
+use Rattle.program_stretches.specs.Parts.{Reading, setup_by, tasks_in}
 
 -- the program, how many tasks may live and supersteps be taken, the arrays, and the stretches of the live tasks
 pub record SuperstepStartValue (Q S : Type 0) : Type 0 where
@@ -17,6 +17,10 @@ pub record SuperstepStartValue (Q S : Type 0) : Type 0 where
 -- the tasks that live
 abbrev pub live_of : {Q S : Type 0} → SuperstepStartValue Q S → List S
 live_of o = tasks_in o.parts
+
+-- the setup of a run whose first superstep begins so
+abbrev pub setup_of : {Q S T : Type 0} → (Q → Reading S T) → SuperstepStartValue Q S → Setup T
+setup_of m o = setup_by (m o.program) o.most o.arrays (map (m o.program).meant (live_of o)) o.limit
 
 module _ {Q S T : Type 0} where
   -- a run that began with this start and has this history, superstep by superstep

@@ -84,7 +84,7 @@ module _ {T : Type 0} (f : Frame T) (may : T → List (List ℕ × List ℤ) →
           (ap first_fault of_first ∙ first_some (segments_in f es) (segments (says_of f most does) st.arrays st.step h.tasks.back) x e))
 
   module _ (arrays : List (List ℕ × List ℤ)) (tasks : List T) (limit : ℕ) (begin : map f.path tasks ≡ children [] 0 (length tasks))
-      (outcome : ReportValue) (living : List T) (h : HasRun f may most arrays tasks limit outcome living) where
+      (outcome : ReportValue) (living : List T) (h : HasRun (record { frame = f; may = may; most = most; arrays = arrays; tasks = tasks; limit = limit }) outcome living) where
     formed : (n : ℕ) → AllFormed f (get_or h.history n [])
     formed = formed_by f most may arrays tasks limit h.history h.entered
 

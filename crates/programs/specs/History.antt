@@ -67,16 +67,29 @@ module _ {T : Type 0} where
   living_after (Ended steps) live = live
   living_after (Limit steps) live = live
 
+-- the setup of a run: where its tasks are, what each may leave, how many may live at once, the arrays and tasks that it begins
+-- with, and how many supersteps it may take
+pub record Setup (T : Type 0) : Type 1 where
+  pub frame : Frame T
+  pub may : T → List (List ℕ × List ℤ) → ℕ → Segment T → Type 0
+  pub most : ℕ
+  pub arrays : List (List ℕ × List ℤ)
+  pub tasks : List T
+  pub limit : ℕ
+
+module _ {T : Type 0} where
+  -- the state of a run after this many supersteps of its history
+  abbrev pub state_after : Setup T → List (List (Entry T)) → ℕ → State T
+  state_after setup history n = so_far (says_by setup.frame setup.most history) setup.arrays setup.tasks setup.limit n
+
   -- This report is what one thread leaves, superstep by superstep, if each task's segment leaves what the history says. Each is
   -- allowed to leave that, and the history is that of the whole run. These tasks live at its end.
-  pub record HasRun (f : Frame T) (may : T → List (List ℕ × List ℤ) → ℕ → Segment T → Type 0) (most : ℕ) (arrays : List (List ℕ × List ℤ))
-      (tasks : List T) (limit : ℕ) (outcome : ReportValue) (living : List T) : Type 0 where
+  pub record HasRun (setup : Setup T) (outcome : ReportValue) (living : List T) : Type 0 where
     pub history : List (List (Entry T))
-    pub entered : (n : ℕ) → n < length history
-        → IsEntered f may (so_far (says_by f most history) arrays tasks limit n) (get_or history n [])
-    pub ended : status limit (so_far (says_by f most history) arrays tasks limit (length history)) ≡ Some outcome.status
-    pub report : report_of (says_by f most history) arrays tasks limit ≡ Some outcome
-    pub at_end : living_after outcome.status (so_far (says_by f most history) arrays tasks limit (length history)).live ≡ living
+    pub entered : (n : ℕ) → n < length history → IsEntered setup.frame setup.may (state_after setup history n) (get_or history n [])
+    pub ended : status setup.limit (state_after setup history (length history)) ≡ Some outcome.status
+    pub report : report_of (says_by setup.frame setup.most history) setup.arrays setup.tasks setup.limit ≡ Some outcome
+    pub at_end : living_after outcome.status (state_after setup history (length history)).live ≡ living
 
   -- who looks on saw this state as this says
   abbrev pub OfState : (ℕ → List (List ℕ × List ℤ) → ℕ → Type 0) → State T → Type 0
@@ -84,11 +97,10 @@ module _ {T : Type 0} where
 
   -- The watcher let each superstep of a run begin. The run was taken to this limit, or the watcher stopped it before.
   -- Then it is the run to that earlier limit.
-  pub record HasRunTo (stops goes : ℕ → List (List ℕ × List ℤ) → ℕ → Type 0) (f : Frame T)
-      (may : T → List (List ℕ × List ℤ) → ℕ → Segment T → Type 0) (most : ℕ) (arrays : List (List ℕ × List ℤ)) (tasks : List T) (limit : ℕ)
-      (outcome : ReportValue) (living : List T) : Type 0 where
+  pub record HasRunTo (stops goes : ℕ → List (List ℕ × List ℤ) → ℕ → Type 0) (setup : Setup T) (outcome : ReportValue)
+      (living : List T) : Type 0 where
     pub taken : ℕ
-    pub within : taken ≤ limit
-    pub run : HasRun f may most arrays tasks taken outcome living
-    pub went : (n : ℕ) → n < length run.history → OfState goes (so_far (says_by f most run.history) arrays tasks taken n)
-    pub stopped : (taken ≡ limit) ⊎ stops taken outcome.arrays (length living)
+    pub within : taken ≤ setup.limit
+    pub run : HasRun (record setup { limit = taken }) outcome living
+    pub went : (n : ℕ) → n < length run.history → OfState goes (state_after (record setup { limit = taken }) run.history n)
+    pub stopped : (taken ≡ setup.limit) ⊎ stops taken outcome.arrays (length living)

@@ -34,7 +34,8 @@ pub fn run_alone<P: TaskLoop>(
     requires few { length tasks.items ≤ most }
     requires paths { map P.Task.path_of tasks.items ≡ children [] 0 (length tasks.items) }
     ensures { IfOk result (λ ran. let p = program.now in
-        HasRun (P.frame p) (P.may p) most arrays (map (P.meant p) tasks.items) limit ran.report (map (P.meant p) ran.tasks.items)) }
+        HasRun (record { frame = P.frame p; may = P.may p; most = most; arrays = arrays; tasks = map (P.meant p) tasks.items; limit = limit })
+        ran.report (map (P.meant p) ran.tasks.items)) }
 {
     let ran = run_watched(alloc, program, arrays, tasks, most, limit, &mut NoWatch)?;
     Ok(ran)
@@ -55,7 +56,9 @@ pub fn run_watched<P: TaskLoop, W: Watch>(
     requires few { length tasks.items ≤ most }
     requires paths { map P.Task.path_of tasks.items ≡ children [] 0 (length tasks.items) }
     ensures { IfOk result (λ ran. let p = program.now in
-        HasRunTo W.stops W.goes (P.frame p) (P.may p) most arrays (map (P.meant p) tasks.items) limit ran.report (map (P.meant p) ran.tasks.items)) }
+        HasRunTo W.stops W.goes
+        (record { frame = P.frame p; may = P.may p; most = most; arrays = arrays; tasks = map (P.meant p) tasks.items; limit = limit })
+        ran.report (map (P.meant p) ran.tasks.items)) }
 {
     let mut steps = Steps::new::<P>(alloc, arrays, tasks, most, limit);
     while steps.status().is_none() {

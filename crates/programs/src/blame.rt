@@ -94,14 +94,12 @@ pub fn push_prints<T: OnPath>(
 ) -> Result<(), AllocError>
     ensures { OnOk result (prints.new.items ≡ prints.old.items ++ map (print_of step (T.path_of task.now)) values.now) }
 {
-    let mut rest = values;
-    while let Some((value, after)) = rest.split_first() {
+    for value in values {
         prints.push(Print {
             step,
             path: task_path(task),
             value: *value,
         })?;
-        rest = after;
     }
     Ok(())
 }

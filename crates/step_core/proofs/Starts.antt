@@ -13,7 +13,7 @@ use Rattle.step_core.specs.Program.{Program, program_of}
 use Rattle.step_core.specs.Superstep.{job_frame}
 use Rattle.step_core.specs.JobMeaning.{start_tasks, starts, report_of}
 use Rattle.programs.specs.Meaning.{children}
-use Rattle.programs.specs.History.{HasRun}
+use Rattle.programs.specs.History.{Setup, HasRun}
 use Rattle.programs.proofs.Exactly.{exactly}
 use Rattle.step_core.specs.JobTasks.{JobMay}
 
@@ -41,9 +41,18 @@ starts_paths ps ts ss e =
 pub starts_begin : (p : Program) → map job_frame.path (starts p) ≡ children [] 0 (length (starts p))
 starts_begin p = start_paths p.plans 0 p.starts ∙ ap (children [] 0) (sym (start_count p.plans 0 p.starts))
 
+-- the setup of a run of these plans
+abbrev pub setup_with : List Plan → List (List ℕ × List ℤ) → List Task → ℕ → Setup Task
+setup_with ps arrays tasks limit =
+    record { frame = job_frame; may = JobMay ps; most = 4096; arrays = arrays; tasks = tasks; limit = limit }
+
+-- the setup of a job's run
+abbrev pub setup_of : Program → ℕ → Setup Task
+setup_of p limit = setup_with p.plans p.arrays (starts p) limit
+
 -- a run of the program leaves the report of the job
 pub job_report : (p : Program) (limit : ℕ) (outcome : ReportValue) (living : List Task)
-    → HasRun job_frame (JobMay p.plans) 4096 p.arrays (starts p) limit outcome living → report_of p limit ≡ Some outcome
+    → HasRun (setup_of p limit) outcome living → report_of p limit ≡ Some outcome
 job_report p limit outcome living h =
     exactly job_frame (JobMay p.plans) 4096 (segment_of p.plans) (λ t arrays step g e. e) p.arrays (starts p) limit (starts_begin p) outcome
     living h
@@ -52,9 +61,9 @@ job_report p limit outcome living h =
 pub job_left : (j : JobValue) (limit : ℕ) (arrays : List (List ℕ × List ℤ)) (ts : List TaskValue) (outcome : ReportValue)
     (living : List Task)
     → arrays ≡ j.arrays → map (task_of (plans j.bodies)) ts ≡ start_tasks (plans j.bodies) 0 j.starts
-    → HasRun job_frame (JobMay (plans j.bodies)) 4096 arrays (map (task_of (plans j.bodies)) ts) limit outcome living
+    → HasRun (setup_with (plans j.bodies) arrays (map (task_of (plans j.bodies)) ts) limit) outcome living
     → report_of (program_of j) limit ≡ Some outcome
 job_left j limit arrays ts outcome living ea et h =
     job_report (program_of j) limit outcome living
-    (subst (λ (xs : List (List ℕ × List ℤ)). HasRun job_frame (JobMay (plans j.bodies)) 4096 xs (starts (program_of j)) limit outcome living) ea
-    (subst (λ (us : List Task). HasRun job_frame (JobMay (plans j.bodies)) 4096 arrays us limit outcome living) et h))
+    (subst (λ (xs : List (List ℕ × List ℤ)). HasRun (setup_with (plans j.bodies) xs (starts (program_of j)) limit) outcome living) ea
+    (subst (λ (us : List Task). HasRun (setup_with (plans j.bodies) arrays us limit) outcome living) et h))

@@ -16,11 +16,11 @@ use Rattle.programs.specs.Supersteps as gm
 use Rattle.programs.specs.History.{says_by, HasRun, HasRunTo, OfState}
 use Rattle.programs.proofs.Exactly.{so_far_same}
 use Rattle.step_core.specs.JobTasks.{JobMay}
-use Rattle.step_core.proofs.Starts.{starts_begin, job_report}
+use Rattle.step_core.proofs.Starts.{setup_with, setup_of, starts_begin, job_report}
 use Rattle.step_core.specs.Watching.{SawAll}
 
 module _ (seen : ℕ → List (List ℕ × List ℤ) → ℕ → Type 0) (p : Program) (limit : ℕ) (outcome : ReportValue) (living : List job.Task)
-    (h : HasRun job_frame (JobMay p.plans) 4096 p.arrays (starts p) limit outcome living) where
+    (h : HasRun (setup_of p limit) outcome living) where
   by_history : ℕ → State
   by_history n = gm.so_far (says_by job_frame 4096 h.history) p.arrays (starts p) limit n
 
@@ -63,7 +63,7 @@ pub record Leaves (seen : ℕ → List (List ℕ × List ℤ) → ℕ → Type 0
 
 module _ (seen : ℕ → List (List ℕ × List ℤ) → ℕ → Type 0) (limit : ℕ) (outcome : ReportValue) (living : List job.Task) where
   leaves_from : (p : Program)
-      → HasRunTo (λ step arrays tasks. ⊥) seen job_frame (JobMay p.plans) 4096 p.arrays (starts p) limit outcome living
+      → HasRunTo (λ step arrays tasks. ⊥) seen (setup_of p limit) outcome living
       → Leaves seen p limit outcome
   leaves_from p h = by h.stopped
     where
@@ -76,10 +76,9 @@ module _ (seen : ℕ → List (List ℕ × List ℤ) → ℕ → Type 0) (limit 
 
   pub job_leaves : (j : JobValue) (arrays : List (List ℕ × List ℤ)) (ts : List TaskValue)
       → arrays ≡ j.arrays → map (task_of (plans j.bodies)) ts ≡ start_tasks (plans j.bodies) 0 j.starts
-      → HasRunTo (λ step arrays tasks. ⊥) seen job_frame (JobMay (plans j.bodies)) 4096 arrays (map (task_of (plans j.bodies)) ts) limit
-      outcome living
+      → HasRunTo (λ step arrays tasks. ⊥) seen (setup_with (plans j.bodies) arrays (map (task_of (plans j.bodies)) ts) limit) outcome living
       → Leaves seen (program_of j) limit outcome
   job_leaves j arrays ts ea et h =
       leaves_from (program_of j)
-      (subst (λ (xs : List (List ℕ × List ℤ)). HasRunTo (λ step ys tasks. ⊥) seen job_frame (JobMay (plans j.bodies)) 4096 xs (starts (program_of j)) limit outcome living) ea
-      (subst (λ (us : List job.Task). HasRunTo (λ step ys tasks. ⊥) seen job_frame (JobMay (plans j.bodies)) 4096 arrays us limit outcome living) et h))
+      (subst (λ (xs : List (List ℕ × List ℤ)). HasRunTo (λ step ys tasks. ⊥) seen (setup_with (plans j.bodies) xs (starts (program_of j)) limit) outcome living) ea
+      (subst (λ (us : List job.Task). HasRunTo (λ step ys tasks. ⊥) seen (setup_with (plans j.bodies) arrays us limit) outcome living) et h))

@@ -8,7 +8,7 @@ use Rattle.phase_records.specs.Status.{Status, Ended, Fault, Limit}
 use Rattle.programs.specs.Superstep.{State}
 use Rattle.programs.specs.History.{OfState, HasRunTo}
 use Rattle.program_stretches.specs.Parts.{Reading}
-use Rattle.program_stretches.specs.SuperstepStart.{SuperstepStartValue, live_of, states_by, Opens, AllOpen}
+use Rattle.program_stretches.specs.SuperstepStart.{SuperstepStartValue, live_of, setup_of, states_by, Opens, AllOpen}
 use Rattle.program_stretches.specs.Reached.{with_before}
 use Rattle.program_stretches.specs.StretchesValue.{StretchesValue, status_for, status_in}
 use Rattle.program_stretches.specs.Closing.{CountsAs, HasLeftTo, HasLeft}
@@ -164,7 +164,7 @@ module _ {Q S T : Type 0} (stops goes : ℕ → List (List ℕ × List ℤ) → 
         begun = h.begun;
         run =
             subst
-            (λ (r : ReportValue). HasRunTo stops goes (m q).frame (m q).may f.most f.arrays (map (m q).meant (live_of f)) f.limit r living)
+            (λ (r : ReportValue). HasRunTo stops goes (setup_of m f) r living)
             whole
             (record {
               taken = limit f;

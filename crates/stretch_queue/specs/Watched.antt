@@ -5,7 +5,7 @@ use Rattle.ghost_lists.specs.Agreed.{LogValue}
 use Rattle.phase_records.specs.ReportValue.{ReportValue}
 use Rattle.programs.specs.History.{HasRunTo}
 use Rattle.program_stretches.specs.Parts.{Reading}
-use Rattle.program_stretches.specs.SuperstepStart.{SuperstepStartValue, live_of}
+use Rattle.program_stretches.specs.SuperstepStart.{SuperstepStartValue, live_of, setup_of}
 use Rattle.program_stretches.specs.StretchesValue.{StretchesValue, status_in, can_leave, can_stop}
 use Rattle.program_stretches.specs.Closing.{HasLeft, HasLeftTo}
 use Rattle.phase_records.specs.Status.{Limit}
@@ -70,5 +70,4 @@ module _ {Q S T : Type 0} where
     pub first : SuperstepStartValue Q S
     pub since : List (SuperstepStartValue Q S)
     pub begun : log ≡ since ++ first ∷ []
-    pub run : HasRunTo stops goes (m first.program).frame (m first.program).may first.most first.arrays
-        (map (m first.program).meant (live_of first)) first.limit outcome (map (m first.program).meant living)
+    pub run : HasRunTo stops goes (setup_of m first) outcome (map (m first.program).meant living)

@@ -42,10 +42,8 @@ fn leaf_below(leaves: u16, at: u16, path: &[u16]) -> u16
     ensures within { result < leaves }
 {
     let mut leaf = at;
-    let mut rest = path;
-    while let Some((number, after)) = rest.split_first() {
+    for number in path {
         leaf = leaf_after(leaves, leaf, *number);
-        rest = after;
     }
     leaf
 }

@@ -4,6 +4,7 @@ use Rattle.std.specs.List.{list_all}
 use Rattle.superstep_memory.specs.declared.arrays.Put.{Put}
 use Rattle.superstep_memory.specs.Cells.{is_cell}
 use Rattle.programs.specs.Meaning.{After, Synced, Stopped, Faulted, Segment, Frame}
+use Rattle.programs.specs.History.{Setup}
 use Rattle.task_bodies.specs.declared.body.Ending.{Ending}
 use Rattle.task_bodies.specs.declared.body.Ending.TheVariants as ending
 
@@ -93,6 +94,12 @@ module _ {K : Type 0} where
     pub left : Left K
     pub allowed : may t.path arrays step t.kept left
     pub is : g ≡ framed arrays t left
+
+  -- the setup of a run of members whose body may leave this
+  abbrev pub member_setup : (List ℕ → List (List ℕ × List ℤ) → ℕ → K → Left K → Type 0) → ℕ → List (List ℕ × List ℤ) → List (MemberValue K)
+      → ℕ → Setup (MemberValue K)
+  member_setup may most arrays tasks limit =
+      record { frame = member_frame; may = BodyMay may; most = most; arrays = arrays; tasks = tasks; limit = limit }
 
   -- what a task leaves whose body does this
   abbrev pub body_does : (List ℕ → List (List ℕ × List ℤ) → ℕ → K → Left K) → MemberValue K → List (List ℕ × List ℤ) → ℕ

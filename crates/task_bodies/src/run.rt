@@ -3,7 +3,7 @@ ghost use Rattle.std.specs.Prelude.{◌≡◌, ◌<◌, ◌↔◌, [], Some, tru
 ghost use Rattle.task_bodies.specs.declared.run.BodiesFault.TheVariants.{TooMany as TooManyStart};
 ghost use Rattle.programs.specs.History.{HasRun, HasRunTo, says_of, living_after};
 ghost use Rattle.programs.specs.Supersteps.{report_of, so_far};
-ghost use Rattle.task_bodies.specs.Bodies.{MemberValue, member_frame, are_too_many, BodyMay, body_does, numbered};
+ghost use Rattle.task_bodies.specs.Bodies.{MemberValue, member_frame, member_setup, are_too_many, body_does, numbered};
 
 use crate::body::{Exact, TaskBody};
 use crate::member::{Member, starts};
@@ -58,7 +58,7 @@ pub fn run_bodies<B: TaskBody>(
 ) -> Result<Ran<Member<B::Kept>>, BodiesFault>
     requires ready { B.ready body.now }
     requires most { most < 2147483648 }
-    ensures ran { IfOk result (λ ran. HasRun member_frame (BodyMay (B.may body.now)) most arrays (numbered [] 0 tasks.items) limit ran.report ran.tasks.items) }
+    ensures ran { IfOk result (λ ran. HasRun (member_setup (B.may body.now) most arrays (numbered [] 0 tasks.items) limit) ran.report ran.tasks.items) }
     ensures few { IfOk result (λ ran. are_too_many most (length tasks.items) ≡ false) }
     ensures fault { IfErr result (λ e. (e ≡ TooManyStart) ↔ (are_too_many most (length tasks.items) ≡ true)) }
 {
@@ -79,7 +79,8 @@ pub fn run_bodies_watched<B: TaskBody, W: Watch>(
 ) -> Result<Ran<Member<B::Kept>>, BodiesFault>
     requires ready { B.ready body.now }
     requires most { most < 2147483648 }
-    ensures ran { IfOk result (λ ran. HasRunTo W.stops W.goes member_frame (BodyMay (B.may body.now)) most arrays (numbered [] 0 tasks.items) limit ran.report ran.tasks.items) }
+    ensures ran { IfOk result (λ ran.
+        HasRunTo W.stops W.goes (member_setup (B.may body.now) most arrays (numbered [] 0 tasks.items) limit) ran.report ran.tasks.items) }
     ensures few { IfOk result (λ ran. are_too_many most (length tasks.items) ≡ false) }
     ensures fault { IfErr result (λ e. (e ≡ TooManyStart) ↔ (are_too_many most (length tasks.items) ≡ true)) }
 {

@@ -62,7 +62,7 @@ const ONE_TIER: [Row; 20] = [
 ];
 
 // A group that has polled begins with the word that it found. If another group has joined since then, this costs a try.
-const KEPT_WORDS: [Row; 13] = [
+const KEPT_WORDS: [Row; 19] = [
     (0, Register(0, 3), Joined(0), 3, 0),
     (0, Poll, Here(0), 3, 0),
     (1, Register(0, 2), Joined(0), 2, 0),
@@ -76,6 +76,12 @@ const KEPT_WORDS: [Row; 13] = [
     (0, ArriveIn(2), Done(1, true), 3, 2),
     (1, Poll, Passed(2), 3, 2),
     (1, Leave, Left(2, false), 0, 0),
+    (1, Register(0, 1), Joined(2), 1, 2),
+    (0, Merge, Here(2), 4, 2),
+    (1, Register(0, 2), Joined(2), 2, 2),
+    (0, ArriveIn(1), Busy, 4, 2),
+    (0, ArriveIn(1), Done(2, false), 4, 2),
+    (1, ArriveIn(2), Done(2, true), 2, 3),
 ];
 
 // Groups of the root and of both its leaves. A leaf's group leaves in parts, and the last part empties the leaf, so that
@@ -184,7 +190,7 @@ const NO_ROOM: [Row; 13] = [
 
 const RUNS: [Run; 8] = [
     ("flat", 0, &ONE_TIER, &[(3, 0, 1, true)]),
-    ("flat", 0, &KEPT_WORDS, &[(2, 3, 3, false)]),
+    ("flat", 0, &KEPT_WORDS, &[(3, 6, 6, false)]),
     (
         "2",
         0,

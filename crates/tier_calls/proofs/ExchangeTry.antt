@@ -25,13 +25,43 @@ use Rattle.tier_calls.proofs.Exchanging.{pass_goes, come_alike, come_before, bef
 abbrev Seat : Type 0
 Seat = Me Kind (List Sight)
 
--- what is needed, by what the seats know
-pub inside : {id id' : TableId} {v : View} {h : GroupHeld} {p : TokensHeld} {n : Named} {leaving : ℕ} {w : Fields} (me mo : Seat)
-    → group_of id me v ≡ h → tokens_of id' mo ≡ p → MayExchange n leaving w h p
-    → MayExchange n leaving w (group_of id me v) (tokens_of id' mo)
-inside {id} {id'} {v} {h} {p} {n} {leaving} {w} me mo is is' may =
-    subst (λ (z : GroupHeld). MayExchange n leaving w z (tokens_of id' mo)) (sym is)
-    (subst (λ (z : TokensHeld). MayExchange n leaving w h z) (sym is') may)
+-- what is known before an exchange by which new tokens join a tier, some members of a group leave it, and the others arrive there
+pub record Exchange : Type 0 where
+  pub id : TableId
+  pub new_id : TableId
+  pub me : Seat
+  pub new : Seat
+  pub view : View
+  pub count : ℕ
+  pub new_count : ℕ
+  pub leaving : ℕ
+  pub named : Named
+  pub word : Fields
+  pub seated : AreSeated me view count
+  pub pool : AreTokens new new_count
+  pub may : MayExchange named leaving word (group_of id me view) (tokens_of new_id new)
+
+-- by what is known of the group and of the tokens whose seats these are
+abbrev pub exchange : {id id' : TableId} {v : View} {h : GroupHeld} {p : TokensHeld} {n : Named} {leaving : ℕ} {w : Fields} {count s : ℕ}
+    (me mo : Seat) → AreSeated me v count → AreTokens mo s → group_of id me v ≡ h → tokens_of id' mo ≡ p → MayExchange n leaving w h p
+    → Exchange
+exchange {id} {id'} {v} {h} {p} {n} {leaving} {w} {count} {s} me mo seated pool is is' may = record {
+  id = id;
+  new_id = id';
+  me = me;
+  new = mo;
+  view = v;
+  count = count;
+  new_count = s;
+  leaving = leaving;
+  named = n;
+  word = w;
+  seated = seated;
+  pool = pool;
+  may =
+      subst (λ (z : GroupHeld). MayExchange n leaving w z (tokens_of id' mo)) (sym is)
+      (subst (λ (z : TokensHeld). MayExchange n leaving w h z) (sym is') may);
+}
 
 pub part_ok : {k : Key} {n : ℕ} {f b : List Sight} (seat : ℕ) (l : List Sight) → 0 < n → n < length l → f ≡ take n l → b ≡ drop n l
     → Splits (Kept k) seat l f b
@@ -44,8 +74,46 @@ pub blank_own : (k : Key) (l : List Sight) → AreBlank k l → AreOf k l
 blank_own k [] all = tt
 blank_own k (x ∷ xs) all = (all.0.0, blank_own k xs all.1)
 
-module _ (id id' : TableId) (me mo : Seat) (v : View) (count s leaving : ℕ) (n : Named) (w : Fields) (seated : AreSeated me v count)
-    (pool : AreTokens mo s) (may : MayExchange n leaving w (group_of id me v) (tokens_of id' mo)) where
+module _ (x : Exchange) where
+  abbrev id : TableId
+  id = x.id
+
+  abbrev id' : TableId
+  id' = x.new_id
+
+  abbrev me : Seat
+  me = x.me
+
+  abbrev mo : Seat
+  mo = x.new
+
+  abbrev v : View
+  v = x.view
+
+  abbrev count : ℕ
+  count = x.count
+
+  abbrev s : ℕ
+  s = x.new_count
+
+  abbrev leaving : ℕ
+  leaving = x.leaving
+
+  abbrev n : Named
+  n = x.named
+
+  abbrev w : Fields
+  w = x.word
+
+  abbrev seated : AreSeated me v count
+  seated = x.seated
+
+  abbrev pool : AreTokens mo s
+  pool = x.pool
+
+  abbrev may : MayExchange n leaving w (group_of id me v) (tokens_of id' mo)
+  may = x.may
+
   abbrev stay : List Sight
   stay = take (length me.0 - leaving) me.0
 

@@ -1,11 +1,12 @@
 -- The exchange by which new tokens join a tier beside a group.
-use Rattle.std.proofs.Common.{◌≡◌, ◌≢◌, ℕ, ◌+◌, ◌<◌, List, [], ◌++◌, length, drop, ap, sym, ◌∙◌, subst, arith, length-append}
+use Rattle.std.proofs.Common.{◌≡◌, ◌≢◌, ℕ, ◌+◌, ◌<◌, ◌≤◌, List, [], ◌++◌, length, drop, ap, sym, ◌∙◌, subst, arith, length-append}
 use Rattle.std.proofs.Math.Seq.{drop-append_seam}
 use Rattle.atomic_table.specs.Table.{Me}
 use Rattle.atomic_table.specs.Seated.{TableId}
 use Rattle.phaser_word.specs.Fields.{Fields, IsLegal}
 use Rattle.tier_steps.specs.declared.view.View.{View}
 use Rattle.tier_steps.specs.View.{new_view}
+use Rattle.tier_steps.specs.Step.{CanPass}
 use Rattle.tier_steps.specs.declared.kind.Kind.{Kind}
 use Rattle.tier_steps.specs.declared.kind.Kind.TheVariants.{Join}
 use Rattle.tier_rule.specs.declared.sight.Key.{Key}
@@ -14,7 +15,7 @@ use Rattle.tier_rule.specs.Group.{AreOf, AreAlike, Goes, all_stepped, looked_all
 use Rattle.tier_rule.proofs.Together.{front_goes}
 use Rattle.tier_calls.specs.Holding.{Named, first_of, no_sight, sight_of}
 use Rattle.tier_calls.specs.Groups.{GroupHeld, group_of, AreSeated, MayGo, HaveGone, HaveLost, glanced, joined_more}
-use Rattle.tier_calls.specs.NewTokens.{TokensHeld, AreTokens, tokens_of}
+use Rattle.tier_calls.specs.NewTokens.{TokensHeld, AreBlank, AreTokens, IsEager, tokens_of}
 use Rattle.tier_calls.specs.JoinsAll.{MayJoin, sights_joined}
 use Rattle.tier_calls.proofs.Arrivals.{stepped_long}
 use Rattle.tier_calls.proofs.Grouping.{alike_own, looked_alike, looked_long, glanced_one}
@@ -25,14 +26,91 @@ use Rattle.tier_calls.proofs.ExchangeTry.{blank_own}
 abbrev Seat : Type 0
 Seat = Me Kind (List Sight)
 
--- what is needed, by what the seats know
-pub joins_inside : {id id' : TableId} {v : View} {h : GroupHeld} {p : TokensHeld} {n : Named} {w : Fields} (me mo : Seat)
-    → group_of id me v ≡ h → tokens_of id' mo ≡ p → MayJoin n w h p → MayJoin n w (group_of id me v) (tokens_of id' mo)
-joins_inside {id} {id'} {v} {h} {p} {n} {w} me mo is is' may =
-    subst (λ (z : GroupHeld). MayJoin n w z (tokens_of id' mo)) (sym is) (subst (λ (z : TokensHeld). MayJoin n w h z) (sym is') may)
+pub may_join : {n : Named} {w : Fields} {c : GroupHeld} {p : TokensHeld} → (c.tree ≡ n) × (p.table ≡ n.id) → AreBlank n.key p.tokens
+    → CanPass c.view.tier w c.view → IsEager c.view → c.view.tier < length n.key.shape → 0 < w.parties → length c.tokens ≤ w.unarrived
+    → w.parties + length p.tokens ≤ 65535 → MayJoin n w c p
+may_join own blank may eager place some enough capacity = record {
+  own = own;
+  blank = blank;
+  may = may;
+  eager = eager;
+  place = place;
+  some = some;
+  enough = enough;
+  capacity = capacity;
+}
 
-module _ (id id' : TableId) (me mo : Seat) (v : View) (count s : ℕ) (n : Named) (w : Fields) (seated : AreSeated me v count)
-    (pool : AreTokens mo s) (may : MayJoin n w (group_of id me v) (tokens_of id' mo)) where
+-- what is known before an exchange by which new tokens join a tier beside a group
+pub record Joining : Type 0 where
+  pub id : TableId
+  pub new_id : TableId
+  pub me : Seat
+  pub new : Seat
+  pub view : View
+  pub count : ℕ
+  pub new_count : ℕ
+  pub named : Named
+  pub word : Fields
+  pub seated : AreSeated me view count
+  pub pool : AreTokens new new_count
+  pub may : MayJoin named word (group_of id me view) (tokens_of new_id new)
+
+-- by what is known of the group and of the tokens whose seats these are
+abbrev pub joining : {id id' : TableId} {v : View} {h : GroupHeld} {p : TokensHeld} {n : Named} {w : Fields} {count s : ℕ} (me mo : Seat)
+    → AreSeated me v count → AreTokens mo s → group_of id me v ≡ h → tokens_of id' mo ≡ p → MayJoin n w h p → Joining
+joining {id} {id'} {v} {h} {p} {n} {w} {count} {s} me mo seated pool is is' may = record {
+  id = id;
+  new_id = id';
+  me = me;
+  new = mo;
+  view = v;
+  count = count;
+  new_count = s;
+  named = n;
+  word = w;
+  seated = seated;
+  pool = pool;
+  may =
+      subst (λ (z : GroupHeld). MayJoin n w z (tokens_of id' mo)) (sym is) (subst (λ (z : TokensHeld). MayJoin n w h z) (sym is') may);
+}
+
+module _ (x : Joining) where
+  abbrev id : TableId
+  id = x.id
+
+  abbrev id' : TableId
+  id' = x.new_id
+
+  abbrev me : Seat
+  me = x.me
+
+  abbrev mo : Seat
+  mo = x.new
+
+  abbrev v : View
+  v = x.view
+
+  abbrev count : ℕ
+  count = x.count
+
+  abbrev s : ℕ
+  s = x.new_count
+
+  abbrev n : Named
+  n = x.named
+
+  abbrev w : Fields
+  w = x.word
+
+  abbrev seated : AreSeated me v count
+  seated = x.seated
+
+  abbrev pool : AreTokens mo s
+  pool = x.pool
+
+  abbrev may : MayJoin n w (group_of id me v) (tokens_of id' mo)
+  may = x.may
+
   k : AreAlike n.key v me.0
   k = subst (λ (z : Key). AreAlike z v me.0) (ap (λ (z : Named). z.key) may.own.0) seated.alike
 

@@ -5,6 +5,7 @@ use Rattle.std.specs.Prelude.{IfSome}
 use Rattle.tier_steps.specs.Step.{CanPass}
 use Rattle.std.proofs.Math.Seq.{take-append_seam}
 use Rattle.atomic_table.specs.Table.{Me}
+use Rattle.atomic_table.specs.Seated.{TableId}
 use Rattle.phaser_word.specs.Fields.{Fields}
 use Rattle.tier_steps.specs.declared.view.View.{View}
 use Rattle.tier_steps.specs.declared.kind.Kind.{Kind}
@@ -14,8 +15,8 @@ use Rattle.tier_rule.specs.Reach.{those}
 use Rattle.tier_rule.specs.Group.{AreOf, Goes, passes}
 use Rattle.tier_rule.proofs.Seats.{those-append}
 use Rattle.tier_calls.specs.Holding.{Named}
-use Rattle.tier_calls.specs.Groups.{GroupHeld, IsOne, IsGroup}
-use Rattle.tier_calls.specs.NewTokens.{TokensHeld, MayExchange, IsEager}
+use Rattle.tier_calls.specs.Groups.{GroupHeld, group_of, AreSeated, IsOne, IsGroup}
+use Rattle.tier_calls.specs.NewTokens.{TokensHeld, AreTokens, tokens_of, MayExchange, IsEager}
 use Rattle.tier_calls.specs.ArrivesAll.{KeepsAll}
 use Rattle.tier_calls.specs.ArrivesWith.{TriesWith, OnlyTried}
 use Rattle.tier_calls.specs.KeptTries.{SoFar, TriedOnce}
@@ -24,7 +25,8 @@ use Rattle.tier_calls.specs.declared.arriving_with.TriedWith.{TriedWith}
 use Rattle.tier_calls.specs.declared.arriving_with.TriedWith.TheVariants as went
 use Rattle.tier_calls.proofs.ArrivingAll.{yet, keeps_none, keeps_then, here_then, looked_yet, none_now, first_look}
 use Rattle.tier_calls.proofs.ExchangeTries.{lost_pass, passed_then, went_then, has_parties, eager_first, eager_now, still_many, still_eager}
-use Rattle.tier_calls.proofs.Keeping.{begin_parties, first_kept, first_tried, looked_before, so_far_next, so_far_still}
+use Rattle.tier_calls.proofs.ExchangeTry.{Exchange, exchange}
+use Rattle.tier_calls.proofs.Keeping.{begun_seated, begun_is, begin_parties, first_kept, first_tried, looked_before, so_far_next, so_far_still}
 use Rattle.tier_calls.specs.Kept.{MayBegin, Finds, before_of, as_seat, GoesFrom, Begins, begun, ahead}
 
 abbrev Seat : Type 0
@@ -81,6 +83,14 @@ begun_exchange {n} {leaving} {w} {c} {p} {before} b m =
       few = omega arith;
       come = omega arith;
     }
+
+-- the exchange of a group that began with these steps
+abbrev pub begun_with : {id id' : TableId} {v : View} {h : GroupHeld} {p : TokensHeld} {n : Named} {leaving : ℕ} {w : Fields} {count s : ℕ}
+    (me mo : Seat) (before : List Sight) → AreSeated me v count → AreTokens mo s → group_of id me v ≡ h → tokens_of id' mo ≡ p
+    → Begins h w before → MayExchange n leaving w h p → Exchange
+begun_with me mo before seated pool is is' begins may =
+    exchange (as_seat before) mo (begun_seated {me = me} seated is begins) pool (begun_is {me = me} seated is begins) is'
+    (begun_exchange begins may)
 
 -- a try after a look
 tried_pass : {b c : GroupHeld} → IsOne b.view → b.view.arrived ≡ 0 → 0 < length b.tokens → AllTried b c → KeepsAll 1 b c

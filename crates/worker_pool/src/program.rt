@@ -2,8 +2,8 @@
 ghost use Rattle.std.specs.Prelude.{◌≡◌, ◌≤◌, ◌<◌, ◌^◌, ◌∷◌, [], IfOk, IfErr, length, map};
 ghost use Rattle.advance_rule.specs.Stored.{Answers};
 ghost use Rattle.advance_rule.specs.Plan.{end_ends_at};
-ghost use Rattle.program_stretches.specs.SuperstepStart.{SuperstepStartValue, live_of};
-ghost use Rattle.program_stretches.specs.Parts.{AreFresh, tasks_in};
+ghost use Rattle.program_stretches.specs.SuperstepStart.{SuperstepStartValue, setup_of};
+ghost use Rattle.program_stretches.specs.Parts.{AreFresh, reading_of, tasks_in};
 ghost use Rattle.programs.specs.Meaning.{children};
 ghost use Rattle.programs.specs.History.{HasRun, HasRunTo};
 ghost use Rattle.worker_pool.specs.JobPlan.{limit_of, IsJobPlan};
@@ -65,7 +65,9 @@ where
     requires plan { IsJobPlan advance.plan }
     requires rule { Answers (F.pre advance.closure) (F.post advance.closure) (end_ends_at advance.plan) }
     ensures ran { IfOk result (λ ran. let p = program.now in
-        HasRun (P.frame p) (P.may p) most arrays (map (P.meant p) tasks.items) (limit_of advance.plan) ran.report (map (P.meant p) ran.tasks.items)) }
+        HasRun
+        (record { frame = P.frame p; may = P.may p; most = most; arrays = arrays; tasks = map (P.meant p) tasks.items; limit = limit_of advance.plan })
+        ran.report (map (P.meant p) ran.tasks.items)) }
     ensures started { IfErr result (IsOfWorkers workers) }
 {
     let ran = run_program_watched(
@@ -118,7 +120,9 @@ where
     requires plan { IsJobPlan advance.plan }
     requires rule { Answers (F.pre advance.closure) (F.post advance.closure) (end_ends_at advance.plan) }
     ensures ran { IfOk result (λ ran. let p = program.now in
-        HasRunTo W.stops W.goes (P.frame p) (P.may p) most arrays (map (P.meant p) tasks.items) (limit_of advance.plan) ran.report (map (P.meant p) ran.tasks.items)) }
+        HasRunTo W.stops W.goes
+        (record { frame = P.frame p; may = P.may p; most = most; arrays = arrays; tasks = map (P.meant p) tasks.items; limit = limit_of advance.plan })
+        ran.report (map (P.meant p) ran.tasks.items)) }
     ensures started { IfErr result (IsOfWorkers workers) }
 {
     let Ok((log, start)) = Log::new(alloc) else {
@@ -168,7 +172,8 @@ where
     requires plan { IsJobPlan advance.plan }
     requires rule { Answers (F.pre advance.closure) (F.post advance.closure) (end_ends_at advance.plan) }
     ensures ran { IfOk result (λ ran. (o : SuperstepStartValue P P.Task) → stretches.entry.log ≡ o ∷ []
-        → HasRunTo W.stops W.goes (P.frame o.program) (P.may o.program) o.most o.arrays (map (P.meant o.program) (live_of o)) o.limit ran.report (map (P.meant o.program) ran.tasks.items)) }
+        → HasRunTo W.stops W.goes (setup_of (reading_of P.frame P.may P.meant P.Task.path_of) o)
+        ran.report (map (P.meant o.program) ran.tasks.items)) }
     ensures started { IfErr result (IsOfWorkers workers) }
 {
     let first = stretches.snapshot();

@@ -1,4 +1,4 @@
-use Rattle.std.proofs.Common.{◌≡◌, ◌++◌, length, map}
+use Rattle.std.proofs.Common.{◌≡◌, ◌++◌, map, drop}
 use Rattle.job_schedule.specs.AnswerValue.{answer_seen}
 use Rattle.job_schedule.specs.Parts.{IsKept, IsReached, world_of}
 use Rattle.job_schedule.specs.World.{answers}
@@ -6,10 +6,7 @@ use Rattle.job_schedule.proofs.drive.take_each.Given as goal
 
 abbrev pub invariant-loop-step : goal.invariant-loop-step
 invariant-loop-step l = record {
-  replies : map answer_seen l.replies.items ++ answers (world_of l.schedule) l.rest ≡ answers (world_of l.fn.schedule) l.fn.steps;
+  replies : map answer_seen l.replies.items ++ answers (world_of l.schedule) (drop l.step-index l.steps) ≡ answers (world_of l.fn.schedule) l.fn.steps;
   reached : IsReached (world_of l.schedule);
   kept : IsKept l.schedule.round (world_of l.schedule);
 }
-
-abbrev pub decreases-loop-step : goal.decreases-loop-step
-decreases-loop-step l = length l.rest

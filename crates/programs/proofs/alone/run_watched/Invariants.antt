@@ -1,13 +1,12 @@
-use Rattle.std.proofs.Common.{map}
 use Rattle.programs.specs.History.{OfState}
-use Rattle.programs.proofs.Reached.{IsWatched, steps_left}
+use Rattle.programs.proofs.Reached.{setup_for, IsWatched, steps_left}
 use Rattle.programs.proofs.alone.run_watched.Given as goal
 
 abbrev pub invariant-loop-steps : goal.invariant-loop-steps
 invariant-loop-steps g l =
-    IsWatched (g.P.Program.frame l.program) (g.P.Program.may l.program) l.most (g.P.Program.meant l.program) g.P.Task.OnPath.path_of
-    (g.met.P.Program.keeps_paths l.program)
-    l.fn.arrays (map (g.P.Program.meant l.program) l.fn.tasks.items) l.limit (OfState g.W.Watch.goes) l.steps
+    IsWatched
+    (setup_for (g.P.Program.frame l.program) (g.P.Program.may l.program) l.most (g.P.Program.meant l.program) l.fn.arrays l.fn.tasks.items l.limit)
+    (g.P.Program.meant l.program) (OfState g.W.Watch.goes) l.steps
 
 abbrev pub decreases-loop-steps : goal.decreases-loop-steps
 decreases-loop-steps g l = steps_left l.steps

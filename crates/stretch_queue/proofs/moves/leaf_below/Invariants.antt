@@ -1,9 +1,6 @@
-use Rattle.std.proofs.Common.{◌≡◌, ◌<◌, length}
+use Rattle.std.proofs.Common.{◌≡◌, ◌<◌, drop}
 use Rattle.stretch_queue.specs.Leaves.{leaf_below}
 use Rattle.stretch_queue.proofs.moves.leaf_below.Given as goal
 
 abbrev pub invariant-loop-number : goal.invariant-loop-number
-invariant-loop-number l = (l.leaf < l.leaves) × (leaf_below l.leaves l.leaf l.rest ≡ leaf_below l.leaves l.at l.path)
-
-abbrev pub decreases-loop-number : goal.decreases-loop-number
-decreases-loop-number l = length l.rest
+invariant-loop-number l = (l.leaf < l.leaves) × (leaf_below l.leaves l.leaf (drop l.number-index l.path) ≡ leaf_below l.leaves l.at l.path)

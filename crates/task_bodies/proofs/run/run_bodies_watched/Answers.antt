@@ -1,7 +1,7 @@
 use Rattle.std.proofs.Common.{◌∙◌, [], List, ap, sym, subst, arith, map, length}
 use Rattle.programs.specs.Meaning.{children}
 use Rattle.programs.specs.History.{HasRunTo}
-use Rattle.task_bodies.specs.Bodies.{MemberValue, BodyMay, member_frame, path_of}
+use Rattle.task_bodies.specs.Bodies.{MemberValue, member_setup, path_of}
 use Rattle.task_bodies.proofs.WellFormed.{numbered_count, numbered_paths}
 use Rattle.task_bodies.proofs.Many.{not_too_many}
 use Rattle.task_bodies.proofs.Framed.{same_of}
@@ -23,13 +23,13 @@ pub returns : goal.returns
 returns g c = record {
   ran =
       subst
-      (λ (ts : List (MemberValue g.row.B-Kept.Denot)). HasRunTo g.W.Watch.stops g.W.Watch.goes member_frame
-      (BodyMay (g.B.TaskBody.may c.args.body.now)) c.args.most c.args.arrays ts c.args.limit c.in_ok-ran.ran.report
-      c.in_ok-ran.ran.tasks.items)
+      (λ (ts : List (MemberValue g.row.B-Kept.Denot)). HasRunTo g.W.Watch.stops g.W.Watch.goes
+      (member_setup (g.B.TaskBody.may c.args.body.now) c.args.most c.args.arrays ts c.args.limit)
+      c.in_ok-ran.ran.report c.in_ok-ran.ran.tasks.items)
       (same_of c.in_ok-members.members.items ∙ c.in_ok-members.ensures.tasks)
       (subst
-      (λ (us : List (MemberValue g.row.B-Kept.Denot)). HasRunTo g.W.Watch.stops g.W.Watch.goes member_frame
-      (BodyMay (g.B.TaskBody.may c.args.body.now)) c.args.most c.args.arrays (map (λ t. t) c.in_ok-members.members.items) c.args.limit
+      (λ (us : List (MemberValue g.row.B-Kept.Denot)). HasRunTo g.W.Watch.stops g.W.Watch.goes
+      (member_setup (g.B.TaskBody.may c.args.body.now) c.args.most c.args.arrays (map (λ t. t) c.in_ok-members.members.items) c.args.limit)
       c.in_ok-ran.ran.report us)
       (same_of c.in_ok-ran.ran.tasks.items) c.in_ok-ran.ensures);
   few =

@@ -1,5 +1,6 @@
 use Rattle.std.proofs.Common.{◌≡◌, ◌∙◌, ℕ, List, Result, Ok, Err, map, length, ap, sym, subst}
 use Rattle.std.specs.Prelude.{ℤ, IfOk}
+use Rattle.phase_records.specs.ReportValue.{ReportValue}
 use Rattle.programs.specs.History.{HasRunTo}
 use Rattle.program_stretches.specs.SuperstepStart.{live_of}
 use Rattle.worker_pool.specs.JobPlan.{limit_of}
@@ -13,33 +14,19 @@ pub returns-in-Ok-new-clause-ran : goal.returns-in-Ok-new-clause-ran
 returns-in-Ok-new-clause-ran g c =
     let b = c.in-Ok-new.ensures in
     let limit : b.start.limit ≡ limit_of c.args.advance.plan = b.of_limit ∙ c.limit_in-limit.ensures.limit ∙ ap limit_of c.plan.ensures in
+    let said = λ (q : g.row.P.Denot) (most : ℕ) (arrays : List (List ℕ × List ℤ)) (ts : List g.row.P-Task.Denot) (n : ℕ)
+    (outcome : ReportValue) (living : List g.row.P-Task.Denot).
+    HasRunTo g.W.Watch.stops g.W.Watch.goes
+    (record { frame = g.P.Program.frame q; may = g.P.Program.may q; most = most; arrays = arrays; tasks = map (g.P.Program.meant q) ts; limit = n })
+    outcome (map (g.P.Program.meant q) living) in
+    let to = limit_of c.args.advance.plan in
     if_ok c.run_watched.result _ _ c.run_watched.ensures.ran
     (λ ran h.
-    subst
-    (λ (q : g.row.P.Denot). HasRunTo g.W.Watch.stops g.W.Watch.goes (g.P.Program.frame q) (g.P.Program.may q) c.args.most c.args.arrays
-    (map (g.P.Program.meant q) c.args.tasks.items) (limit_of c.args.advance.plan) ran.report
-    (map (g.P.Program.meant q) ran.tasks.items))
-    b.of_program
-    (subst
-    (λ (n : ℕ). HasRunTo g.W.Watch.stops g.W.Watch.goes (g.P.Program.frame b.start.program) (g.P.Program.may b.start.program) n
-    c.args.arrays (map (g.P.Program.meant b.start.program) c.args.tasks.items) (limit_of c.args.advance.plan) ran.report
-    (map (g.P.Program.meant b.start.program) ran.tasks.items))
-    b.of_most
-    (subst
-    (λ (xs : List (List ℕ × List ℤ)). HasRunTo g.W.Watch.stops g.W.Watch.goes (g.P.Program.frame b.start.program)
-    (g.P.Program.may b.start.program) b.start.most xs (map (g.P.Program.meant b.start.program) c.args.tasks.items)
-    (limit_of c.args.advance.plan) ran.report (map (g.P.Program.meant b.start.program) ran.tasks.items))
-    b.of_arrays
-    (subst
-    (λ (ts : List g.row.P-Task.Denot). HasRunTo g.W.Watch.stops g.W.Watch.goes (g.P.Program.frame b.start.program)
-    (g.P.Program.may b.start.program) b.start.most b.start.arrays (map (g.P.Program.meant b.start.program) ts)
-    (limit_of c.args.advance.plan) ran.report (map (g.P.Program.meant b.start.program) ran.tasks.items))
-    b.of_tasks
-    (subst
-    (λ (n : ℕ). HasRunTo g.W.Watch.stops g.W.Watch.goes (g.P.Program.frame b.start.program) (g.P.Program.may b.start.program)
-    b.start.most b.start.arrays (map (g.P.Program.meant b.start.program) (live_of b.start)) n ran.report
-    (map (g.P.Program.meant b.start.program) ran.tasks.items))
-    limit
+    subst (λ q. said q c.args.most c.args.arrays c.args.tasks.items to ran.report ran.tasks.items) b.of_program
+    (subst (λ n. said b.start.program n c.args.arrays c.args.tasks.items to ran.report ran.tasks.items) b.of_most
+    (subst (λ xs. said b.start.program b.start.most xs c.args.tasks.items to ran.report ran.tasks.items) b.of_arrays
+    (subst (λ ts. said b.start.program b.start.most b.start.arrays ts to ran.report ran.tasks.items) b.of_tasks
+    (subst (λ n. said b.start.program b.start.most b.start.arrays (live_of b.start) n ran.report ran.tasks.items) limit
     (h b.start b.log))))))
 
 pub run_watched-requires-clause-opened : goal.run_watched-requires-clause-opened

@@ -1,6 +1,6 @@
 use Rattle.std.proofs.Common.{◌≡◌, ◌∙◌, ◌++◌, map, ap, sym, subst}
 use Rattle.programs.specs.History.{HasRunTo}
-use Rattle.program_stretches.specs.SuperstepStart.{SuperstepStartValue, live_of}
+use Rattle.program_stretches.specs.SuperstepStart.{SuperstepStartValue, setup_of}
 use Rattle.program_stretches.specs.Parts.{reading_of}
 use Rattle.program_stretches.proofs.RunsSoFar.{last_same}
 use Rattle.stretch_queue.specs.Watched.{HasLeftWatched}
@@ -20,7 +20,6 @@ returns-in-Ok-clause-ran g c =
     let same : left.first ≡ o =
     last_same m left.since before.since left.first o (sym left.begun ∙ before.is ∙ ap (λ l. before.since ++ l) log) in
     subst
-    (λ (x : SuperstepStartValue g.row.P.Denot g.row.P-Task.Denot). HasRunTo g.W.Watch.stops g.W.Watch.goes (g.P.Program.frame x.program)
-    (g.P.Program.may x.program) x.most x.arrays (map (g.P.Program.meant x.program) (live_of x)) x.limit c.in-Ok.left.ran.report
-    (map (g.P.Program.meant x.program) c.in-Ok.left.ran.tasks.items))
+    (λ (x : SuperstepStartValue g.row.P.Denot g.row.P-Task.Denot). HasRunTo g.W.Watch.stops g.W.Watch.goes (setup_of m x)
+    c.in-Ok.left.ran.report (map (g.P.Program.meant x.program) c.in-Ok.left.ran.tasks.items))
     same left.run

@@ -1,11 +1,11 @@
 use Rattle.std.proofs.Common.{◌≡◌, ◌≤◌, ◌+◌, ◌-◌, ◌∙◌, ℕ, [], List, ap, sym, subst, arith, map, length}
 use Rattle.programs.specs.Meaning.{children}
 use Rattle.programs.specs.History.{HasRunTo}
-use Rattle.task_bodies.specs.Bodies.{MemberValue, BodyMay, member_frame, numbered, path_of}
+use Rattle.task_bodies.specs.Bodies.{MemberValue, member_setup, numbered, path_of}
 use Rattle.worker_pool.specs.JobPlan.{limit_of}
 use Rattle.task_bodies.proofs.WellFormed.{numbered_count, numbered_paths}
 use Rattle.task_bodies.proofs.Framed.{same_of}
-use Rattle.bodies.specs.RunValue.{RunValue}
+use Rattle.bodies.specs.RunValue.{RunValue, setup_in}
 use Rattle.bodies.proofs.watched.WatchedRun.on_with.Goals as goal
 
 limited : (n : ℕ) → 1 ≤ n → n - 1 + 1 ≡ n
@@ -31,10 +31,11 @@ returns-in-Ok-run_program_watched-clause-ran g c =
     let same = c.run.view_is ∙ c.self.view_is in
     let ended = ap (λ r. limit_of r.plan) c.new-advance.ensures ∙ ap limit_of c.at_phase-plan.ensures in
     let limit : limit_of plan ≡ run.limit = ended ∙ limited run.limit c.run.invariant.supersteps in
-    let said = λ (n : ℕ) (ts us : List (MemberValue g.row.B-Kept.Denot)). HasRunTo g.W.Watch.stops g.W.Watch.goes member_frame
-    (BodyMay (g.B.TaskBody.may run.body.now)) run.most run.arrays ts n left.report us in
-    subst (λ (r : RunValue g.row.B.Denot g.row.B-Kept.Denot). HasRunTo g.W.Watch.stops g.W.Watch.goes member_frame
-    (BodyMay (g.B.TaskBody.may r.body)) r.most r.arrays (numbered [] 0 r.tasks) r.limit left.report left.tasks.items) same
+    let said = λ (n : ℕ) (ts us : List (MemberValue g.row.B-Kept.Denot)). HasRunTo g.W.Watch.stops g.W.Watch.goes
+    (member_setup (g.B.TaskBody.may run.body.now) run.most run.arrays ts n)
+    left.report us in
+    subst (λ (r : RunValue g.row.B.Denot g.row.B-Kept.Denot).
+    HasRunTo g.W.Watch.stops g.W.Watch.goes (setup_in g.B.TaskBody.may r) left.report left.tasks.items) same
     (subst (λ n. said n (numbered [] 0 run.tasks.items) left.tasks.items) limit
     (subst (λ ts. said (limit_of plan) ts left.tasks.items) (same_of c.in-Ok.members.items ∙ c.in-Ok.ensures.tasks)
     (subst (λ us. said (limit_of plan) (map (λ t. t) c.in-Ok.members.items) us) (same_of left.tasks.items)

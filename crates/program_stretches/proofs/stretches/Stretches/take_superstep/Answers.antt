@@ -1,13 +1,13 @@
-use Rattle.std.proofs.Common.{◌≡◌, true, ◌+◌, ◌≤◌, ◌∙◌, ℕ, Option, Some, None, length, map, ap, sym, subst, arith}
+use Rattle.std.proofs.Common.{◌≡◌, true, ◌∙◌, ℕ, Option, Some, None, map, ap, sym, subst, arith}
 use Rattle.std.specs.Prelude.{MatchOption}
-use Rattle.programs.specs.InPlace.{left_in, spawned_in, record_in}
-use Rattle.programs.proofs.InPlace.{few_left}
+use Rattle.programs.specs.InPlace.{left_in, spawned_in}
 use Rattle.program_stretches.specs.declared.fault.Outcome.TheVariants.{TooMany}
-use Rattle.program_stretches.specs.Parts.{reading_of, covers, tasks_in, deeds_in, prints_in}
+use Rattle.program_stretches.specs.Parts.{reading_of, covers, deeds_in}
 use Rattle.program_stretches.specs.SuperstepStart.{live_of}
 use Rattle.program_stretches.specs.StretchesValue.{StretchesValue}
 use Rattle.program_stretches.specs.Closing.{EndsBy}
-use Rattle.program_stretches.proofs.Closed.{fit, ends_many, closed_end, have_same, tasks_on, deeds_on, prints_on, covers_on}
+use Rattle.program_stretches.proofs.Closed.{ends_many, closed_end, have_same, covers_on}
+use Rattle.program_stretches.proofs.Counted.{are_counted, few_on, counts_on, did_the_same}
 use Rattle.program_stretches.proofs.Reopening.{if_ok, none_moved, reopened_from}
 use Rattle.program_stretches.proofs.stretches.Stretches.take_superstep.Goals.{else-left-eq0-via-then-left-eq0+else-spawned-eq0, else-left-eq0-via-else-left-eq0}
 use Rattle.program_stretches.proofs.EachDone.{each_also, can_also}
@@ -32,85 +32,52 @@ pub count_left-left-requires : goal.count_left-left-requires
 count_left-left-requires g c =
     let m = reading_of g.P.Program.frame g.P.Program.may g.P.Program.meant g.P.Task.OnPath.path_of in
     let a = c.args.self.now in
-    let law = g.met.P.Program.keeps_paths a.program in
-    let h = c.requires.run in
-    let f = fit m a law c.requires.running h.start h.begun _ _ _ _ h.did in
-    let ds = deeds_in c.args.parts.items in
-    let left = few_left ds in
-    let all = f.all in
+    let h = are_counted m a (g.met.P.Program.keeps_paths a.program) c.requires.running c.requires.run in
     let count = ap (λ (x : StretchesValue g.row.P.Denot g.row.P-Task.Denot). x.count) c.self.view_is in
-    let few = let b = h.begun.few in let n = h.begun.count in
-    let x : a.count ≤ a.most = omega (arith, b, n) in x in
-    let most = ap (λ (x : StretchesValue g.row.P.Denot g.row.P-Task.Denot). x.most) c.self.view_is in
-    let bound = c.self.invariant.most in
     let e = ap left_in (ap deeds_in c.deref.ensures.value) in
-    omega (arith, e, left, all, count)
+    omega (arith, e, h.left, h.all, count)
 
 pub overflow_sub-stay : goal.overflow_sub-stay
 overflow_sub-stay g c =
     let m = reading_of g.P.Program.frame g.P.Program.may g.P.Program.meant g.P.Task.OnPath.path_of in
     let a = c.args.self.now in
-    let law = g.met.P.Program.keeps_paths a.program in
-    let h = c.requires.run in
-    let f = fit m a law c.requires.running h.start h.begun _ _ _ _ h.did in
-    let ds = deeds_in c.args.parts.items in
-    let left = few_left ds in
-    let all = f.all in
+    let h = are_counted m a (g.met.P.Program.keeps_paths a.program) c.requires.running c.requires.run in
     let count = ap (λ (x : StretchesValue g.row.P.Denot g.row.P-Task.Denot). x.count) c.self.view_is in
-    let few = let b = h.begun.few in let n = h.begun.count in
-    let x : a.count ≤ a.most = omega (arith, b, n) in x in
-    let most = ap (λ (x : StretchesValue g.row.P.Denot g.row.P-Task.Denot). x.most) c.self.view_is in
-    let bound = c.self.invariant.most in
-    let e = ap left_in (ap deeds_in c.deref.ensures.value) in
-    let n = c.count_left-left.ensures in
-    omega (arith, e, n, left, all, count)
+    let l = c.count_left-left.ensures ∙ ap left_in (ap deeds_in c.deref.ensures.value) in
+    omega (arith, l, h.left, h.all, count)
 
 pub end-requires-clause-ends : goal.end-requires-clause-ends
 end-requires-clause-ends g c =
     let m = reading_of g.P.Program.frame g.P.Program.may g.P.Program.meant g.P.Task.OnPath.path_of in
     let a = c.args.self.now in
-    let law = g.met.P.Program.keeps_paths a.program in
-    let h = c.requires.run in
-    let f = fit m a law c.requires.running h.start h.begun _ _ _ _ h.did in
-    let ds = deeds_in c.args.parts.items in
-    let left = few_left ds in
-    let all = f.all in
+    let h = are_counted m a (g.met.P.Program.keeps_paths a.program) c.requires.running c.requires.run in
     let count = ap (λ (x : StretchesValue g.row.P.Denot g.row.P-Task.Denot). x.count) c.self.view_is in
-    let few = let b = h.begun.few in let n = h.begun.count in
-    let x : a.count ≤ a.most = omega (arith, b, n) in x in
     let most = ap (λ (x : StretchesValue g.row.P.Denot g.row.P-Task.Denot). x.most) c.self.view_is in
-    let bound = c.self.invariant.most in
-    let e = ap left_in (ap deeds_in c.deref.ensures.value) in
-    let n = c.count_left-left.ensures in
-    let over = not_counted c.count_spawned.result _ _ c.count_spawned.ensures c.in_default.is in
+    let l = c.count_left-left.ensures ∙ ap left_in (ap deeds_in c.deref.ensures.value) in
     let s = ap spawned_in (ap deeds_in c.deref-2.ensures.value) in
+    let over = not_counted c.count_spawned.result _ _ c.count_spawned.ensures c.in_default.is in
+    let run = c.requires.run in
     let step =
-    ends_many m a law c.requires.running h.start h.begun _ _ _ _ h.did (omega (arith, e, n, over, s, left, all, count, few, most)) in
+    ends_many m a (g.met.P.Program.keeps_paths a.program) c.requires.running run.start run.begun _ _ _ _ run.did
+    (omega (arith, l, over, s, h.left, h.all, h.few, count, most)) in
     subst (EndsBy m a) (sym c.too_many.ensures)
-    (record { live = map (m a.program).meant (live_of h.start); begun = h.begun; count = h.count; step = step.step })
+    (record { live = map (m a.program).meant (live_of run.start); begun = run.begun; count = run.count; step = step.step })
 
 pub returns-in_default-clause-closed : goal.returns-in_default-clause-closed
 returns-in_default-clause-closed g c =
     let m = reading_of g.P.Program.frame g.P.Program.may g.P.Program.meant g.P.Task.OnPath.path_of in
     let a = c.args.self.now in
-    let law = g.met.P.Program.keeps_paths a.program in
-    let h = c.requires.run in
-    let f = fit m a law c.requires.running h.start h.begun _ _ _ _ h.did in
-    let ds = deeds_in c.args.parts.items in
-    let left = few_left ds in
-    let all = f.all in
+    let h = are_counted m a (g.met.P.Program.keeps_paths a.program) c.requires.running c.requires.run in
     let count = ap (λ (x : StretchesValue g.row.P.Denot g.row.P-Task.Denot). x.count) c.self.view_is in
-    let few = let b = h.begun.few in let n = h.begun.count in
-    let x : a.count ≤ a.most = omega (arith, b, n) in x in
     let most = ap (λ (x : StretchesValue g.row.P.Denot g.row.P-Task.Denot). x.most) c.self.view_is in
-    let bound = c.self.invariant.most in
-    let e = ap left_in (ap deeds_in c.deref.ensures.value) in
-    let n = c.count_left-left.ensures in
-    let over = not_counted c.count_spawned.result _ _ c.count_spawned.ensures c.in_default.is in
+    let l = c.count_left-left.ensures ∙ ap left_in (ap deeds_in c.deref.ensures.value) in
     let s = ap spawned_in (ap deeds_in c.deref-2.ensures.value) in
+    let over = not_counted c.count_spawned.result _ _ c.count_spawned.ensures c.in_default.is in
+    let run = c.requires.run in
     let step =
-    ends_many m a law c.requires.running h.start h.begun _ _ _ _ h.did (omega (arith, e, n, over, s, left, all, count, few, most)) in
-    closed_end m a law c.requires.running h.start h.older h.is _ c.end.new.self
+    ends_many m a (g.met.P.Program.keeps_paths a.program) c.requires.running run.start run.begun _ _ _ _ run.did
+    (omega (arith, l, over, s, h.left, h.all, h.few, count, most)) in
+    closed_end m a (g.met.P.Program.keeps_paths a.program) c.requires.running run.start run.older run.is _ c.end.new.self
     (c.end.ensures ∙ (λ i. record a { fault = Some (c.too_many.ensures i) }))
     TooMany step (λ x live k. (_, k))
 
@@ -118,89 +85,40 @@ pub overflow_cast-counts-2 : goal.overflow_cast-counts-2
 overflow_cast-counts-2 g c =
     let m = reading_of g.P.Program.frame g.P.Program.may g.P.Program.meant g.P.Task.OnPath.path_of in
     let a = c.args.self.now in
-    let law = g.met.P.Program.keeps_paths a.program in
-    let h = c.requires.run in
-    let f = fit m a law c.requires.running h.start h.begun _ _ _ _ h.did in
-    let ds = deeds_in c.args.parts.items in
-    let left = few_left ds in
-    let all = f.all in
+    let h = are_counted m a (g.met.P.Program.keeps_paths a.program) c.requires.running c.requires.run in
     let count = ap (λ (x : StretchesValue g.row.P.Denot g.row.P-Task.Denot). x.count) c.self.view_is in
-    let few = let b = h.begun.few in let n = h.begun.count in
-    let x : a.count ≤ a.most = omega (arith, b, n) in x in
     let most = ap (λ (x : StretchesValue g.row.P.Denot g.row.P-Task.Denot). x.most) c.self.view_is in
+    let l = c.count_left-left.ensures ∙ ap left_in (ap deeds_in c.deref.ensures.value) in
     let bound = c.self.invariant.most in
-    let e = ap left_in (ap deeds_in c.deref.ensures.value) in
-    let n = c.count_left-left.ensures in
-    omega (arith, e, n, left, all, count, few, most, bound)
+    omega (arith, l, h.left, h.all, h.few, count, most, bound)
 
 pub stay-requires-clause-run : goal.stay-requires-clause-run
 stay-requires-clause-run g c =
     let m = reading_of g.P.Program.frame g.P.Program.may g.P.Program.meant g.P.Task.OnPath.path_of in
-    let h = c.requires.run in
-    let rest = c.in_ok-join_adds.ensures.rest in
-    let kept = c.join_adds.new.parts.items in
-    let tasks = sym (tasks_on kept) ∙ ap tasks_in rest ∙ tasks_on c.args.parts.items in
-    let deeds = sym (deeds_on kept) ∙ ap deeds_in rest ∙ deeds_on c.args.parts.items in
-    let prints = sym (prints_on kept) ∙ ap prints_in rest ∙ prints_on c.args.parts.items in
-    let puts = c.in_ok-join_adds.ensures.same in
-    have_same m c.args.self.now h (sym puts) (sym tasks) (sym deeds) (sym prints)
+    let same = did_the_same c.join_adds.new.parts.items c.args.parts.items c.in_ok-join_adds.ensures.rest in
+    have_same m c.args.self.now c.requires.run (sym c.in_ok-join_adds.ensures.same) (sym same.tasks) (sym same.deeds) (sym same.prints)
 
 pub stay-requires-clause-few : goal.stay-requires-clause-few
 stay-requires-clause-few g c =
     let m = reading_of g.P.Program.frame g.P.Program.may g.P.Program.meant g.P.Task.OnPath.path_of in
     let a = c.args.self.now in
-    let law = g.met.P.Program.keeps_paths a.program in
-    let h = c.requires.run in
-    let f = fit m a law c.requires.running h.start h.begun _ _ _ _ h.did in
-    let ds = deeds_in c.args.parts.items in
-    let left = few_left ds in
-    let all = f.all in
-    let count = ap (λ (x : StretchesValue g.row.P.Denot g.row.P-Task.Denot). x.count) c.self.view_is in
-    let few = let b = h.begun.few in let n = h.begun.count in
-    let x : a.count ≤ a.most = omega (arith, b, n) in x in
-    let most = ap (λ (x : StretchesValue g.row.P.Denot g.row.P-Task.Denot). x.most) c.self.view_is in
-    let bound = c.self.invariant.most in
-    let rest = c.in_ok-join_adds.ensures.rest in
-    let kept = c.join_adds.new.parts.items in
-    let tasks = sym (tasks_on kept) ∙ ap tasks_in rest ∙ tasks_on c.args.parts.items in
-    let deeds = sym (deeds_on kept) ∙ ap deeds_in rest ∙ deeds_on c.args.parts.items in
-    let prints = sym (prints_on kept) ∙ ap prints_in rest ∙ prints_on c.args.parts.items in
-    let puts = c.in_ok-join_adds.ensures.same in
-    let counts = c.count_left-left.ensures ∙ ap left_in (ap deeds_in c.deref.ensures.value) in
+    let h = are_counted m a (g.met.P.Program.keeps_paths a.program) c.requires.running c.requires.run in
+    let l = c.count_left-left.ensures ∙ ap left_in (ap deeds_in c.deref.ensures.value) in
     let made = counted_there c.count_spawned.result _ _ c.count_spawned.ensures c.in-Some.is in
-    let spawned = made.0 ∙ ap spawned_in (ap deeds_in c.deref-2.ensures.value) in
-    let fits = made.1 in
-    let n = ap (λ xs. length xs + spawned_in xs) deeds in
-    let k = ap left_in deeds in
-    omega (arith, n, k, all, count, most, left, counts, spawned, fits, few)
+    let s = made.0 ∙ ap spawned_in (ap deeds_in c.deref-2.ensures.value) in
+    let same = did_the_same c.join_adds.new.parts.items c.args.parts.items c.in_ok-join_adds.ensures.rest in
+    few_on c.self.view_is h same.deeds l s made.1
 
 pub stay-requires-clause-counts : goal.stay-requires-clause-counts
 stay-requires-clause-counts g c =
     let m = reading_of g.P.Program.frame g.P.Program.may g.P.Program.meant g.P.Task.OnPath.path_of in
     let a = c.args.self.now in
-    let law = g.met.P.Program.keeps_paths a.program in
-    let h = c.requires.run in
-    let f = fit m a law c.requires.running h.start h.begun _ _ _ _ h.did in
-    let ds = deeds_in c.args.parts.items in
-    let left = few_left ds in
-    let all = f.all in
-    let count = ap (λ (x : StretchesValue g.row.P.Denot g.row.P-Task.Denot). x.count) c.self.view_is in
-    let few = let b = h.begun.few in let n = h.begun.count in
-    let x : a.count ≤ a.most = omega (arith, b, n) in x in
-    let most = ap (λ (x : StretchesValue g.row.P.Denot g.row.P-Task.Denot). x.most) c.self.view_is in
-    let bound = c.self.invariant.most in
-    let rest = c.in_ok-join_adds.ensures.rest in
-    let kept = c.join_adds.new.parts.items in
-    let tasks = sym (tasks_on kept) ∙ ap tasks_in rest ∙ tasks_on c.args.parts.items in
-    let deeds = sym (deeds_on kept) ∙ ap deeds_in rest ∙ deeds_on c.args.parts.items in
-    let prints = sym (prints_on kept) ∙ ap prints_in rest ∙ prints_on c.args.parts.items in
-    let puts = c.in_ok-join_adds.ensures.same in
-    let counts = c.count_left-left.ensures ∙ ap left_in (ap deeds_in c.deref.ensures.value) in
+    let h = are_counted m a (g.met.P.Program.keeps_paths a.program) c.requires.running c.requires.run in
+    let l = c.count_left-left.ensures ∙ ap left_in (ap deeds_in c.deref.ensures.value) in
     let made = counted_there c.count_spawned.result _ _ c.count_spawned.ensures c.in-Some.is in
-    let spawned = made.0 ∙ ap spawned_in (ap deeds_in c.deref-2.ensures.value) in
-    let fits = made.1 in
-    (λ i. record { phase = (c.self.view_is i).step; parties = (count ∙ sym all) i + spawned i; left = counts i; spawned = spawned i })
-    ∙ ap (record_in c.args.self.now.step) (sym deeds)
+    let s = made.0 ∙ ap spawned_in (ap deeds_in c.deref-2.ensures.value) in
+    let same = did_the_same c.join_adds.new.parts.items c.args.parts.items c.in_ok-join_adds.ensures.rest in
+    counts_on c.self.view_is h same.deeds l s
 
 pub stay-requires-clause-covered : goal.stay-requires-clause-covered
 stay-requires-clause-covered g c =
@@ -211,80 +129,39 @@ stay-requires-clause-covered g c =
 pub move_on-requires-clause-run : goal.move_on-requires-clause-run
 move_on-requires-clause-run g c =
     let m = reading_of g.P.Program.frame g.P.Program.may g.P.Program.meant g.P.Task.OnPath.path_of in
-    let h = c.requires.run in
-    let rest = c.in_ok-join_adds.ensures.rest in
-    let kept = c.join_adds.new.parts.items in
-    let tasks = sym (tasks_on kept) ∙ ap tasks_in rest ∙ tasks_on c.args.parts.items in
-    let deeds = sym (deeds_on kept) ∙ ap deeds_in rest ∙ deeds_on c.args.parts.items in
-    let prints = sym (prints_on kept) ∙ ap prints_in rest ∙ prints_on c.args.parts.items in
-    let puts = c.in_ok-join_adds.ensures.same in
-    have_same m c.args.self.now h (sym puts) (sym tasks) (sym deeds) (sym prints)
+    let same = did_the_same c.join_adds.new.parts.items c.args.parts.items c.in_ok-join_adds.ensures.rest in
+    have_same m c.args.self.now c.requires.run (sym c.in_ok-join_adds.ensures.same) (sym same.tasks) (sym same.deeds) (sym same.prints)
 
 pub move_on-requires-clause-few : goal.move_on-requires-clause-few
 move_on-requires-clause-few g c =
     let m = reading_of g.P.Program.frame g.P.Program.may g.P.Program.meant g.P.Task.OnPath.path_of in
     let a = c.args.self.now in
-    let law = g.met.P.Program.keeps_paths a.program in
-    let h = c.requires.run in
-    let f = fit m a law c.requires.running h.start h.begun _ _ _ _ h.did in
-    let ds = deeds_in c.args.parts.items in
-    let left = few_left ds in
-    let all = f.all in
-    let count = ap (λ (x : StretchesValue g.row.P.Denot g.row.P-Task.Denot). x.count) c.self.view_is in
-    let few = let b = h.begun.few in let n = h.begun.count in
-    let x : a.count ≤ a.most = omega (arith, b, n) in x in
-    let most = ap (λ (x : StretchesValue g.row.P.Denot g.row.P-Task.Denot). x.most) c.self.view_is in
-    let bound = c.self.invariant.most in
-    let rest = c.in_ok-join_adds.ensures.rest in
-    let kept = c.join_adds.new.parts.items in
-    let tasks = sym (tasks_on kept) ∙ ap tasks_in rest ∙ tasks_on c.args.parts.items in
-    let deeds = sym (deeds_on kept) ∙ ap deeds_in rest ∙ deeds_on c.args.parts.items in
-    let prints = sym (prints_on kept) ∙ ap prints_in rest ∙ prints_on c.args.parts.items in
-    let puts = c.in_ok-join_adds.ensures.same in
-    let counts = c.count_left-left.ensures ∙ ap left_in (ap deeds_in c.deref.ensures.value) in
+    let h = are_counted m a (g.met.P.Program.keeps_paths a.program) c.requires.running c.requires.run in
+    let l = c.count_left-left.ensures ∙ ap left_in (ap deeds_in c.deref.ensures.value) in
     let made = counted_there c.count_spawned.result _ _ c.count_spawned.ensures c.in-Some.is in
-    let spawned = made.0 ∙ ap spawned_in (ap deeds_in c.deref-2.ensures.value) in
-    let fits = made.1 in
-    let n = ap (λ xs. length xs + spawned_in xs) deeds in
-    let k = ap left_in deeds in
-    omega (arith, n, k, all, count, most, left, counts, spawned, fits, few)
+    let s = made.0 ∙ ap spawned_in (ap deeds_in c.deref-2.ensures.value) in
+    let same = did_the_same c.join_adds.new.parts.items c.args.parts.items c.in_ok-join_adds.ensures.rest in
+    few_on c.self.view_is h same.deeds l s made.1
 
 pub move_on-requires-clause-counts : goal.move_on-requires-clause-counts
 move_on-requires-clause-counts g c =
     let m = reading_of g.P.Program.frame g.P.Program.may g.P.Program.meant g.P.Task.OnPath.path_of in
     let a = c.args.self.now in
-    let law = g.met.P.Program.keeps_paths a.program in
-    let h = c.requires.run in
-    let f = fit m a law c.requires.running h.start h.begun _ _ _ _ h.did in
-    let ds = deeds_in c.args.parts.items in
-    let left = few_left ds in
-    let all = f.all in
-    let count = ap (λ (x : StretchesValue g.row.P.Denot g.row.P-Task.Denot). x.count) c.self.view_is in
-    let few = let b = h.begun.few in let n = h.begun.count in
-    let x : a.count ≤ a.most = omega (arith, b, n) in x in
-    let most = ap (λ (x : StretchesValue g.row.P.Denot g.row.P-Task.Denot). x.most) c.self.view_is in
-    let bound = c.self.invariant.most in
-    let rest = c.in_ok-join_adds.ensures.rest in
-    let kept = c.join_adds.new.parts.items in
-    let tasks = sym (tasks_on kept) ∙ ap tasks_in rest ∙ tasks_on c.args.parts.items in
-    let deeds = sym (deeds_on kept) ∙ ap deeds_in rest ∙ deeds_on c.args.parts.items in
-    let prints = sym (prints_on kept) ∙ ap prints_in rest ∙ prints_on c.args.parts.items in
-    let puts = c.in_ok-join_adds.ensures.same in
-    let counts = c.count_left-left.ensures ∙ ap left_in (ap deeds_in c.deref.ensures.value) in
+    let h = are_counted m a (g.met.P.Program.keeps_paths a.program) c.requires.running c.requires.run in
+    let l = c.count_left-left.ensures ∙ ap left_in (ap deeds_in c.deref.ensures.value) in
     let made = counted_there c.count_spawned.result _ _ c.count_spawned.ensures c.in-Some.is in
-    let spawned = made.0 ∙ ap spawned_in (ap deeds_in c.deref-2.ensures.value) in
-    let fits = made.1 in
-    (λ i. record { phase = (c.self.view_is i).step; parties = (count ∙ sym all) i + spawned i; left = counts i; spawned = spawned i })
-    ∙ ap (record_in c.args.self.now.step) (sym deeds)
+    let s = made.0 ∙ ap spawned_in (ap deeds_in c.deref-2.ensures.value) in
+    let same = did_the_same c.join_adds.new.parts.items c.args.parts.items c.in_ok-join_adds.ensures.rest in
+    counts_on c.self.view_is h same.deeds l s
 
 pub move_on-requires-clause-moves : goal.move_on-requires-clause-moves
 move_on-requires-clause-moves g c = λ stay.
     let kept = c.join_adds.new.parts.items in
     let none = none_moved kept stay in
-    let deeds = sym (deeds_on kept) ∙ ap deeds_in c.in_ok-join_adds.ensures.rest ∙ deeds_on c.args.parts.items in
-    let left = c.count_left-left.ensures ∙ ap left_in (ap deeds_in c.deref.ensures.value ∙ sym deeds) ∙ none.0 in
+    let same = did_the_same kept c.args.parts.items c.in_ok-join_adds.ensures.rest in
+    let left = c.count_left-left.ensures ∙ ap left_in (ap deeds_in c.deref.ensures.value ∙ sym same.deeds) ∙ none.0 in
     let made = counted_there c.count_spawned.result _ _ c.count_spawned.ensures c.in-Some.is in
-    let spawned = made.0 ∙ ap spawned_in (ap deeds_in c.deref-2.ensures.value ∙ sym deeds) ∙ none.1 in
+    let spawned = made.0 ∙ ap spawned_in (ap deeds_in c.deref-2.ensures.value ∙ sym same.deeds) ∙ none.1 in
     elim c.else-left-eq0.branch [
       | else-left-eq0-via-then-left-eq0+else-spawned-eq0 w ↦ w.if-spawned-eq0.false spawned
       | else-left-eq0-via-else-left-eq0 w ↦ w.if-left-eq0.false left

@@ -6,7 +6,7 @@ use Rattle.tier_calls.specs.Holding.{Named}
 use Rattle.tier_calls.specs.Groups.{GroupHeld, glanced}
 use Rattle.tier_calls.specs.NewTokens.{TokensHeld}
 use Rattle.tier_calls.specs.JoinsAll.{sights_joined}
-use Rattle.tier_calls.proofs.JoiningTry.{joins_inside, joins_may, lost_count, lost_seated, lost_join, joined_seated, joined_all}
+use Rattle.tier_calls.proofs.JoiningTry.{may_join, joining, joins_may, lost_count, lost_seated, lost_join, joined_seated, joined_all}
 use Rattle.tier_calls.proofs.tiers.Tiers.exchange_joins_as.Goals as goal
 
 pub join_seat-requires : goal.join_seat-requires
@@ -22,78 +22,42 @@ join_seat-requires g c =
 
 pub go_together-requires-clause-may : goal.go_together-requires-clause-may
 go_together-requires-clause-may g c =
-    let may = joins_inside c.group.inside.seat.me c.new_tokens.inside.seat.me c.group.view_is c.new_tokens.view_is
-    (record {
-      own = c.requires.own;
-      blank = c.requires.blank;
-      may = c.requires.may;
-      eager = c.requires.eager;
-      place = c.requires.place;
-      some = c.requires.some;
-      enough = c.requires.enough;
-      capacity = c.requires.capacity;
-    }) in
+    let x = joining c.group.inside.seat.me c.new_tokens.inside.seat.me c.group.invariant.0 c.new_tokens.invariant c.group.view_is
+    c.new_tokens.view_is
+    (may_join c.requires.own c.requires.blank c.requires.may c.requires.eager c.requires.place c.requires.some c.requires.enough
+    c.requires.capacity) in
     let sights = c.requires.sights ∙ (λ i. sights_joined (sym c.group.view_is i) (sym c.new_tokens.view_is i) c.args.word) in
-    joins_may c.group.inside.seat.table_id c.new_tokens.inside.seat.table_id c.group.inside.seat.me c.new_tokens.inside.seat.me
-    c.group.inside.view c.group.inside.count c.new_tokens.inside.count c.args.self.now c.args.word c.group.invariant.0
-    c.new_tokens.invariant may c.join_seat.new.seat.me _ _ c.after_joins-next.ensures.legal c.join_seat.ensures.2 sights
+    joins_may x c.join_seat.new.seat.me _ _ c.after_joins-next.ensures.legal c.join_seat.ensures.2 sights
     c.after_joins-next.ensures.after
 
 pub keep_last-olds-requires-clause-count : goal.keep_last-olds-requires-clause-count
 keep_last-olds-requires-clause-count g c =
-    let may = joins_inside c.group.inside.seat.me c.new_tokens.inside.seat.me c.group.view_is c.new_tokens.view_is
-    (record {
-      own = c.requires.own;
-      blank = c.requires.blank;
-      may = c.requires.may;
-      eager = c.requires.eager;
-      place = c.requires.place;
-      some = c.requires.some;
-      enough = c.requires.enough;
-      capacity = c.requires.capacity;
-    }) in
-    lost_count c.group.inside.seat.table_id c.new_tokens.inside.seat.table_id c.group.inside.seat.me c.new_tokens.inside.seat.me
-    c.group.inside.view c.group.inside.count c.new_tokens.inside.count c.args.self.now c.args.word c.group.invariant.0
-    c.new_tokens.invariant may c.join_seat.new.seat.me c.go_together.new.seat.me c.in-Some.other c.join_seat.ensures.2
+    let x = joining c.group.inside.seat.me c.new_tokens.inside.seat.me c.group.invariant.0 c.new_tokens.invariant c.group.view_is
+    c.new_tokens.view_is
+    (may_join c.requires.own c.requires.blank c.requires.may c.requires.eager c.requires.place c.requires.some c.requires.enough
+    c.requires.capacity) in
+    lost_count x c.join_seat.new.seat.me c.go_together.new.seat.me c.in-Some.other c.join_seat.ensures.2
     c.in-Some.ensures.gone
 
 pub invariant_of-result : goal.invariant_of-result
 invariant_of-result g c = (
-  let may = joins_inside c.group.inside.seat.me c.new_tokens.inside.seat.me c.group.view_is c.new_tokens.view_is
-      (record {
-        own = c.requires.own;
-        blank = c.requires.blank;
-        may = c.requires.may;
-        eager = c.requires.eager;
-        place = c.requires.place;
-        some = c.requires.some;
-        enough = c.requires.enough;
-        capacity = c.requires.capacity;
-      }) in
-      lost_seated c.group.inside.seat.table_id c.new_tokens.inside.seat.table_id c.group.inside.seat.me c.new_tokens.inside.seat.me
-      c.group.inside.view c.group.inside.count c.new_tokens.inside.count c.args.self.now c.args.word c.group.invariant.0
-      c.new_tokens.invariant may c.join_seat.new.seat.me c.go_together.new.seat.me c.keep_last-olds.result.me c.in-Some.other _
+  let x = joining c.group.inside.seat.me c.new_tokens.inside.seat.me c.group.invariant.0 c.new_tokens.invariant c.group.view_is
+      c.new_tokens.view_is
+      (may_join c.requires.own c.requires.blank c.requires.may c.requires.eager c.requires.place c.requires.some c.requires.enough
+      c.requires.capacity) in
+      lost_seated x c.join_seat.new.seat.me c.go_together.new.seat.me c.keep_last-olds.result.me c.in-Some.other _
       c.join_seat.ensures.2 c.in-Some.ensures.gone c.keep_last-olds.ensures.given c.view_glanced-view.ensures,
   tt,
 )
 
 pub returns-in-Some : goal.returns-in-Some
 returns-in-Some g c =
-    let may = joins_inside c.group.inside.seat.me c.new_tokens.inside.seat.me c.group.view_is c.new_tokens.view_is
-    (record {
-      own = c.requires.own;
-      blank = c.requires.blank;
-      may = c.requires.may;
-      eager = c.requires.eager;
-      place = c.requires.place;
-      some = c.requires.some;
-      enough = c.requires.enough;
-      capacity = c.requires.capacity;
-    }) in
+    let x = joining c.group.inside.seat.me c.new_tokens.inside.seat.me c.group.invariant.0 c.new_tokens.invariant c.group.view_is
+    c.new_tokens.view_is
+    (may_join c.requires.own c.requires.blank c.requires.may c.requires.eager c.requires.place c.requires.some c.requires.enough
+    c.requires.capacity) in
     let r =
-    lost_join c.group.inside.seat.table_id c.new_tokens.inside.seat.table_id c.group.inside.seat.me c.new_tokens.inside.seat.me
-    c.group.inside.view c.group.inside.count c.new_tokens.inside.count c.args.self.now c.args.word c.group.invariant.0
-    c.new_tokens.invariant may c.join_seat.new.seat.me c.go_together.new.seat.me c.keep_last-olds.result.me c.in-Some.other _
+    lost_join x c.join_seat.new.seat.me c.go_together.new.seat.me c.keep_last-olds.result.me c.in-Some.other _
     c.keep_last-olds.result.table_id c.join_seat.ensures.2 c.in-Some.ensures.gone c.keep_last-olds.ensures.given c.view_glanced-view.ensures
     (c.keep_last-olds.ensures.table
     ∙ (c.go_together.ensures.table
@@ -116,42 +80,24 @@ overflow_add-result g c =
 
 pub invariant_of-result-2 : goal.invariant_of-result-2
 invariant_of-result-2 g c = (
-  let may = joins_inside c.group.inside.seat.me c.new_tokens.inside.seat.me c.group.view_is c.new_tokens.view_is
-      (record {
-        own = c.requires.own;
-        blank = c.requires.blank;
-        may = c.requires.may;
-        eager = c.requires.eager;
-        place = c.requires.place;
-        some = c.requires.some;
-        enough = c.requires.enough;
-        capacity = c.requires.capacity;
-      }) in
+  let x = joining c.group.inside.seat.me c.new_tokens.inside.seat.me c.group.invariant.0 c.new_tokens.invariant c.group.view_is
+      c.new_tokens.view_is
+      (may_join c.requires.own c.requires.blank c.requires.may c.requires.eager c.requires.place c.requires.some c.requires.enough
+      c.requires.capacity) in
       let sights = c.requires.sights ∙ (λ i. sights_joined (sym c.group.view_is i) (sym c.new_tokens.view_is i) c.args.word) in
-      joined_seated c.group.inside.seat.table_id c.new_tokens.inside.seat.table_id c.group.inside.seat.me c.new_tokens.inside.seat.me
-      c.group.inside.view c.group.inside.count c.new_tokens.inside.count c.args.self.now c.args.word c.group.invariant.0
-      c.new_tokens.invariant may c.join_seat.new.seat.me c.go_together.new.seat.me _ _ sights c.in_default.ensures.gone,
+      joined_seated x c.join_seat.new.seat.me c.go_together.new.seat.me _ _ sights c.in_default.ensures.gone,
   tt,
 )
 
 pub returns : goal.returns
 returns g c =
-    let may = joins_inside c.group.inside.seat.me c.new_tokens.inside.seat.me c.group.view_is c.new_tokens.view_is
-    (record {
-      own = c.requires.own;
-      blank = c.requires.blank;
-      may = c.requires.may;
-      eager = c.requires.eager;
-      place = c.requires.place;
-      some = c.requires.some;
-      enough = c.requires.enough;
-      capacity = c.requires.capacity;
-    }) in
+    let x = joining c.group.inside.seat.me c.new_tokens.inside.seat.me c.group.invariant.0 c.new_tokens.invariant c.group.view_is
+    c.new_tokens.view_is
+    (may_join c.requires.own c.requires.blank c.requires.may c.requires.eager c.requires.place c.requires.some c.requires.enough
+    c.requires.capacity) in
     let sights = c.requires.sights ∙ (λ i. sights_joined (sym c.group.view_is i) (sym c.new_tokens.view_is i) c.args.word) in
     let r =
-    joined_all c.group.inside.seat.table_id c.new_tokens.inside.seat.table_id c.group.inside.seat.me c.new_tokens.inside.seat.me
-    c.group.inside.view c.group.inside.count c.new_tokens.inside.count c.args.self.now c.args.word c.group.invariant.0
-    c.new_tokens.invariant may c.join_seat.new.seat.me c.go_together.new.seat.me _ _ c.go_together.new.seat.table_id sights
+    joined_all x c.join_seat.new.seat.me c.go_together.new.seat.me _ _ c.go_together.new.seat.table_id sights
     c.in_default.ensures.gone
     (c.go_together.ensures.table ∙ (c.join_seat.ensures.0 ∙ (ap (λ (z : TokensHeld). z.table) c.new_tokens.view_is ∙ c.requires.own.1))) in (
       r.0 ∙ ap (λ (z : GroupHeld). z.tree) c.group.view_is,

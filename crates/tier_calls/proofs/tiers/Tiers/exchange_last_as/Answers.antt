@@ -9,9 +9,9 @@ use Rattle.tier_calls.specs.Groups.{GroupHeld, glanced}
 use Rattle.tier_calls.specs.NewTokens.{TokensHeld}
 use Rattle.tier_calls.specs.Exchanges.{sights_with}
 use Rattle.tier_calls.specs.Kept.{as_seat, ahead}
-use Rattle.tier_calls.proofs.Keeping.{begun_seated, begun_is, begun_from, begun_long}
-use Rattle.tier_calls.proofs.KeepingWith.{begun_exchange, ahead_joined, joined_from}
-use Rattle.tier_calls.proofs.ExchangeTry.{inside, all_own, pass_may, lost_long, lost_crowd, lost_now, won_long, won_last, last_passed}
+use Rattle.tier_calls.proofs.Keeping.{begun_is, begun_from, begun_long}
+use Rattle.tier_calls.proofs.KeepingWith.{begun_with, ahead_joined, joined_from}
+use Rattle.tier_calls.proofs.ExchangeTry.{exchange, all_own, pass_may, lost_long, lost_crowd, lost_now, won_long, won_last, last_passed}
 use Rattle.tier_calls.proofs.tiers.Tiers.exchange_last_as.Goals as goal
 
 pub join_seat-requires : goal.join_seat-requires
@@ -27,61 +27,51 @@ join_seat-requires g c =
 
 pub go_from-requires-clause-from : goal.go_from-requires-clause-from
 go_from-requires-clause-from g c =
-    let may = inside c.group.inside.seat.me c.new_tokens.inside.seat.me c.group.view_is c.new_tokens.view_is c.requires.may in
+    let x = exchange c.group.inside.seat.me c.new_tokens.inside.seat.me c.group.invariant.0 c.new_tokens.invariant c.group.view_is
+    c.new_tokens.view_is c.requires.may in
     let from = begun_from {me = c.group.inside.seat.me} c.group.invariant.0 c.group.view_is c.requires.begins c.requires.may.own.0 in
-    let own =
-    all_own c.group.inside.seat.table_id c.new_tokens.inside.seat.table_id c.group.inside.seat.me c.new_tokens.inside.seat.me
-    c.group.inside.view c.group.inside.count c.new_tokens.inside.count c.args.leaving c.args.self.now c.args.word c.group.invariant.0
-    c.new_tokens.invariant may c.join_seat.new.seat.me c.join_seat.ensures.2 in
+    let own = all_own x c.join_seat.new.seat.me c.join_seat.ensures.2 in
     joined_from c.group.inside.seat.me c.new_tokens.inside.seat.me c.join_seat.new.seat.me g.B.Begun.before c.join_seat.ensures.2
     (begun_long {me = c.group.inside.seat.me} c.group.invariant.0 c.group.view_is c.requires.begins ∙ sym c.group.invariant.0.long)
     c.new_tokens.invariant.bare own from
 
 pub go_from-requires-clause-may : goal.go_from-requires-clause-may
 go_from-requires-clause-may g c =
-    let seated' = begun_seated {me = c.group.inside.seat.me} c.group.invariant.0 c.group.view_is c.requires.begins in
-    let is' = begun_is {me = c.group.inside.seat.me} c.group.invariant.0 c.group.view_is c.requires.begins in
     let at' =
     ahead_joined c.group.inside.seat.me c.new_tokens.inside.seat.me c.join_seat.new.seat.me g.B.Begun.before c.join_seat.ensures.2
     (begun_long {me = c.group.inside.seat.me} c.group.invariant.0 c.group.view_is c.requires.begins ∙ sym c.group.invariant.0.long)
     c.new_tokens.invariant.bare in
-    let may =
-    inside (as_seat g.B.Begun.before) c.new_tokens.inside.seat.me is' c.new_tokens.view_is
-    (begun_exchange c.requires.begins c.requires.may) in
+    let is' = begun_is {me = c.group.inside.seat.me} c.group.invariant.0 c.group.view_is c.requires.begins in
+    let x = begun_with c.group.inside.seat.me c.new_tokens.inside.seat.me g.B.Begun.before c.group.invariant.0 c.new_tokens.invariant
+    c.group.view_is c.new_tokens.view_is c.requires.begins c.requires.may in
     let sights = c.requires.sights ∙ (λ i. sights_with (sym is' i) (sym c.new_tokens.view_is i) c.args.leaving c.args.word) in
-    pass_may c.group.inside.seat.table_id c.new_tokens.inside.seat.table_id (as_seat g.B.Begun.before) c.new_tokens.inside.seat.me
-    c.group.inside.view c.group.inside.count c.new_tokens.inside.count c.args.leaving c.args.self.now c.args.word seated'
-    c.new_tokens.invariant may (as_seat (ahead c.join_seat.new.seat.me.0 g.B.Begun.before)) _ _
+    pass_may x (as_seat (ahead c.join_seat.new.seat.me.0 g.B.Begun.before)) _ _
     (subst IsLegal c.word.view_is c.word.invariant) at' sights
     (ap (λ (w : Fields). record w { parties = w.parties + c.new_tokens.inside.count - c.args.leaving; unarrived = w.unarrived - c.group.inside.count }) c.word.view_is)
 
 pub keep_last-olds-requires-clause-count : goal.keep_last-olds-requires-clause-count
 keep_last-olds-requires-clause-count g c =
-    let may = inside c.group.inside.seat.me c.new_tokens.inside.seat.me c.group.view_is c.new_tokens.view_is c.requires.may in
-    let a =
-    lost_long c.group.inside.seat.table_id c.new_tokens.inside.seat.table_id c.group.inside.seat.me c.new_tokens.inside.seat.me
-    c.group.inside.view c.group.inside.count c.new_tokens.inside.count c.args.leaving c.args.self.now c.args.word c.group.invariant.0
-    c.new_tokens.invariant may c.join_seat.new.seat.me c.go_from.new.seat.me c.in-Some.other c.join_seat.ensures.2 c.in-Some.ensures.gone in
+    let x = exchange c.group.inside.seat.me c.new_tokens.inside.seat.me c.group.invariant.0 c.new_tokens.invariant c.group.view_is
+    c.new_tokens.view_is c.requires.may in
+    let a = lost_long x c.join_seat.new.seat.me c.go_from.new.seat.me c.in-Some.other c.join_seat.ensures.2 c.in-Some.ensures.gone in
     let b = c.group.invariant.0.some in
     omega arith
 
 pub invariant_of-result : goal.invariant_of-result
 invariant_of-result g c = (
-  let may = inside c.group.inside.seat.me c.new_tokens.inside.seat.me c.group.view_is c.new_tokens.view_is c.requires.may in
-      lost_crowd c.group.inside.seat.table_id c.new_tokens.inside.seat.table_id c.group.inside.seat.me c.new_tokens.inside.seat.me
-      c.group.inside.view c.group.inside.count c.new_tokens.inside.count c.args.leaving c.args.self.now c.args.word c.group.invariant.0
-      c.new_tokens.invariant may c.join_seat.new.seat.me c.go_from.new.seat.me c.keep_last-olds.result.me c.in-Some.other _
+  let x = exchange c.group.inside.seat.me c.new_tokens.inside.seat.me c.group.invariant.0 c.new_tokens.invariant c.group.view_is
+      c.new_tokens.view_is c.requires.may in
+      lost_crowd x c.join_seat.new.seat.me c.go_from.new.seat.me c.keep_last-olds.result.me c.in-Some.other _
       c.join_seat.ensures.2 c.in-Some.ensures.gone c.keep_last-olds.ensures.given c.view_glanced-view.ensures,
   tt,
 )
 
 pub returns-in-Some : goal.returns-in-Some
 returns-in-Some g c =
-    let may = inside c.group.inside.seat.me c.new_tokens.inside.seat.me c.group.view_is c.new_tokens.view_is c.requires.may in
+    let x = exchange c.group.inside.seat.me c.new_tokens.inside.seat.me c.group.invariant.0 c.new_tokens.invariant c.group.view_is
+    c.new_tokens.view_is c.requires.may in
     let r =
-    lost_now c.group.inside.seat.table_id c.new_tokens.inside.seat.table_id c.group.inside.seat.me c.new_tokens.inside.seat.me
-    c.group.inside.view c.group.inside.count c.new_tokens.inside.count c.args.leaving c.args.self.now c.args.word c.group.invariant.0
-    c.new_tokens.invariant may c.join_seat.new.seat.me c.go_from.new.seat.me c.keep_last-olds.result.me c.in-Some.other _
+    lost_now x c.join_seat.new.seat.me c.go_from.new.seat.me c.keep_last-olds.result.me c.in-Some.other _
     c.keep_last-olds.result.table_id c.join_seat.ensures.2 c.in-Some.ensures.gone c.keep_last-olds.ensures.given c.view_glanced-view.ensures
     (c.keep_last-olds.ensures.table
     ∙ (c.go_from.ensures.table
@@ -94,36 +84,20 @@ returns-in-Some g c =
 
 pub keep_first-requires-clause-count : goal.keep_first-requires-clause-count
 keep_first-requires-clause-count g c =
-    let seated' = begun_seated {me = c.group.inside.seat.me} c.group.invariant.0 c.group.view_is c.requires.begins in
     let is' = begun_is {me = c.group.inside.seat.me} c.group.invariant.0 c.group.view_is c.requires.begins in
-    let at' =
-    ahead_joined c.group.inside.seat.me c.new_tokens.inside.seat.me c.join_seat.new.seat.me g.B.Begun.before c.join_seat.ensures.2
-    (begun_long {me = c.group.inside.seat.me} c.group.invariant.0 c.group.view_is c.requires.begins ∙ sym c.group.invariant.0.long)
-    c.new_tokens.invariant.bare in
-    let may =
-    inside (as_seat g.B.Begun.before) c.new_tokens.inside.seat.me is' c.new_tokens.view_is
-    (begun_exchange c.requires.begins c.requires.may) in
+    let x = begun_with c.group.inside.seat.me c.new_tokens.inside.seat.me g.B.Begun.before c.group.invariant.0 c.new_tokens.invariant
+    c.group.view_is c.new_tokens.view_is c.requires.begins c.requires.may in
     let sights = c.requires.sights ∙ (λ i. sights_with (sym is' i) (sym c.new_tokens.view_is i) c.args.leaving c.args.word) in
-    won_long c.group.inside.seat.table_id c.new_tokens.inside.seat.table_id (as_seat g.B.Begun.before) c.new_tokens.inside.seat.me
-    c.group.inside.view c.group.inside.count c.new_tokens.inside.count c.args.leaving c.args.self.now c.args.word seated'
-    c.new_tokens.invariant may (as_seat (ahead c.join_seat.new.seat.me.0 g.B.Begun.before)) c.go_from.new.seat.me _ _ sights
+    won_long x (as_seat (ahead c.join_seat.new.seat.me.0 g.B.Begun.before)) c.go_from.new.seat.me _ _ sights
     c.in_default.ensures.gone
 
 pub settle_last-errand-requires-clause-come : goal.settle_last-errand-requires-clause-come
 settle_last-errand-requires-clause-come g c =
-    let seated' = begun_seated {me = c.group.inside.seat.me} c.group.invariant.0 c.group.view_is c.requires.begins in
     let is' = begun_is {me = c.group.inside.seat.me} c.group.invariant.0 c.group.view_is c.requires.begins in
-    let at' =
-    ahead_joined c.group.inside.seat.me c.new_tokens.inside.seat.me c.join_seat.new.seat.me g.B.Begun.before c.join_seat.ensures.2
-    (begun_long {me = c.group.inside.seat.me} c.group.invariant.0 c.group.view_is c.requires.begins ∙ sym c.group.invariant.0.long)
-    c.new_tokens.invariant.bare in
-    let may =
-    inside (as_seat g.B.Begun.before) c.new_tokens.inside.seat.me is' c.new_tokens.view_is
-    (begun_exchange c.requires.begins c.requires.may) in
+    let x = begun_with c.group.inside.seat.me c.new_tokens.inside.seat.me g.B.Begun.before c.group.invariant.0 c.new_tokens.invariant
+    c.group.view_is c.new_tokens.view_is c.requires.begins c.requires.may in
     let sights = c.requires.sights ∙ (λ i. sights_with (sym is' i) (sym c.new_tokens.view_is i) c.args.leaving c.args.word) in
-    won_last c.group.inside.seat.table_id c.new_tokens.inside.seat.table_id (as_seat g.B.Begun.before) c.new_tokens.inside.seat.me
-    c.group.inside.view c.group.inside.count c.new_tokens.inside.count c.args.leaving c.args.self.now c.args.word seated'
-    c.new_tokens.invariant may (as_seat (ahead c.join_seat.new.seat.me.0 g.B.Begun.before)) c.go_from.new.seat.me
+    won_last x (as_seat (ahead c.join_seat.new.seat.me.0 g.B.Begun.before)) c.go_from.new.seat.me
     c.keep_first.new.seat.me _ _ _ sights c.in_default.ensures.gone c.keep_first.ensures.kept
     (c.requires.begins.long ∙ c.requires.last)
     (ap (λ (w : Fields). record w { parties = w.parties + c.new_tokens.inside.count - c.args.leaving; unarrived = 1 }) c.word.view_is)
@@ -131,21 +105,13 @@ settle_last-errand-requires-clause-come g c =
 
 pub returns : goal.returns
 returns g c =
-    let seated' = begun_seated {me = c.group.inside.seat.me} c.group.invariant.0 c.group.view_is c.requires.begins in
     let is' = begun_is {me = c.group.inside.seat.me} c.group.invariant.0 c.group.view_is c.requires.begins in
-    let at' =
-    ahead_joined c.group.inside.seat.me c.new_tokens.inside.seat.me c.join_seat.new.seat.me g.B.Begun.before c.join_seat.ensures.2
-    (begun_long {me = c.group.inside.seat.me} c.group.invariant.0 c.group.view_is c.requires.begins ∙ sym c.group.invariant.0.long)
-    c.new_tokens.invariant.bare in
-    let may =
-    inside (as_seat g.B.Begun.before) c.new_tokens.inside.seat.me is' c.new_tokens.view_is
-    (begun_exchange c.requires.begins c.requires.may) in
+    let x = begun_with c.group.inside.seat.me c.new_tokens.inside.seat.me g.B.Begun.before c.group.invariant.0 c.new_tokens.invariant
+    c.group.view_is c.new_tokens.view_is c.requires.begins c.requires.may in
     let sights = c.requires.sights ∙ (λ i. sights_with (sym is' i) (sym c.new_tokens.view_is i) c.args.leaving c.args.word) in
     let e = c.settle_last-errand.ensures in
     let r =
-    last_passed c.group.inside.seat.table_id c.new_tokens.inside.seat.table_id (as_seat g.B.Begun.before) c.new_tokens.inside.seat.me
-    c.group.inside.view c.group.inside.count c.new_tokens.inside.count c.args.leaving c.args.self.now c.args.word seated'
-    c.new_tokens.invariant may (as_seat (ahead c.join_seat.new.seat.me.0 g.B.Begun.before)) c.go_from.new.seat.me c.keep_first.new.seat.me _
+    last_passed x (as_seat (ahead c.join_seat.new.seat.me.0 g.B.Begun.before)) c.go_from.new.seat.me c.keep_first.new.seat.me _
     _ (sight_held c.settle_last-errand.result.0.token) (tokens_in c.settle_last-errand.result.1) sights c.in_default.ensures.gone
     c.keep_first.ensures.kept e.all in (
       e.tree ∙ sym c.requires.may.own.0,
