@@ -106,6 +106,13 @@ impl<R: Read + Drop> Read for Kept<'_, R> {
     }
 }
 
+// What a text is read from: a file, or standard input.
+#[derive(Clone, Copy)]
+struct Origin<'a> {
+    file: Option<&'a str>,
+    is_open: bool,
+}
+
 // Opens the file that is named, or takes standard input.
 fn opened<T: Files, S: Read + Drop>(rt: &T, file: Option<&str>, standard: S) -> Source<T::File, S> {
     match file {
@@ -161,9 +168,9 @@ fn tell_end_reason<T: AllocGlobal + Eprint>(rt: &T, text: &[u8], end: &JobStatus
 }
 
 // Says on standard error which file can't be opened or read, or that standard output can't be written.
-fn tell_device<T: Eprint>(rt: &T, file: Option<&str>, is_open: bool, has_failed: bool) {
-    let (device, verb) = match file {
-        Some(file) if !is_open => (file, "opened"),
+fn tell_device<T: Eprint>(rt: &T, origin: Origin<'_>, has_failed: bool) {
+    let (device, verb) = match origin.file {
+        Some(file) if !origin.is_open => (file, "opened"),
         Some(file) if has_failed => (file, "read"),
         None if has_failed => ("standard input", "read"),
         _ => ("standard output", "written"),
@@ -176,16 +183,15 @@ fn tell_device<T: Eprint>(rt: &T, file: Option<&str>, is_open: bool, has_failed:
 fn tell_why<T: AllocGlobal + Eprint>(
     rt: &T,
     words: &[&str],
-    file: Option<&str>,
-    is_open: bool,
+    origin: Origin<'_>,
     text: &ReadText,
     end: Option<&JobStatus>,
     status: u8,
 ) {
     match status {
         COMMAND_LINE_REFUSED => tell_reason(rt, words),
-        DEVICE_FAILED => tell_device(rt, file, is_open, text.has_failed),
-        TEXT_REFUSED if text.is_whole => tell_text_reason(rt, words, file, &text.bytes),
+        DEVICE_FAILED => tell_device(rt, origin, text.has_failed),
+        TEXT_REFUSED if text.is_whole => tell_text_reason(rt, words, origin.file, &text.bytes),
         TASK_FAULT | LIMIT_REACHED if text.is_whole => {
             if let Some(end) = end {
                 tell_end_reason(rt, &text.bytes, end);
@@ -256,7 +262,10 @@ pub fn run_program<
     let asks = reasons || asked.len() < words.len();
     let mut text = ReadText::new(rt.alloc(), asks);
     let source = opened(rt, file, standard);
-    let is_open = !matches!(source, Source::Unopened);
+    let origin = Origin {
+        file,
+        is_open: !matches!(source, Source::Unopened),
+    };
     let mut reader = Reader::new(Kept {
         inner: source,
         text: &mut text,
@@ -278,7 +287,7 @@ pub fn run_program<
     let end = seen.take_end(rt);
     stop(rt, ticker);
     if asks {
-        tell_why(rt, &asked, file, is_open, &text, end.as_ref(), status);
+        tell_why(rt, &asked, origin, &text, end.as_ref(), status);
     }
     status
 }

@@ -145,25 +145,6 @@ fn held_in(arrays: &Arrays, put: Put) -> i64
     arrays.cell(put.array, put.index).unwrap_or(0)
 }
 
-// Appends the sum of the put at a place of the log, which is the first to overflow.
-fn push_put(
-    alloc: Global,
-    out: &mut Vec<u8>,
-    at: Superstep<'_>,
-    path: &[u16],
-    puts: &[Put],
-    place: usize,
-    put: Put,
-) -> Result<(), AllocError>
-    requires within { place ≤ length puts.now }
-    requires first { over_in (again_seen at).arrays [] 0 puts.now ≡ Some place }
-    ensures { OnOk result (out.new.items ≡ out.old.items ++ sum_at (again_seen at.entry) path.now puts.now place (Some put)) }
-{
-    let arrays = land_before(alloc, at, puts, place)?;
-    let held = held_in(&arrays, put);
-    push_sum(out, at, path, put, held)
-}
-
 // Appends the sum of the put at a place of the log, if there is one. It is the first to overflow.
 fn push_at(
     alloc: Global,
@@ -179,7 +160,10 @@ fn push_at(
     if place >= puts.len() {
         return Ok(());
     }
-    push_put(alloc, out, at, path, puts, place, puts[place])
+    let put = puts[place];
+    let arrays = land_before(alloc, at, puts, place)?;
+    let held = held_in(&arrays, put);
+    push_sum(out, at, path, put, held)
 }
 
 // Returns the place of the first of these puts that overflows, if there is one.

@@ -228,23 +228,6 @@ fn push_task_line(out: &mut Vec<u8>, at: Superstep<'_>, task: &Task) -> Result<(
     push_text(out, b"\n")
 }
 
-// Appends why this task faulted.
-fn push_fault(
-    alloc: Global,
-    out: &mut Vec<u8>,
-    at: Superstep<'_>,
-    task: &Task,
-    fault: Fault,
-    place: usize,
-    doing: &Doing,
-) -> Result<(), AllocError>
-    ensures { OnOk result (out.new.items ≡ out.old.items ++ fault_by (again_seen at.entry) task.now (FaultAt fault place, doing.now)) }
-{
-    push_name(out, fault)?;
-    push_statement(alloc, out, at, task, place, &doing.locals)?;
-    push_task_line(out, at, task)
-}
-
 // Appends why this task faulted, if it did.
 fn push_end(
     alloc: Global,
@@ -255,11 +238,12 @@ fn push_end(
     ensures { OnOk result (out.new.items ≡ out.old.items ++ fault_by (again_seen at.entry) task.now (walk_of (again_seen at.entry) task.now)) }
 {
     let (end, doing) = walk_task(alloc, at, task)?;
-    match end {
-        End::Fault(fault, place) => push_fault(alloc, out, at, task, fault, place, &doing),
-        End::Synced => Ok(()),
-        End::Stopped => Ok(()),
-    }
+    let End::Fault(fault, place) = end else {
+        return Ok(());
+    };
+    push_name(out, fault)?;
+    push_statement(alloc, out, at, task, place, &doing.locals)?;
+    push_task_line(out, at, task)
 }
 
 /// Appends why the task of this path faulted in a superstep.

@@ -7,7 +7,6 @@ ghost use Rattle.job_view.specs.Panels.{
   board_count as drawn_count,
   board_number,
   boards as drawn_boards,
-  boards_from,
   distance,
   drawn,
   height as drawn_height,
@@ -18,13 +17,12 @@ ghost use Rattle.job_view.specs.Panels.{
   row_number,
   row_numbers,
   several,
-  small_board,
   small_boards,
   small_lines as drawn_lines,
   spacing,
 };
 
-use crate::cells::{Extent, push_caption, push_escaped, push_strip, range_of};
+use crate::cells::{push_caption, push_escaped, push_strip, range_of};
 use crate::grids::{Frame, beside, board_frame, placed, push_grid, small_frame, time_frame};
 use crate::pieces::{push_field, push_text};
 use std::alloc::{AllocError, Global};
@@ -128,23 +126,6 @@ fn push_board_number(out: &mut Vec<u8>, frame: Frame, n: u128) -> Result<(), All
     push_text(out, b"</text>\n")
 }
 
-// Appends a small board.
-fn push_small_board(
-    alloc: Global,
-    out: &mut Vec<u8>,
-    frame: Frame,
-    extent: Extent,
-    across: usize,
-    n: u128,
-    values: &[i64],
-) -> Result<(), AllocError>
-    requires { 0 < across }
-    ensures { OnOk result (out.new.items ≡ out.old.items ++ small_board frame extent across n values.now) }
-{
-    push_board_number(out, frame, n)?;
-    push_grid(alloc, out, frame, extent, across, values)
-}
-
 // Splits values into the first ones and the others.
 fn cut(values: &[i64], count: usize) -> (&[i64], &[i64])
     ensures front { result.0.now ≡ take count values.now }
@@ -164,42 +145,6 @@ fn board_count(cells: usize, values: &[i64]) -> usize
     values.len().div_ceil(cells.max(1))
 }
 
-// Appends boards of `cells` cells each, `count` of them.
-fn push_boards_from(
-    alloc: Global,
-    out: &mut Vec<u8>,
-    extent: Extent,
-    across: usize,
-    every: u32,
-    count: usize,
-    cells: usize,
-    values: &[i64],
-) -> Result<(), AllocError>
-    requires { 0 < across }
-    ensures { OnOk result (out.new.items ≡ out.old.items ++ boards_from extent across every count cells count values.now) }
-{
-    let frame = small_frame(across, cells);
-    let mut rest = values;
-    let mut more = count;
-    while more > 0 {
-        let (board, after) = cut(rest, cells);
-        let number = count.saturating_sub(more);
-        let step = u128::from(every) * u128::from(number as u64);
-        push_small_board(
-            alloc,
-            out,
-            placed(frame, number),
-            extent,
-            across,
-            step,
-            board,
-        )?;
-        rest = after;
-        more -= 1;
-    }
-    Ok(())
-}
-
 // Appends a small board for each of several supersteps.
 fn push_small_boards(
     alloc: Global,
@@ -214,7 +159,20 @@ fn push_small_boards(
 {
     let extent = range_of(values);
     let count = board_count(cells, values);
-    push_boards_from(alloc, out, extent, across, every, count, cells, values)
+    let frame = small_frame(across, cells);
+    let mut rest = values;
+    let mut more = count;
+    while more > 0 {
+        let (board, after) = cut(rest, cells);
+        let number = count.saturating_sub(more);
+        let step = u128::from(every) * u128::from(number as u64);
+        let place = placed(frame, number);
+        push_board_number(out, place, step)?;
+        push_grid(alloc, out, place, extent, across, board)?;
+        rest = after;
+        more -= 1;
+    }
+    Ok(())
 }
 
 // Returns how many cells a row has, at least one.
@@ -240,14 +198,18 @@ fn push_board(
     alloc: Global,
     out: &mut Vec<u8>,
     top: u128,
-    name: &str,
-    cells: usize,
-    values: &[i64],
+    panel: Panel<'_>,
     across: usize,
 ) -> Result<(), AllocError>
     requires { 0 < across }
-    ensures { OnOk result (out.new.items ≡ out.old.items ++ drawn_board top name.now cells values.now across) }
+    ensures { OnOk result (out.new.items ≡ out.old.items ++ drawn_board top panel.entry.name.now panel.entry.cells panel.entry.values.now across) }
 {
+    let Panel {
+        name,
+        cells,
+        values,
+        ..
+    } = panel;
     let extent = range_of(values);
     push_caption(out, top, name, cells, extent)?;
     push_field(out, b", in rows of ", across)?;
@@ -262,13 +224,17 @@ fn push_over_time(
     alloc: Global,
     out: &mut Vec<u8>,
     top: u128,
-    name: &str,
-    cells: usize,
-    values: &[i64],
+    panel: Panel<'_>,
     every: u32,
 ) -> Result<(), AllocError>
-    ensures { OnOk result (out.new.items ≡ out.old.items ++ drawn_over_time top name.now cells values.now every) }
+    ensures { OnOk result (out.new.items ≡ out.old.items ++ drawn_over_time top panel.entry.name.now panel.entry.cells panel.entry.values.now every) }
 {
+    let Panel {
+        name,
+        cells,
+        values,
+        ..
+    } = panel;
     let extent = range_of(values);
     let across = across_of(cells);
     let frame = time_frame(across, values.len());
@@ -285,15 +251,19 @@ fn push_boards(
     alloc: Global,
     out: &mut Vec<u8>,
     top: u128,
-    name: &str,
-    cells: usize,
-    values: &[i64],
+    panel: Panel<'_>,
     across: usize,
     every: u32,
 ) -> Result<(), AllocError>
     requires { 0 < across }
-    ensures { OnOk result (out.new.items ≡ out.old.items ++ drawn_boards top name.now cells values.now across every) }
+    ensures { OnOk result (out.new.items ≡ out.old.items ++ drawn_boards top panel.entry.name.now panel.entry.cells panel.entry.values.now across every) }
 {
+    let Panel {
+        name,
+        cells,
+        values,
+        ..
+    } = panel;
     push_caption(out, top, name, cells, range_of(values))?;
     push_spacing(out, b"board", every)?;
     push_text(out, b"</text>\n")?;
@@ -310,24 +280,18 @@ fn push_panel(
 ) -> Result<(), AllocError>
     ensures { OnOk result (out.new.items ≡ out.old.items ++ drawn top panel.entry.name.now panel.entry.cells panel.entry.values.now panel.entry.form) }
 {
-    let Panel {
-        name,
-        cells,
-        values,
-        form,
-    } = panel;
-    match form {
-        Form::Strip => push_strip(out, top, name, values),
+    match panel.form {
+        Form::Strip => push_strip(out, top, panel.name, panel.values),
         Form::Board { across } => {
             let across = across_of(across as usize);
-            push_board(alloc, out, top, name, cells, values, across)
+            push_board(alloc, out, top, panel, across)
         }
-        Form::OverTime { every } => push_over_time(alloc, out, top, name, cells, values, every),
+        Form::OverTime { every } => push_over_time(alloc, out, top, panel, every),
         Form::Boards { across, every } => {
             let across = across_of(across as usize);
-            push_boards(alloc, out, top, name, cells, values, across, every)
+            push_boards(alloc, out, top, panel, across, every)
         }
-        Form::Missing => push_missing(out, top, name),
+        Form::Missing => push_missing(out, top, panel.name),
     }
 }
 

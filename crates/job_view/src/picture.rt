@@ -248,18 +248,16 @@ fn shown_columns(alloc: Global, report: &Report) -> Result<(Vec<Column>, u32), A
 fn push_file(
     alloc: Global,
     out: &mut Vec<u8>,
+    report: &Report,
     name: Option<&str>,
-    steps: usize,
-    most: u32,
-    status: &JobStatus,
-    columns: &[Column],
     panels: &[Panel<'_>],
 ) -> Result<(), AllocError>
-    ensures { OnOk result (out.new.items ≡ out.old.items
-        ++ file (option_map (λ s. s.now) name.entry) steps most (status_seen status.now) columns.now panels.now) }
+    ensures { OnOk result (out.new.items ≡ out.old.items ++ drawn_with (option_map (λ s. s.now) name.entry) panels.now report.now) }
 {
+    let (columns, most) = shown_columns(alloc, report)?;
+    let steps = report.records.len();
     push_head(out, whole_height(panels)?)?;
-    push_supersteps(out, name, steps, most, status, columns)?;
+    push_supersteps(out, name, steps, most, &report.status, &columns)?;
     push_panels(alloc, out, 310, panels)?;
     push_text(out, b"</svg>\n")
 }
@@ -313,18 +311,7 @@ pub fn picture_with(
     ensures panels { IfOk result (λ text. text.items ≡ drawn_with (option_map (λ s. s.now) name.entry) panels.now report.now) }
     ensures views { IfOk result (λ text. text.items ≡ viewed (option_map (λ s. s.now) name.entry) (views_of panels.now) report.now) }
 {
-    let (columns, most) = shown_columns(alloc, report)?;
     let mut out = Vec::new(alloc);
-    let steps = report.records.len();
-    push_file(
-        alloc,
-        &mut out,
-        name,
-        steps,
-        most,
-        &report.status,
-        &columns,
-        panels,
-    )?;
+    push_file(alloc, &mut out, report, name, panels)?;
     Ok(out)
 }

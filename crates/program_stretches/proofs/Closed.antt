@@ -338,19 +338,7 @@ module _ {Q S T : Type 0} (m : Q → Reading S T) where
         let n = h.after.count ∙ ap length open_now.lives ∙ l in
         have_did (m v.program) v.arrays (live_of open_now.start) v.step v.count 0 v.parts open_now.own c n
 
-    -- none faulted
-    pub run_now : fault_in v.parts ≡ None
-        → HaveRun m (record v { parts = [] }) (puts_in v.parts) (tasks_in v.parts) (deeds_in v.parts) (prints_in v.parts)
-    run_now e = record {
-      start = open_now.start;
-      older = open_now.older;
-      is = open_now.is;
-      count = open_now.count;
-      begun = after_with v [] (map (m v.program).meant (live_of open_now.start)) begun_now;
-      did = did_now.quiet e;
-    }
-
-    -- one did
+    -- a task faulted
     pub fault_now : ((t : S) → (m v.program).frame.path ((m v.program).meant t) ≡ (m v.program).path t) → (x : ℕ × List ℕ)
         → fault_in v.parts ≡ Some x
         → IsStepTo (m v.program).frame (m v.program).may v.most (state_with v (map (m v.program).meant (live_of open_now.start)))

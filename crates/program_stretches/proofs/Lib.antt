@@ -14,4 +14,5 @@ pub mod Closed
 pub mod Refusing
 pub mod EachDone
 pub mod Reopening
+pub mod Back
 pub mod Counted
