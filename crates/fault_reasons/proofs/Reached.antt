@@ -1,10 +1,8 @@
 -- The superstep at which a job ends is one that it gets to.
-use Rattle.std.proofs.Common.{◌≡◌, ℕ, zero, suc, ◌+◌, ◌≤◌, ◌<◌, Bool, true, false, nat_le, List, [], ◌∷◌, ◌++◌, map, Option, Some, None, refl, sym, ap, ◌∙◌, subst, arith}
+use Rattle.std.proofs.Common.{◌≡◌, ℕ, zero, suc, ◌+◌, ◌≤◌, ◌<◌, Bool, true, false, nat_le, List, [], ◌∷◌, map, Option, Some, None, refl, sym, ap, ◌∙◌, subst, arith}
 use Rattle.std.specs.Prelude.{ℤ, if◌then◌else◌}
-use Rattle.phase_records.specs.PrintValue.{PrintValue}
 use Rattle.phase_records.specs.ReportValue.{ReportValue}
 use Rattle.phase_records.specs.Status.{Status, Ended, Fault, Limit}
-use Rattle.phase_records.specs.declared.record.PhaseRecord.{PhaseRecord}
 use Rattle.programs.specs.Meaning.{Segment, Says}
 use Rattle.programs.specs.Superstep.{State, superstep, closed, segments, fault_in}
 use Rattle.programs.specs.Supersteps.{so_far, status, status_of, unless_ended, report_with}

@@ -1,6 +1,6 @@
 -- A walk ends as the segment does.
 use Rattle.std.proofs.Common.{◌≡◌, ℕ, zero, suc, ◌+◌, ◌-◌, ◌<◌, ◌≤◌, ℤ, Bool, true, false, List, [], ◌∷◌, ◌++◌, length, Option, Some, None, Result, Ok, Err, refl, sym, ap, ◌∙◌, subst, arith}
-use Rattle.std.specs.Prelude.{slice_get, slice_set, nat_le, pos, ◌||◌, if◌then◌else◌}
+use Rattle.std.specs.Prelude.{slice_get, nat_le, pos, ◌||◌, if◌then◌else◌}
 use Rattle.std.specs.Ordering.{int_eq}
 use Rattle.superstep_memory.specs.Cells.{place_at}
 use Rattle.superstep_memory.specs.declared.arrays.PutKind.{PutKind}
@@ -14,8 +14,7 @@ use Rattle.task_code.specs.declared.code.Expr.{Expr}
 use Rattle.task_code.specs.declared.code.Line.{Line}
 use Rattle.task_code.specs.declared.code.Line.TheVariants as line
 use Rattle.task_code.proofs.Jumps.{rest-else, rest-end, some-within}
-use Rattle.task_lang.specs.Meaning.{Doing, Effect, Goes, Syncs, Stops, Fails, Segment, Setting, Task, act, after_effect, after_test, ended, faulted, index_value, put, put_into, run, set_local, spawn, started, value_of, with_ok}
-use Rattle.programs.specs.Meaning.{Stopped}
+use Rattle.task_lang.specs.Meaning.{Doing, Effect, Goes, Syncs, Stops, Fails, Setting, Task, act, after_effect, after_test, index_value, put_into, run, spawn, started, value_of, with_ok}
 use Rattle.task_lang.specs.declared.fault.Fault.{Fault}
 use Rattle.task_lang.specs.declared.fault.Fault.TheVariants.{Depth as Deep, Spawns as Many}
 use Rattle.task_lang.specs.declared.scene.Effect.{Effect as CodeEffect}
@@ -25,7 +24,6 @@ use Rattle.task_lang.proofs.Runs.{run-again, run-do, run-ends, run-if, run-spent
 use Rattle.fault_reasons.specs.Done.{Done}
 use Rattle.fault_reasons.specs.Laws.{IsOf, WalksAreSegments, done_of}
 use Rattle.fault_reasons.specs.Walk.{acted, after_act, after_move, by_value, costing, free_to, moved_at, on_to, passed, put_into as walk_put, spent, tested, walked, with_spawn}
-use Rattle.fault_reasons.specs.declared.walk.End.{End}
 use Rattle.fault_reasons.specs.declared.walk.End.TheVariants as end
 
 -- ---- what an action does

@@ -1,12 +1,11 @@
 -- One line more of a segment.
-use Rattle.std.proofs.Common.{◌≡◌, ℕ, zero, suc, ◌+◌, ◌-◌, ◌<◌, List, Option, Some, None, refl, sym, ap, ◌∙◌, arith}
+use Rattle.std.proofs.Common.{◌≡◌, ℕ, zero, suc, ◌+◌, ◌-◌, ◌<◌, List, refl, sym, ap, ◌∙◌, arith}
 use Rattle.std.specs.Prelude.{slice_get}
 use Rattle.task_code.specs.declared.code.Line.{Line}
 use Rattle.task_lang.specs.declared.scene.Move.{Move}
 use Rattle.task_lang.specs.Meaning.{Setting}
 use Rattle.fault_reasons.specs.Done.{Done}
 use Rattle.fault_reasons.specs.Walk.{after_move, costing, moved_at, spent, walked}
-use Rattle.fault_reasons.specs.declared.walk.End.{End}
 
 module _ (s : Setting) (code : List Line) where
   -- what the line at a place leads to

@@ -2,7 +2,6 @@
 use Rattle.std.specs.Prelude.{ℕ, zero, suc, ◌+◌, ◌-◌, ℤ, nat_le, pos, ◌||◌, if◌then◌else◌, List, [], ◌∷◌, ◌++◌, length, slice_set, slice_get, Option, Some, None, Result, Ok, Err}
 use Rattle.std.specs.Ordering.{int_eq}
 use Rattle.superstep_memory.specs.Cells.{place_at}
-use Rattle.superstep_memory.specs.declared.arrays.Put.{Put}
 use Rattle.superstep_memory.specs.declared.arrays.PutKind.{PutKind}
 use Rattle.task_code.specs.declared.code.Expr.{Expr}
 use Rattle.task_code.specs.declared.code.Cell.{Cell}

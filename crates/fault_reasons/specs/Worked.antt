@@ -7,7 +7,6 @@ use Rattle.task_code.specs.declared.code.Cell.{Cell}
 use Rattle.task_code.specs.declared.code.Operand.{Operand}
 use Rattle.task_code.specs.declared.code.Operand.TheVariants.{Plain, Cell as At}
 use Rattle.task_code.specs.declared.code.Operator.TheVariants.{Add, Multiply, Divide, Below}
-use Rattle.task_code.specs.declared.code.Expr.{Expr}
 use Rattle.task_code.specs.declared.code.Expr.TheVariants.{One, Two}
 use Rattle.task_code.specs.declared.code.Action.TheVariants.{Let, Put, Print, Spawn, Sync}
 use Rattle.task_code.specs.declared.code.Line.{Line}

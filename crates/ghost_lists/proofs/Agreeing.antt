@@ -1,9 +1,9 @@
 -- Each step on the words of a log keeps what its seats know.
 use Rattle.std.specs.Prelude.{slice_index}
-use Rattle.std.proofs.Common.{◌≡◌, ℕ, zero, suc, ◌<◌, ◌≢◌, ◌⊎◌, Bool, true, false, List, [], ◌∷◌, ◌++◌, length, Option, Some, None, slice_set, refl, sym, ap, ◌∙◌, subst, arith, append_assoc, ⊎_elim}
+use Rattle.std.proofs.Common.{◌≡◌, ℕ, zero, suc, ◌<◌, ◌≢◌, ◌⊎◌, true, false, List, [], ◌∷◌, ◌++◌, length, Option, Some, None, slice_set, refl, sym, ap, ◌∙◌, subst, arith, append_assoc, ⊎_elim}
 use lib.ListN.{get_elem?}
 use mathlib.Core.Option.{some, none, some-injective, some-ne-none}
-use Rattle.atomic_table.specs.Table.{State, Me, Act, keeps, takes, opening, stepped, Valid, carried_after, Allows, Splits, Joins}
+use Rattle.atomic_table.specs.Table.{State, Me, keeps, takes, opening, Allows, Splits, Joins}
 use Rattle.atomic_table.proofs.Lists.{at_set, set_here, set_else, at_longer, at_snoc}
 use Rattle.ghost_lists.specs.declared.log_rule.Known.{Known}
 use Rattle.ghost_lists.specs.Agreed.{WasBefore, IsAgreed, Takes, noted, Notes, Agrees, copy_of, hearing}

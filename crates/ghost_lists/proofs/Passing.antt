@@ -1,12 +1,12 @@
 -- Each step on the word of a list keeps what its seats know.
 use Rattle.std.specs.Prelude.{slice_index, ◌==◌, if◌then◌else◌, IfSome}
-use Rattle.std.proofs.Common.{◌≡◌, ℕ, zero, suc, ◌+◌, ◌<◌, ◌≤◌, ◌≢◌, ◌⊎◌, Bool, true, false, List, [], ◌∷◌, ◌++◌, length, Option, Some, None, slice_set, refl, sym, ap, ◌∙◌, subst, arith, inl, inr, ⊎_elim}
+use Rattle.std.proofs.Common.{◌≡◌, ℕ, zero, suc, ◌<◌, ◌≤◌, ◌≢◌, ◌⊎◌, Bool, true, false, List, [], ◌∷◌, ◌++◌, length, Option, Some, None, slice_set, refl, sym, ap, ◌∙◌, subst, arith, inl, inr, ⊎_elim}
 use Rattle.std.specs.Option.{unwrap_or}
 use lib.ListN.{get_elem?}
 use mathlib.Core.Option.{some, none, some-injective, some-ne-none}
 use prog.Atomic.{either}
 use Rattle.atomic_table.specs.Seated.{TableId}
-use Rattle.atomic_table.specs.Table.{State, Me, Act, keeps, opening, stepped, Valid, carried_after, Allows, Splits, Joins}
+use Rattle.atomic_table.specs.Table.{State, Me, keeps, opening, Allows, Splits, Joins}
 use Rattle.atomic_table.proofs.Lists.{at_set, set_here, set_else, at_longer}
 use Rattle.ghost_lists.specs.declared.tickets_rule.TicketEntry.{TicketEntry}
 use Rattle.ghost_lists.specs.declared.tickets_rule.Known.{Known}

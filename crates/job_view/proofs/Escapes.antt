@@ -1,9 +1,8 @@
 -- Names as texts of XML.
-use Rattle.std.proofs.Common.{◌≡◌, ◌==◌, ℕ, Bool, true, false, nat_le, nat_lt, List, [], ◌∷◌, ◌++◌, take, Option, Some, None, refl, sym, ap, ◌∙◌, arith, codes, append-nil}
-use Rattle.std.specs.Prelude.{◌&&◌, ◌||◌, not, if◌then◌else◌}
-use Rattle.std.specs.Str.{bytes_eq}
+use Rattle.std.proofs.Common.{◌≡◌, ◌==◌, ℕ, Bool, true, false, nat_le, nat_lt, List, [], ◌∷◌, ◌++◌, Some, None, refl, sym, ap, ◌∙◌, arith, codes, append-nil}
+use Rattle.std.specs.Prelude.{if◌then◌else◌}
 use Rattle.job_view.specs.Cells.{after_none, escape, escaped, is_none}
-use Rattle.job_view.specs.Texts.{NamesAreText, begins_entity, is_text}
+use Rattle.job_view.specs.Texts.{NamesAreText, is_text}
 
 -- a name that begins with bytes that no text may hold
 pub none_escaped : (name more : List ℕ) → after_none name ≡ Some more → escape name ≡ 32 ∷ escape more

@@ -1,5 +1,5 @@
 -- Looks worked out by hand (own).
-use Rattle.std.specs.Prelude.{◌≡◌, true, false, ℕ, ℤ, pos, List, [], ◌∷◌, codes, Some, None}
+use Rattle.std.specs.Prelude.{◌≡◌, true, false, ℤ, pos, List, [], ◌∷◌, codes, Some, None}
 use Rattle.phase_records.specs.ReportValue.{ReportValue}
 use Rattle.phase_records.specs.Status.{Ended}
 use Rattle.job_view.specs.declared.panels.Form.TheVariants.{Strip, Board, OverTime, Missing}

@@ -1,5 +1,5 @@
 -- A loop that appends something for each item of a list to another.
-use Rattle.std.proofs.Common.{◌≡◌, zero, suc, ℕ, ◌<◌, List, [], ◌∷◌, ◌++◌, length, All, sym, ◌∙◌, ap, subst, append_assoc, arith}
+use Rattle.std.proofs.Common.{◌≡◌, suc, List, [], ◌∷◌, ◌++◌, All, sym, ◌∙◌, ap, subst, append_assoc, arith}
 
 pub moved : {A : Type 0} (done more rest others all : List A) (x : A) → rest ≡ x ∷ others → more ≡ done ++ (x ∷ []) → done ++ rest ≡ all
     → more ++ others ≡ all

@@ -2,7 +2,7 @@
 use Rattle.std.specs.Prelude.{◌≡◌, ◌⊎◌, ℕ, Result, Ok, Err, List, [], ◌∷◌}
 use Rattle.phaser_word.specs.Fields.{Fields}
 use Rattle.tier_calls.specs.Closes.{TallyWithOthers, IsLeftBy}
-use Rattle.tier_calls.specs.Holding.{Named, Holding, IsSat, split_once, sight_held}
+use Rattle.tier_calls.specs.Holding.{Holding, IsSat, split_once, sight_held}
 use Rattle.tier_calls.specs.InPlace.{ArrivesInPlace, FindsArrived}
 use Rattle.tier_calls.specs.Led.{LedInPlaceWaited}
 use Rattle.tier_calls.specs.JoinsHere.{JoinsHere}

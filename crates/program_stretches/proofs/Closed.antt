@@ -25,7 +25,7 @@ use Rattle.programs.specs.InPlace.{living_with, left_in, spawned_in, record_in, 
 use Rattle.programs.proofs.Reached.{starts_read}
 use Rattle.program_stretches.specs.declared.fault.Outcome.{Outcome}
 use Rattle.program_stretches.specs.declared.fault.Outcome.TheVariants.{Landed, Faulted, TooMany, Overflowed}
-use Rattle.program_stretches.specs.Parts.{Reading, setup_by, HasDone, AreOwn, AreFresh, fresh_part, covers, is_done, fault_in, tasks_in, puts_in, deeds_in, prints_in, without_puts, renewed}
+use Rattle.program_stretches.specs.Parts.{Reading, setup_by, HasDone, AreOwn, AreFresh, fresh_part, covers, is_done, fault_in, tasks_in, deeds_in, prints_in, without_puts, renewed}
 use Rattle.program_stretches.specs.SuperstepStart.{SuperstepStartValue, live_of, states_by, AllOpen}
 use Rattle.program_stretches.specs.Did.{DidAll, IsStepTo}
 use Rattle.program_stretches.specs.StretchesValue.{StretchesValue, state_with, status_for, status_in, is_at_limit, IsAfter, IsOpen, IsRunSoFar, HaveRun}

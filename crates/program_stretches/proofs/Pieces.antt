@@ -1,6 +1,6 @@
 -- The tasks of pieces, one after another.
-use Rattle.std.proofs.Common.{◌≡◌, ◌≤◌, ◌<◌, ◌+◌, ◌-◌, ℕ, zero, suc, List, [], ◌∷◌, ◌++◌, length, reverse, take, drop, get_or, slice_get, slice_set, Option, Some, None, refl, sym, ap, subst, ◌∙◌, arith, append_assoc, append-nil}
-use Rattle.std.specs.Prelude.{Bool, true, false, is_some, map, OnOk, Result, Ok, Err}
+use Rattle.std.proofs.Common.{◌≡◌, ◌<◌, ◌+◌, ℕ, zero, suc, List, [], ◌∷◌, ◌++◌, length, reverse, get_or, slice_get, slice_set, Option, Some, None, refl, sym, ap, subst, ◌∙◌, arith, append_assoc, append-nil}
+use Rattle.std.specs.Prelude.{true, false, is_some, map, OnOk, Result, Ok, Err}
 use Rattle.std.specs.Option.{option_map}
 use Rattle.std.proofs.lemmas.List.{reverse-append, length-append}
 use Rattle.superstep_memory.specs.PathOrder.{put_all, in_path_order}
@@ -10,7 +10,7 @@ use Rattle.programs.specs.Regroup.{IsInOrder}
 use Rattle.programs.proofs.Regrouping.{sorted_front, sorted_back, sorted_all}
 use Rattle.program_stretches.proofs.Placing.{strays_last}
 use Rattle.program_stretches.specs.PartValue.{PartValue}
-use Rattle.program_stretches.specs.Parts.{fresh_part, of_slot, living_in}
+use Rattle.program_stretches.specs.Parts.{of_slot, living_in}
 use Rattle.program_stretches.specs.Next.{Receives, all_in, all_of, AreEmpty, CanSettle, CanAllSettle}
 use Rattle.program_stretches.specs.declared.next.Piece.{Piece}
 

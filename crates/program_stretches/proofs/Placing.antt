@@ -1,10 +1,10 @@
 -- Strays are put in their places, stretch after stretch.
-use Rattle.std.proofs.Common.{◌≡◌, ◌≤◌, ◌<◌, ◌+◌, ◌-◌, ℕ, zero, suc, Bool, true, false, List, [], ◌∷◌, ◌++◌, map, length, reverse, take, drop, slice_get, Option, Some, None, refl, sym, ap, subst, ◌∙◌, arith, append_assoc, append-nil}
+use Rattle.std.proofs.Common.{◌≡◌, ◌<◌, ℕ, Bool, true, false, List, [], ◌∷◌, ◌++◌, map, length, reverse, slice_get, Option, Some, None, refl, sym, ap, subst, ◌∙◌, arith, append_assoc, append-nil}
 use Rattle.std.specs.Prelude.{if◌then◌else◌}
 use Rattle.std.specs.List.{AllByRecursion}
 use Rattle.superstep_memory.specs.Paths.{path_lt}
 use Rattle.superstep_memory.specs.PathOrder.{put_in, put_all, in_path_order}
-use Rattle.superstep_memory.proofs.PathOrder.{lt_trans, lt_asym}
+use Rattle.superstep_memory.proofs.PathOrder.{lt_asym}
 use Rattle.superstep_memory.proofs.Merged.{put_all_append, merged, merged_puts}
 use Rattle.programs.specs.Regroup.{IsBefore, IsWithin, IsInOrder}
 use Rattle.std.proofs.lemmas.List.{reverse-append, reverse-reverse}

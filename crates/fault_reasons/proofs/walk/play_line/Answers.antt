@@ -1,4 +1,4 @@
-use Rattle.std.proofs.Common.{◌+◌, Some, arith, ap, sym, ◌∙◌, refl}
+use Rattle.std.proofs.Common.{Some, arith, ap, ◌∙◌}
 use Rattle.task_code.proofs.Jumps.{if-within, while-within, back-within, else-within, end-within, some-within}
 use Rattle.fault_reasons.proofs.walk.play_line.Goals as goal
 

@@ -1,4 +1,4 @@
-use Rattle.std.proofs.Common.{◌≡◌, length}
+use Rattle.std.proofs.Common.{◌≡◌}
 use Rattle.fault_reasons.specs.Walk.{costing, passed}
 use Rattle.fault_reasons.proofs.walk.skip.Given as goal
 

@@ -1,6 +1,5 @@
-use Rattle.std.proofs.Common.{◌≡◌, ◌∙◌, ◌++◌, List, ap, map, reverse, slice_get}
+use Rattle.std.proofs.Common.{◌∙◌, ap, map, reverse, slice_get}
 use Rattle.std.specs.Option.{option_map}
-use Rattle.superstep_memory.specs.PathOrder.{in_path_order}
 use Rattle.programs.specs.InPlace.{living_with}
 use Rattle.program_stretches.specs.Next.{all_in}
 use Rattle.program_stretches.proofs.Placing.{placed, strays_order}

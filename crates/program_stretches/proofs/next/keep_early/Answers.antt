@@ -1,4 +1,4 @@
-use Rattle.std.proofs.Common.{◌∙◌, List, ap, subst, reverse}
+use Rattle.std.proofs.Common.{◌∙◌, List, subst, reverse}
 use Rattle.std.specs.Option.{option_map}
 use Rattle.program_stretches.specs.Next.{HasMovedLast, IsFirstBefore}
 use Rattle.program_stretches.proofs.Placing.{front_same, end_within}

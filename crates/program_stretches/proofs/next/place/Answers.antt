@@ -1,4 +1,4 @@
-use Rattle.std.proofs.Common.{◌≡◌, ◌+◌, ◌-◌, ◌<◌, ℕ, suc, List, length, reverse, subst, arith}
+use Rattle.std.proofs.Common.{◌≡◌, ◌-◌, ℕ, suc, reverse, subst, arith}
 use Rattle.std.specs.Vec.{vec_len}
 use Rattle.programs.proofs.RunState.{none_there, some_there}
 use Rattle.programs.proofs.Turned.{reverse_none}

@@ -1,4 +1,4 @@
-use Rattle.std.proofs.Common.{◌≡◌, ◌∙◌, ◌+◌, ◌-◌, ◌++◌, ◌∷◌, [], List, length, ap, sym, subst, arith}
+use Rattle.std.proofs.Common.{◌∙◌, ◌-◌, ◌∷◌, [], ap, sym, subst, arith}
 use Rattle.program_stretches.specs.Next.{AreEmpty, all_in}
 use Rattle.program_stretches.proofs.Pieces.{in_last, empty_append, empty_ok, joined_empty, joined_ok}
 use Rattle.program_stretches.proofs.next.push_piece.Goals as goal

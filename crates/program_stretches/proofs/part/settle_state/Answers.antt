@@ -1,5 +1,4 @@
-use Rattle.std.proofs.Common.{◌≡◌, ◌∙◌, ◌+◌, ◌≤◌, true, false, List, length, ap, sym, arith}
-use Rattle.programs.specs.InPlace.{left_in, spawned_in}
+use Rattle.std.proofs.Common.{◌≡◌, ◌∙◌, length, ap, sym, arith}
 use Rattle.programs.proofs.InPlace.{few_left}
 use Rattle.program_stretches.proofs.Noted.{free_if, kept_next, stays_next, living_count}
 use Rattle.program_stretches.proofs.part.settle_state.Goals.{then-is_some-via-then-is_some, then-is_some-via-else-is_some+then-all_stay}

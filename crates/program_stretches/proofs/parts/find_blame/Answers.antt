@@ -1,5 +1,5 @@
-use Rattle.std.proofs.Common.{◌≡◌, ◌∙◌, ◌+◌, ◌-◌, drop, ap, sym, subst, arith}
-use Rattle.programs.specs.InPlace.{maker, made_in}
+use Rattle.std.proofs.Common.{◌∙◌, ◌+◌, ◌-◌, drop, ap, arith}
+use Rattle.programs.specs.InPlace.{maker}
 use Rattle.program_stretches.specs.Parts.{tasks_in, deeds_in}
 use Rattle.program_stretches.proofs.Along.{next_part}
 use Rattle.program_stretches.proofs.Blaming.{blame_here, blame_behind, blame_none}

@@ -1,4 +1,4 @@
-use Rattle.std.proofs.Common.{sym, ap, ◌∙◌, arith, rules}
+use Rattle.std.proofs.Common.{◌∙◌, arith, rules}
 use Rattle.ghost_lists.proofs.Passing.{issues, gives}
 use Rattle.ghost_lists.proofs.tickets.TicketList.issue.Goals as goal
 

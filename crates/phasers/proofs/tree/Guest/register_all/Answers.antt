@@ -1,4 +1,4 @@
-use Rattle.std.proofs.Common.{◌≡◌, ◌∙◌, sym, ap, subst}
+use Rattle.std.proofs.Common.{◌∙◌, sym, ap, subst}
 use Rattle.tier_calls.specs.Holding.{Named, Holding}
 use Rattle.tier_table.specs.GroupMembersAtLast.{RegistersAllAtLast, HasEndedRegistering}
 use Rattle.tier_table.specs.declared.group_members.GroupRegistered.{GroupRegistered}

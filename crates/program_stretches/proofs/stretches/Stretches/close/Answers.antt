@@ -1,4 +1,4 @@
-use Rattle.std.proofs.Common.{◌≡◌, ◌∙◌, true, ap, sym, subst}
+use Rattle.std.proofs.Common.{◌∙◌, true, ap, sym, subst}
 use Rattle.program_stretches.specs.declared.fault.Outcome.TheVariants.{Faulted}
 use Rattle.program_stretches.specs.Parts.{reading_of, covers, fault_in}
 use Rattle.program_stretches.specs.StretchesValue.{StretchesValue, status_in}

@@ -1,4 +1,4 @@
-use Rattle.std.proofs.Common.{◌≡◌, ◌+◌, ◌-◌, ◌++◌, ◌∷◌, ◌∙◌, [], List, length, ap, sym, subst, refl, arith}
+use Rattle.std.proofs.Common.{◌+◌, ◌++◌, ◌∷◌, ◌∙◌, [], List, length, ap, sym, subst, refl, arith}
 use Rattle.superstep_memory.specs.PathOrder.{in_path_order}
 use Rattle.phase_records.specs.declared.record.PhaseRecord.{PhaseRecord}
 use Rattle.superstep_memory.proofs.InOrder.{count_in_order}

@@ -1,4 +1,4 @@
-use Rattle.std.proofs.Common.{◌≡◌, true, ◌+◌, ◌++◌, ◌∷◌, ◌∙◌, [], List, length, ap, sym, subst}
+use Rattle.std.proofs.Common.{true, ◌+◌, ◌++◌, ◌∷◌, ◌∙◌, [], List, length, ap, sym, subst}
 use Rattle.superstep_memory.specs.PathOrder.{in_path_order}
 use Rattle.phase_records.specs.PrintValue.{PrintValue}
 use Rattle.phase_records.specs.declared.record.PhaseRecord.{PhaseRecord}
