@@ -262,10 +262,8 @@ pub fn run_program<
     let asks = reasons || asked.len() < words.len();
     let mut text = ReadText::new(rt.alloc(), asks);
     let source = opened(rt, file, standard);
-    let origin = Origin {
-        file,
-        is_open: !matches!(source, Source::Unopened),
-    };
+    let is_open = !matches!(source, Source::Unopened);
+    let origin = Origin { file, is_open };
     let mut reader = Reader::new(Kept {
         inner: source,
         text: &mut text,
