@@ -379,7 +379,7 @@ pub fn stretches_wanted<G: Gate>(gate: &G, workers: u32) -> usize
     }
 }
 
-// Returns how often a worker spins before it sleeps or calls the tree.
+// Returns how often a worker spins before it sleeps.
 fn spins_of<R: Threads>(rt: &R, workers: u32) -> u32 {
     match thread::available_parallelism(rt) {
         Ok(count) if workers as usize <= count.get() => MOST_SPINS,
