@@ -17,3 +17,18 @@ pub(crate) fn is_left_alone(alloc: Global, job: &Job, limit: u32, report: &Repor
         Err(_) => false,
     }
 }
+
+// Returns what the job of a text leaves on one thread.
+fn left_by(alloc: Global, text: &str) -> Option<Report> {
+    run_alone(alloc, &job_of(alloc, text).ok()?, 9).ok()
+}
+
+#[test]
+fn reports_with_other_prints_are_not_the_same(rt: HostRuntime) {
+    let one = left_by(rt.alloc(), "bsp 1\nbody b\nprint 7\nend\nstart b 0\n");
+    let other = left_by(rt.alloc(), "bsp 1\nbody b\nprint 8\nend\nstart b 0\n");
+    let (Some(one), Some(other)) = (one, other) else {
+        panic!(rt; "no report");
+    };
+    assert!(rt; one.same_as(&one) && !one.same_as(&other));
+}
