@@ -1,3 +1,4 @@
+use Rattle.std.proofs.lemmas.Grind.{common_steps}
 use Rattle.std.proofs.Common.{◌≡◌, ◌+◌, ◌++◌, ◌∷◌, List, arith, ◌∙◌, sym, ap, subst, length, reverse}
 use Rattle.std.specs.Prelude.{take}
 use Rattle.std.specs.Option.{option_map}
@@ -103,3 +104,6 @@ returns-clause-within g c = λ h.
     let bound = option_map (λ p. p.items) c.args.bound.now in
     ends_within q bound c.loop-deed.living.items (reverse c.loop-deed.waiting.items) c.move_within.new.living.items
     (reverse c.move_within.new.waiting.items) c.move_within.ensures.moved (c.loop-deed.invariant.within h).0
+
+pub put_next-requires-clause-capacity : goal.put_next-requires-clause-capacity
+put_next-requires-clause-capacity = grind (arith, common_steps)

@@ -1,3 +1,4 @@
+use Rattle.std.proofs.lemmas.Grind.{common_steps}
 use Rattle.std.specs.Option.{option_map}
 use Rattle.std.proofs.Common.{◌≡◌, ap, sym, refl, ◌∙◌, Some, subst, ℕ, ◌<◌, List, length, arith}
 use Rattle.std.proofs.lemmas.List.{length-set}
@@ -67,3 +68,9 @@ returns-clause-done g c =
     c.args.work.now.puts c.loop-place.work.puts c.args.tasks.now.items c.loop-place.tasks.items c.args.deeds.now c.loop-place.deeds
     c.args.prints.now.items c.loop-place.prints.items)
     at_end c.loop-place.invariant.ranging)
+
+pub overflow_add-place : goal.overflow_add-place
+overflow_add-place = grind (arith, common_steps)
+
+pub returns-in-Some-clause-count : goal.returns-in-Some-clause-count
+returns-in-Some-clause-count = grind (arith, common_steps)

@@ -1,3 +1,5 @@
+use Rattle.std.proofs.Common.{arith}
+use Rattle.std.proofs.lemmas.Grind.{common_steps}
 use Rattle.std.proofs.lemmas.Bool.{false≢true}
 use Rattle.task_code.proofs.Depths.{too-deep}
 use Rattle.task_code.proofs.limits.are_shallow.Goals as goal
@@ -9,3 +11,6 @@ returns-then-open_lines-gt-MOST_OPEN c = (
       (too-deep c.loop-line.open_lines _ c.in-Some.line.now c.in-Some.after.now _ c.in-Some.ensures.cases.0 c.opened-open_lines.ensures
       c.if-open_lines-gt-MOST_OPEN.true (c.loop-line.invariant.same.0 h)),
 )
+
+pub returns : goal.returns
+returns = grind (arith, common_steps)

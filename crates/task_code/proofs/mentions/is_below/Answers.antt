@@ -1,4 +1,5 @@
-use Rattle.std.proofs.Common.{Bool, ◌&&◌, ap, sym, ◌∙◌, subst}
+use Rattle.std.proofs.lemmas.Grind.{common_steps}
+use Rattle.std.proofs.Common.{Bool, ◌&&◌, ap, sym, ◌∙◌, subst, arith}
 use Rattle.std.specs.Prelude.{IsTrue}
 use Rattle.task_code.proofs.AskedAlong.{line_fits}
 use Rattle.task_code.proofs.Mentioned.{line_below}
@@ -17,3 +18,6 @@ returns-then-set-clause-fits c =
 pub returns-else-set-clause-fits : goal.returns-else-set-clause-fits
 returns-else-set-clause-fits c =
     subst IsTrue (line_fits c.args.line.now c.operands_of.result c.operands_of.ensures) c.are_below_operands-operands.ensures.fits
+
+pub returns-else-set-clause-below : goal.returns-else-set-clause-below
+returns-else-set-clause-below = grind (arith, common_steps)

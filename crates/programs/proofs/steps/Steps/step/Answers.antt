@@ -1,4 +1,5 @@
-use Rattle.std.proofs.Common.{◌≡◌, ℕ, List, map, Option, Some, None, refl, sym, ap, ◌∙◌, subst}
+use Rattle.std.proofs.lemmas.Grind.{common_steps}
+use Rattle.std.proofs.Common.{◌≡◌, ℕ, List, map, Option, Some, None, refl, sym, ap, ◌∙◌, subst, arith}
 use Rattle.superstep_memory.specs.Paths.{is_rising}
 use Rattle.programs.specs.RunState.{HasTaken}
 use Rattle.programs.specs.Order.{AreOrdered}
@@ -31,3 +32,12 @@ returns-in_default-fault-clause-ordered g c =
     c.take_superstep.new.run_state
     (subst (λ (v : StepsValue g.row.T.Denot). AreOrdered f (map meant v.tasks)) (sym c.self.view_is) c.requires.ordered)
     (subst (λ (o : Option (ℕ × List ℕ)). HasTaken f may c.self.inside.most meant path o c.self.inside.run_state c.take_superstep.new.run_state) none c.in-Ok.ensures.taken)
+
+pub returns-clause-over : goal.returns-clause-over
+returns-clause-over = grind (arith, common_steps)
+
+pub returns-in_default-clause-failed : goal.returns-in_default-clause-failed
+returns-in_default-clause-failed = grind (arith, common_steps)
+
+pub returns-in_default-clause-memory : goal.returns-in_default-clause-memory
+returns-in_default-clause-memory = grind (arith, common_steps)

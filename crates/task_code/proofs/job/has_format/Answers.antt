@@ -1,0 +1,6 @@
+use Rattle.std.proofs.Common.{arith}
+use Rattle.std.proofs.lemmas.Grind.{common_steps}
+use Rattle.task_code.proofs.job.has_format.Goals as goal
+
+pub returns-in_default : goal.returns-in_default
+returns-in_default = grind (arith, common_steps)
