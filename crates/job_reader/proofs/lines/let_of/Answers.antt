@@ -1,4 +1,5 @@
-use Rattle.std.proofs.Common.{rules, ◌∷◌, ◌∙◌, ap, sym, Result}
+use Rattle.std.proofs.lemmas.Grind.{common_steps}
+use Rattle.std.proofs.Common.{rules, ◌∷◌, ◌∙◌, ap, sym, Result, arith}
 use Rattle.text_lines.specs.declared.refusal.Code.{Code}
 use Rattle.job_reader.specs.Faults.{both}
 use Rattle.job_reader.specs.Lines.{is_equals}
@@ -19,3 +20,6 @@ returns-in_err-local c =
     ∙ ap (both (is_equals c.in-Some-take_word.is'.now)) c.declared_at.ensures.place))
     c.expr_of.ensures (sym c.in_err-local.was ∙ c.both.ensures) in
     search (rules, refused)
+
+pub returns : goal.returns
+returns = grind (arith, common_steps)

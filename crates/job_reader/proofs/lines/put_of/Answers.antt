@@ -1,4 +1,5 @@
-use Rattle.std.proofs.Common.{rules, ◌∷◌, ◌∙◌, ap, sym, Result}
+use Rattle.std.proofs.lemmas.Grind.{common_steps}
+use Rattle.std.proofs.Common.{rules, ◌∷◌, ◌∙◌, ap, sym, Result, arith}
 use Rattle.text_lines.specs.declared.refusal.Code.{Code}
 use Rattle.task_code.specs.declared.code.Cell.{Cell}
 use Rattle.job_reader.specs.Exprs.{cell_of}
@@ -20,3 +21,6 @@ returns-in_err-cell c =
     ∙ ap (both (cell_of (names_in c.args.scope.now) c.in-Some.cell.now)) c.is_equals.ensures))
     c.expr_of.ensures (sym c.in_err-cell.was ∙ c.both.ensures) in
     search (rules, refused)
+
+pub returns : goal.returns
+returns = grind (arith, common_steps)

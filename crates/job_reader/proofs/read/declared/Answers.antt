@@ -1,3 +1,4 @@
+use Rattle.std.proofs.lemmas.Grind.{common_steps}
 use Rattle.std.proofs.Common.{◌≤◌, ℕ, List, ◌++◌, ◌∙◌, ap, sym, arith, take, length}
 use Rattle.std.specs.List.{filter_map}
 use Rattle.text_lines.specs.Text.{lines_of, words_of}
@@ -28,3 +29,6 @@ returns-clause-names c =
     sym (take-whole (lent c.loop-line.names.items) 64 few)
     ∙ ap (λ (t : List ℕ). take 64 (lent c.loop-line.names.items ++ names_of (lines_of t))) (sym c.in_default.ensures.lines)
     ∙ c.loop-line.invariant.same
+
+pub loop-line-preserved-in-Continue-1 : goal.loop-line-preserved-in-Continue-1
+loop-line-preserved-in-Continue-1 = grind (arith, common_steps)

@@ -1,3 +1,4 @@
+use Rattle.std.proofs.lemmas.Grind.{common_steps}
 use Rattle.std.proofs.Common.{◌≡◌, ◌++◌, List, ℕ, Bool, ℤ, Result, Ok, Err, FitsSigned, w32, to_z, of_z, ap, ◌∙◌, refl, arith, rules}
 use Rattle.std.specs.Prelude.{OnOk}
 use Rattle.std.proofs.lemmas.Int.{ints}
@@ -18,3 +19,6 @@ returns-in-Show-clause-text g c = on_ok c.push_show.result c.push_show.ensures (
     let back : to_z w32 (of_z w32 c.phase.result) ≡ c.phase.result = omega (arith, ints, fits) in
     rw c.in-Show.is (text ∙ ap (λ (t : List ℕ). c.args.out.now.items ++ t)
     (same_show _ (shown f) _ (registered f) _ (unarrived f) _ f.ended (back ∙ c.phase.ensures f a) (c.registered.ensures f a) (c.unarrived.ensures f a) (c.ended.ensures f a))))
+
+pub returns-in_ok-push_advance-in-Call-clause-text : goal.returns-in_ok-push_advance-in-Call-clause-text
+returns-in_ok-push_advance-in-Call-clause-text = grind (arith, common_steps)

@@ -1,4 +1,5 @@
-use Rattle.std.proofs.Common.{rules, ℕ, ◌∙◌, ap, subst, refl}
+use Rattle.std.proofs.lemmas.Grind.{common_steps}
+use Rattle.std.proofs.Common.{rules, ℕ, ◌∙◌, ap, subst, refl, arith}
 use Rattle.job_reader.specs.Views.{lent}
 use Rattle.job_reader.specs.Relates.{IsInside}
 use Rattle.job_reader.specs.Reading.{mentioning}
@@ -34,3 +35,6 @@ put_line-requires-clause-ends c =
     line-ends _ (lent c.args.bodies.now) c.args.self.now.format c.args.inner c.note.new.self c.args.keyword (lent c.args.words.now)
     c.in_ok-line.line
     c.in_ok-note.ensures.noted c.requires.known c.in_ok-line.ensures.said c.args.self.now refl c.requires.kept
+
+pub returns-clause-few : goal.returns-clause-few
+returns-clause-few = grind (arith, common_steps)
