@@ -1,4 +1,5 @@
-use Rattle.std.proofs.Common.{ap, sym, subst, ◌∙◌}
+use Rattle.std.proofs.lemmas.Grind.{common_steps}
+use Rattle.std.proofs.Common.{ap, sym, subst, ◌∙◌, arith}
 use Rattle.tier_steps.specs.declared.view.View.{View}
 use Rattle.tier_calls.specs.Holding.{IsCrew}
 use Rattle.tier_calls.specs.Calls.{under}
@@ -56,3 +57,9 @@ returns-clause-waited g c =
     (λ e. c.if-view.false (ap (λ (v : View). v.arrived) c.view-view.ensures ∙ (e ∙ sym (ap (λ (v : View). v.size) c.view-view.ensures))))
     c.go_to_end.ensures
     c.answer_over.result c.answer_over.ensures
+
+pub go_to_end-requires-clause-at : goal.go_to_end-requires-clause-at
+go_to_end-requires-clause-at = grind (arith, common_steps)
+
+pub returns-then-word-clause-answer : goal.returns-then-word-clause-answer
+returns-then-word-clause-answer = grind (arith, common_steps)

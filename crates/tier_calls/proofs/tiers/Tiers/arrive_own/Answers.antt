@@ -1,4 +1,5 @@
-use Rattle.std.proofs.Common.{sym, ◌∙◌}
+use Rattle.std.proofs.lemmas.Grind.{common_steps}
+use Rattle.std.proofs.Common.{sym, ◌∙◌, arith}
 use Rattle.tier_calls.proofs.Tries.{stands_by, ran_once}
 use Rattle.tier_calls.proofs.tiers.Tiers.arrive_own.Goals as goal
 
@@ -10,3 +11,6 @@ arrive_at-requires-clause-stands c = stands_by c.stand_to.ensures.stood (sym c.g
 
 pub returns : goal.returns
 returns c = ran_once c.stand_to.ensures.stood.went c.arrive_at.ensures
+
+pub returns-then-not-goes_on : goal.returns-then-not-goes_on
+returns-then-not-goes_on = grind (arith, common_steps)

@@ -1,4 +1,5 @@
-use Rattle.std.proofs.Common.{ap, sym, ◌∙◌}
+use Rattle.std.proofs.lemmas.Grind.{common_steps}
+use Rattle.std.proofs.Common.{ap, sym, ◌∙◌, arith}
 use Rattle.tier_calls.specs.Holding.{Holding}
 use Rattle.tier_calls.proofs.Seating.{took_by}
 use Rattle.tier_calls.proofs.Settling.{unseen, unseen_at, seen_none, first_fresh, not_ended, not_true}
@@ -31,3 +32,6 @@ pub returns-clause-made : goal.returns-clause-made
 returns-clause-made c =
     forced_on c.force_on-2.result c.force_on-2.new.door.steps (looked_glance (took_by c.door.view_is c.look_at_root.ensures))
     c.force_on-2.ensures.made
+
+pub returns-then-word-clause-answer : goal.returns-then-word-clause-answer
+returns-then-word-clause-answer = grind (arith, common_steps)

@@ -1,4 +1,5 @@
-use Rattle.std.proofs.Common.{subst}
+use Rattle.std.proofs.lemmas.Grind.{common_steps}
+use Rattle.std.proofs.Common.{subst, arith}
 use Rattle.tier_calls.specs.Holding.{IsDoor}
 use Rattle.tier_calls.proofs.Seating.{took_by}
 use Rattle.tier_calls.proofs.Settling.{unseen, not_ended}
@@ -33,3 +34,9 @@ returns-clause-made c =
     (subst IsDoor c.door.view_is c.door.invariant)
     (took_by c.door.view_is c.look.ensures) (not_ended c.word.view_is c.word-word.ensures.word c.if-word.false) c.requires.size.0
     c.go_joining.ensures c.answer_join.result c.answer_join.ensures
+
+pub go_joining-requires-clause-at : goal.go_joining-requires-clause-at
+go_joining-requires-clause-at = grind (arith, common_steps)
+
+pub returns-then-word-clause-answer : goal.returns-then-word-clause-answer
+returns-then-word-clause-answer = grind (arith, common_steps)

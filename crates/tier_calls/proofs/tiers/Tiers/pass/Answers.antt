@@ -1,4 +1,5 @@
-use Rattle.std.proofs.Common.{sym, ap, subst, ◌∙◌}
+use Rattle.std.proofs.lemmas.Grind.{common_steps}
+use Rattle.std.proofs.Common.{sym, ap, subst, ◌∙◌, arith}
 use Rattle.tier_steps.specs.declared.view.View.{View}
 use Rattle.tier_calls.specs.Holding.{IsCrew}
 use Rattle.tier_calls.specs.declared.going.Going.{Going}
@@ -48,3 +49,6 @@ returns-clause-waited g c =
     (λ e. c.if-view.false (ap (λ (v : View). v.arrived) c.view-view.ensures ∙ (e ∙ sym (ap (λ (v : View). v.size) c.view-view.ensures))))
     (subst (λ (g : Going). Ran c.args.self.now c.args.tries (began_at c.args.own c.look.new.token) g) (sym c.going.ensures) c.go_straight.ensures)
     c.answer_settled.result c.answer_settled.ensures
+
+pub returns-then-word-clause-answer : goal.returns-then-word-clause-answer
+returns-then-word-clause-answer = grind (arith, common_steps)

@@ -1,4 +1,5 @@
-use Rattle.std.proofs.Common.{ap, sym, ◌∙◌}
+use Rattle.std.proofs.lemmas.Grind.{common_steps}
+use Rattle.std.proofs.Common.{ap, sym, ◌∙◌, arith}
 use Rattle.tier_core.specs.Turn.{end_shown}
 use Rattle.tier_core.specs.declared.call.Progress.TheVariants.{Passing}
 use Rattle.tier_steps.specs.declared.view.Passage.TheVariants.{Arrival, Departure}
@@ -27,3 +28,6 @@ returns-in-Arrival c = ran_once c.stand_to.ensures.stood.went c.pass_tier.ensure
 
 pub returns-in-Departure : goal.returns-in-Departure
 returns-in-Departure c = ran_once c.stand_to.ensures.stood.went c.pass_tier-in-Departure.ensures
+
+pub returns-then-not-goes_on : goal.returns-then-not-goes_on
+returns-then-not-goes_on = grind (arith, common_steps)
