@@ -1,4 +1,5 @@
-use Rattle.std.proofs.Common.{◌∙◌, ap, map, reverse, slice_get}
+use Rattle.std.proofs.lemmas.Grind.{common_steps}
+use Rattle.std.proofs.Common.{◌∙◌, ap, map, reverse, slice_get, arith}
 use Rattle.std.specs.Option.{option_map}
 use Rattle.programs.specs.InPlace.{living_with}
 use Rattle.program_stretches.specs.Next.{all_in}
@@ -24,3 +25,6 @@ returns-clause-tasks g c =
     (c.in_ok-keep_early.ensures.same ∙ c.in_ok-pull_back.ensures.same ∙ c.in_ok-tasks.ensures.next) c.requires.order
     (c.first_in-low.ensures ∙ ap (λ ps. slice_get (map q (all_in ps)) 0) c.deref.ensures.value) c.in_ok-keep_early.ensures.end
     c.in_ok-place.ensures.tasks all)
+
+pub push_piece-requires-clause-fresh : goal.push_piece-requires-clause-fresh
+push_piece-requires-clause-fresh = grind (arith, common_steps)

@@ -1,4 +1,5 @@
-use Rattle.std.proofs.Common.{◌∙◌, List, subst, reverse}
+use Rattle.std.proofs.lemmas.Grind.{common_steps}
+use Rattle.std.proofs.Common.{◌∙◌, List, subst, reverse, arith}
 use Rattle.std.specs.Option.{option_map}
 use Rattle.program_stretches.specs.Next.{HasMovedLast, IsFirstBefore}
 use Rattle.program_stretches.proofs.Placing.{front_same, end_within}
@@ -22,3 +23,6 @@ loop-tasks-preserved g c =
           end_within q low c.loop-tasks.strays.items c.move_last.new.tasks.items c.loop-tasks.tasks.items c.move_last.new.others.items moved
           first;
     }
+
+pub move_last-requires-clause-some : goal.move_last-requires-clause-some
+move_last-requires-clause-some = grind (arith, common_steps)

@@ -1,3 +1,4 @@
+use Rattle.std.proofs.lemmas.Grind.{common_steps}
 use Rattle.std.proofs.Common.{◌≡◌, ◌+◌, ◌-◌, ◌++◌, ◌∙◌, List, Option, length, ap, sym, subst, reverse, arith}
 use Rattle.program_stretches.specs.PartValue.{PartValue}
 use Rattle.program_stretches.specs.Parts.{AreFresh, tasks_in}
@@ -45,3 +46,6 @@ loop-piece-preserved g c =
     ∙ ap (λ (ps : List (Option (PartValue g.row.T.Denot))). c.in-Some.piece.tasks.items ++ tasks_in (reverse ps))
     c.in_ok-reserve.ensures.items)
     c.with_tasks.ensures c.push_reserved.ensures.items
+
+pub returns-clause-tasks : goal.returns-clause-tasks
+returns-clause-tasks = grind (arith, common_steps)

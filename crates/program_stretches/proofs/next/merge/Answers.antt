@@ -1,3 +1,4 @@
+use Rattle.std.proofs.lemmas.Grind.{common_steps}
 use Rattle.std.proofs.Common.{List, subst, reverse, arith}
 use Rattle.program_stretches.specs.Next.{IsStrayNext, PassesBy}
 use Rattle.program_stretches.proofs.Placing.{stray_moved, task_moved}
@@ -31,3 +32,6 @@ loop-tasks-preserved g c =
           c.move_last-else-is_stray_next.ensures.moved;
       capacity = omega (arith, v.capacity, c.move_last-else-is_stray_next.ensures.count, c.move_last-else-is_stray_next.ensures.capacity);
     }
+
+pub move_last-requires-clause-some : goal.move_last-requires-clause-some
+move_last-requires-clause-some = grind (arith, common_steps)

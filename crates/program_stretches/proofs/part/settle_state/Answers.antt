@@ -1,3 +1,4 @@
+use Rattle.std.proofs.lemmas.Grind.{common_steps}
 use Rattle.std.proofs.Common.{◌≡◌, ◌∙◌, length, ap, sym, arith}
 use Rattle.programs.proofs.InPlace.{few_left}
 use Rattle.program_stretches.proofs.Noted.{free_if, kept_next, stays_next, living_count}
@@ -46,3 +47,15 @@ regroup_within-requires-clause-count g c =
       c.in-Some-checked_add.ensures.1,
       s.tasks.ok.0,
     )
+
+pub regroup_within-requires-clause-same : goal.regroup_within-requires-clause-same
+regroup_within-requires-clause-same = grind (arith, common_steps)
+
+pub returns-clause-deeds : goal.returns-clause-deeds
+returns-clause-deeds = grind (arith, common_steps)
+
+pub returns-clause-next : goal.returns-clause-next
+returns-clause-next = grind (arith, common_steps)
+
+pub returns-clause-tasks : goal.returns-clause-tasks
+returns-clause-tasks = grind (arith, common_steps)

@@ -1,4 +1,5 @@
-use Rattle.std.proofs.Common.{◌∙◌, true, ap, sym, subst}
+use Rattle.std.proofs.lemmas.Grind.{common_steps}
+use Rattle.std.proofs.Common.{◌∙◌, true, ap, sym, subst, arith}
 use Rattle.program_stretches.specs.declared.fault.Outcome.TheVariants.{Faulted}
 use Rattle.program_stretches.specs.Parts.{reading_of, covers, fault_in}
 use Rattle.program_stretches.specs.StretchesValue.{StretchesValue, status_in}
@@ -109,3 +110,15 @@ take_superstep-requires-clause-can g c =
     let parts = ap (λ x. x.items) c.replace-parts.ensures.value in
     let none = sym (c.find_fault.ensures ∙ ap fault_in c.deref-2.ensures.value) ∙ c.in_default.is in
     all_can b parts none
+
+pub returns-clause-refused : goal.returns-clause-refused
+returns-clause-refused = grind (arith, common_steps)
+
+pub returns-clause-same : goal.returns-clause-same
+returns-clause-same = grind (arith, common_steps)
+
+pub returns-clause-unlogged : goal.returns-clause-unlogged
+returns-clause-unlogged = grind (arith, common_steps)
+
+pub returns-in-Ok-clause-same : goal.returns-in-Ok-clause-same
+returns-in-Ok-clause-same = grind (arith, common_steps)

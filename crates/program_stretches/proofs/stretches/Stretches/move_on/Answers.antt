@@ -1,3 +1,4 @@
+use Rattle.std.proofs.lemmas.Grind.{common_steps}
 use Rattle.std.proofs.Common.{◌+◌, ◌++◌, ◌∷◌, ◌∙◌, [], List, length, ap, sym, subst, refl, arith}
 use Rattle.superstep_memory.specs.PathOrder.{in_path_order}
 use Rattle.phase_records.specs.declared.record.PhaseRecord.{PhaseRecord}
@@ -136,3 +137,27 @@ returns-in_ok-reopen-in-None-clause-reopened g c =
       c.requires.each,
       all ∙ ap (in_path_order g.P.Task.OnPath.path_of) (living_joined c.args.parts.items c.requires.each),
     )
+
+pub invariant_of-self-in-Some : goal.invariant_of-self-in-Some
+invariant_of-self-in-Some = grind (arith, common_steps)
+
+pub invariant_of-self-in_err-place : goal.invariant_of-self-in_err-place
+invariant_of-self-in_err-place = grind (arith, common_steps)
+
+pub overflow-requires-clause-few : goal.overflow-requires-clause-few
+overflow-requires-clause-few = grind (arith, common_steps)
+
+pub overflow-requires-clause-none : goal.overflow-requires-clause-none
+overflow-requires-clause-none = grind (arith, common_steps)
+
+pub reopen-requires-clause-count : goal.reopen-requires-clause-count
+reopen-requires-clause-count = grind (arith, common_steps)
+
+pub reopen-requires-clause-none : goal.reopen-requires-clause-none
+reopen-requires-clause-none = grind (arith, common_steps)
+
+pub returns-in_ok-reopen-in-None-clause-given : goal.returns-in_ok-reopen-in-None-clause-given
+returns-in_ok-reopen-in-None-clause-given = grind (arith, common_steps)
+
+pub returns-in_ok-reopen-in-None-clause-logs : goal.returns-in_ok-reopen-in-None-clause-logs
+returns-in_ok-reopen-in-None-clause-logs = grind (arith, common_steps)

@@ -1,4 +1,5 @@
-use Rattle.std.proofs.Common.{true, ◌+◌, ◌++◌, ◌∷◌, ◌∙◌, [], List, length, ap, sym, subst}
+use Rattle.std.proofs.lemmas.Grind.{common_steps}
+use Rattle.std.proofs.Common.{true, ◌+◌, ◌++◌, ◌∷◌, ◌∙◌, [], List, length, ap, sym, subst, arith}
 use Rattle.superstep_memory.specs.PathOrder.{in_path_order}
 use Rattle.phase_records.specs.PrintValue.{PrintValue}
 use Rattle.phase_records.specs.declared.record.PhaseRecord.{PhaseRecord}
@@ -89,3 +90,24 @@ print_and_renew-requires-clause-stay g c = (
   sym (ap (λ (r : PhaseRecord). r.left) c.requires.counts) ∙ c.requires.stays.0,
   sym (ap (λ (r : PhaseRecord). r.spawned) c.requires.counts) ∙ c.requires.stays.1,
 )
+
+pub invariant_of-self-in-Some : goal.invariant_of-self-in-Some
+invariant_of-self-in-Some = grind (arith, common_steps)
+
+pub invariant_of-self-in_err-place : goal.invariant_of-self-in_err-place
+invariant_of-self-in_err-place = grind (arith, common_steps)
+
+pub overflow-requires-clause-none : goal.overflow-requires-clause-none
+overflow-requires-clause-none = grind (arith, common_steps)
+
+pub reopen-requires-clause-count : goal.reopen-requires-clause-count
+reopen-requires-clause-count = grind (arith, common_steps)
+
+pub reopen-requires-clause-none : goal.reopen-requires-clause-none
+reopen-requires-clause-none = grind (arith, common_steps)
+
+pub returns-in_ok-reopen-in-None-clause-given : goal.returns-in_ok-reopen-in-None-clause-given
+returns-in_ok-reopen-in-None-clause-given = grind (arith, common_steps)
+
+pub returns-in_ok-reopen-in-None-clause-logs : goal.returns-in_ok-reopen-in-None-clause-logs
+returns-in_ok-reopen-in-None-clause-logs = grind (arith, common_steps)

@@ -1,4 +1,5 @@
-use Rattle.std.proofs.Common.{◌≡◌, ◌∙◌, None, length, ap, sym, subst}
+use Rattle.std.proofs.lemmas.Grind.{common_steps}
+use Rattle.std.proofs.Common.{◌≡◌, ◌∙◌, None, length, ap, sym, subst, arith}
 use Rattle.std.proofs.lemmas.List.{length-map}
 use Rattle.phase_records.specs.Status.{Limit}
 use Rattle.program_stretches.specs.Parts.{reading_of}
@@ -33,3 +34,6 @@ returns-clause-count g c =
     (λ l f there.
     sym (length-map l.ran.tasks.items (m v.program).meant) ∙ ap length (sym (still_live m v h run there l.ran.tasks.items f.tasks))
     ∙ sym h.after.count)
+
+pub returns-clause-some : goal.returns-clause-some
+returns-clause-some = grind (arith, common_steps)
