@@ -1,4 +1,5 @@
-use Rattle.std.proofs.Common.{◌≡◌, ◌∙◌, sym, ap, ℤ, Result, Ok, rules, w64, FitsSigned, to_z, of_z}
+use Rattle.std.proofs.lemmas.Grind.{common_steps}
+use Rattle.std.proofs.Common.{◌≡◌, ◌∙◌, sym, ap, ℤ, Result, Ok, rules, w64, FitsSigned, to_z, of_z, arith}
 use Rattle.std.proofs.lemmas.Int.{to_z-of_z}
 use Rattle.std.proofs.lemmas.Result.{IfOk-weaker}
 use Rattle.task_lang.specs.declared.fault.Fault.{Fault}
@@ -16,3 +17,6 @@ returns-in-Ok-value_of c =
     IfOk-weaker c.spawn.result _ _ (λ t h. h
     ∙ ap (λ (r : Result ℤ Fault). spec.with_ok r (spec.spawn s d c.in-Spawn.body)) v
     ∙ ap (spec.act s d) (sym c.in-Spawn.is)) (c.spawn.ensures c.args.locals.now)
+
+pub returns-in_ok-push-in-Ok : goal.returns-in_ok-push-in-Ok
+returns-in_ok-push-in-Ok = grind (arith, common_steps)
