@@ -7,7 +7,7 @@ use crate::answers::TreeEnded;
 use crate::shared::OnAdvance;
 use crate::tree::Guest;
 use std::sync::Wait;
-use std::thread;
+use tier_calls::Pauses;
 use tier_calls::tiers::Tiers;
 use tier_calls::tokens::Door;
 
@@ -17,6 +17,7 @@ fn await_phase<R: Wait>(tiers: &Tiers, rt: &R, door: &mut Door, phase: u32) -> R
     ensures tree { door.new.tree ≡ door.old.tree }
     ensures answer { SeesPhase phase door.old door.new result }
 {
+    let mut pauses = Pauses::new();
     for _ in rt.forever() {
         match tiers.watch(door) {
             Ok(now) => {
@@ -26,7 +27,7 @@ fn await_phase<R: Wait>(tiers: &Tiers, rt: &R, door: &mut Door, phase: u32) -> R
             }
             Err(shown) => return Err(shown),
         }
-        thread::yield_now();
+        tiers.pause(rt, &mut pauses);
     }
     unreachable!()
 }

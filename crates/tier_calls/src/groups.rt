@@ -427,8 +427,9 @@ impl Tiers {
         let tier = group.view.tier;
         let next = step_word(Kind::Refresh, tier, word, &group.view);
         group.found = None;
-        if let Some(other) = self.go_together::<Brand>(&mut group.seat, tier, word, next) {
-            group.view = view_glanced(tier, other, group.view);
+        match self.go_together::<Brand>(&mut group.seat, tier, word, next) {
+            None => self.sleepers.wake(),
+            Some(other) => group.view = view_glanced(tier, other, group.view),
         }
     }
 

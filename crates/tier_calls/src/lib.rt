@@ -76,5 +76,7 @@ pub mod tiers;
 pub mod tokens;
 mod writing;
 
+pub use sleepers::Pauses;
+
 /// The number of tries that is enough for every call if no other token takes a step meanwhile.
 pub const TRIES: u32 = 16;

@@ -17,8 +17,10 @@ use crate::writing::step_in;
 use advance_rule::EndPlan;
 use atomic_table::{Seat, Table};
 use phaser_word::{LAST_PHASE, Word};
+use sleepers::{Pauses, Sleepers};
 use std::alloc::{AllocError, Global};
 use std::marker::{Brand, Model};
+use std::sync::Wait;
 use tier_core::turn::above;
 use tier_rule::look::look_for;
 use tier_rule::rule::{Cuts, Joins, Keyed, Looks, LooksTogether, Meant, Parts, Rule, Sits, Tries};
@@ -34,7 +36,12 @@ use tier_steps::view::View;
 pub struct Tiers {
     pub(crate) table: Table<Kind, Sights, Key, Rule, Global>,
     key: Key,
+    // Who waits for an advance or the end of the tree, or until a tier takes newcomers again.
+    pub(crate) sleepers: Sleepers,
 }
+
+// A thread that waits lets others run after each look: looks without a break at the root's word slow down those who arrive.
+const NO_SPINS: u32 = 0;
 
 impl Model for Tiers {
     ghost use Rattle.tier_calls.specs.Holding.{Named, IsTable};
@@ -69,7 +76,11 @@ impl Tiers {
         let (table, seat) = Table::of_words(alloc, &numbers, &key)?;
         let view = View::new(phase);
         Ok((
-            Tiers { table, key },
+            Tiers {
+                table,
+                key,
+                sleepers: Sleepers::new(NO_SPINS),
+            },
             Seated {
                 seat,
                 view,
@@ -196,6 +207,7 @@ impl Tiers {
         if found == old {
             step_in(kind, tier, above, word, &mut token.view);
             token.word = next;
+            self.tell_of(kind);
             true
         } else {
             let other = Seen::at(found);
@@ -205,6 +217,24 @@ impl Tiers {
             token.word = other;
             false
         }
+    }
+
+    /// Wakes those who may wait for a step of this kind: it advances or ends the tree, or a tier takes newcomers again.
+    #[inline(always)]
+    fn tell_of(&self, kind: Kind) {
+        match kind {
+            Kind::Advance(_)
+            | Kind::Force
+            | Kind::Refresh
+            | Kind::Settle { .. }
+            | Kind::SettleBack { .. } => self.sleepers.wake(),
+            _ => {}
+        }
+    }
+
+    /// Waits for a while, or until a step was taken for which others may wait. Look at the tree again after each pause.
+    pub fn pause<R: Wait>(&self, rt: &R, pauses: &mut Pauses) {
+        self.sleepers.pause(rt, pauses);
     }
 
     /// Makes a token of a new seat, by a first load of the root. `J` names the tree, for the table's rule.

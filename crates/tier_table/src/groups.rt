@@ -19,13 +19,13 @@ use crate::waiting::{ArrivedAtLast, AwaitedAdvance, resume_wait};
 use advance_rule::StoredAdvance;
 use std::sync::Wait;
 use std::thread;
-use tier_calls::TRIES;
 use tier_calls::arriving_with::ArrivedWith;
 use tier_calls::finishing::Finished;
 pub use tier_calls::groups::{ArrivedAll, Group};
 use tier_calls::polling::Polled;
 use tier_calls::tiers::Tiers;
 use tier_calls::tokens::{Door, Errand};
+use tier_calls::{Pauses, TRIES};
 
 /// The answer of an arrival of a whole group that waits until it is counted.
 #[derive(Drop)]
@@ -198,12 +198,13 @@ pub fn await_advance_all<R: Wait>(tiers: &Tiers, rt: &R, group: &mut Group) -> A
 {
     // For the prover: each token has one member.
     let _ = group.size();
+    let mut pauses = Pauses::new();
     for _ in rt.forever() {
         match tiers.poll_all(group) {
             Polled::Passed(phase) => return AwaitedAdvance::Passed(phase),
             Polled::Here(phase) => return AwaitedAdvance::Here(phase),
             Polled::Ended(shown) => return AwaitedAdvance::Ended(shown),
-            Polled::Waiting => thread::yield_now(),
+            Polled::Waiting => tiers.pause(rt, &mut pauses),
         }
     }
     unreachable!()

@@ -1,5 +1,6 @@
 //! Calls that wait. Each repeats a call of the tree, [`TRIES`] tries at a time, until it has an answer that lasts, and
-//! lets other threads run in between. That such a call returns is not part of its contract: others may hold a tier for
+//! lets other threads run in between. What waits for an advance, or until a tier takes newcomers, sleeps after some time; the
+//! step that ends that wakes it (`Tiers::pause`). That such a call returns is not part of its contract: others may hold a tier for
 //! ever.
 //!
 //! The functions take the tiers, and the rule if an advance may be due. [`Tree`] passes both.
@@ -22,13 +23,13 @@ use crate::tree::Tree;
 use advance_rule::StoredAdvance;
 use std::sync::Wait;
 use std::thread;
-use tier_calls::TRIES;
 use tier_calls::arriving::{Arrived, Resumed};
 use tier_calls::in_place::ArrivedInPlace;
 use tier_calls::joining::{Opened, Registered};
 use tier_calls::polling::Polled;
 use tier_calls::tiers::Tiers;
 use tier_calls::tokens::{Crew, Door, Errand, Opening};
+use tier_calls::{Pauses, TRIES};
 use tier_steps::view::Passage;
 
 /// The answer of a registration that waits.
@@ -94,13 +95,14 @@ pub fn open_wait<R: Wait>(tiers: &Tiers, rt: &R, opening: Opening) -> Result<Reg
 }
 
 // Tries once to register `members` members. If the tier is empty, opens the path to it. Returns the door as an error if
-// the members may not join now, or the tries were used up.
+// the members may not join now, or the tries were used up. Nobody wakes a thread after that, so the pauses begin anew.
 fn join_once<R: Wait>(
     tiers: &Tiers,
     rt: &R,
     door: Door,
     tier: u16,
     members: u32,
+    pauses: &mut Pauses,
 ) -> Result<RegisteredAtLast, Door>
     requires own { door.tree ≡ tiers.now }
     requires tier { tier < length tiers.now.key.shape }
@@ -114,7 +116,11 @@ fn join_once<R: Wait>(
         Registered::Joined(crew, phase) => Ok(RegisteredAtLast::Joined(crew, phase)),
         Registered::Full(next, count) => Ok(RegisteredAtLast::Full(next, count)),
         Registered::Ended(next, shown) => Ok(RegisteredAtLast::Ended(next, shown)),
-        Registered::Held(next, _, _) | Registered::Busy(next) => Err(next),
+        Registered::Held(next, _, _) => Err(next),
+        Registered::Busy(next) => {
+            pauses.restart();
+            Err(next)
+        }
         Registered::Owing(opening) => open_wait(tiers, rt, opening),
     }
 }
@@ -138,12 +144,13 @@ pub fn register_wait<R: Wait>(
     ensures ended { (phase : ℕ) → door.view.end_seen ≡ Some phase → HasEndedJoin result }
 {
     let mut door = door;
+    let mut pauses = Pauses::new();
     for _ in rt.forever() {
-        match join_once(tiers, rt, door, tier, members) {
+        match join_once(tiers, rt, door, tier, members, &mut pauses) {
             Ok(answer) => return answer,
             Err(next) => door = next,
         }
-        thread::yield_now();
+        tiers.pause(rt, &mut pauses);
     }
     unreachable!()
 }
@@ -274,12 +281,13 @@ pub fn await_advance<R: Wait>(tiers: &Tiers, rt: &R, crew: &mut Crew) -> Awaited
 {
     // For the prover: a crew has members.
     let _ = crew.size();
+    let mut pauses = Pauses::new();
     for _ in rt.forever() {
         match tiers.poll(crew) {
             Polled::Passed(phase) => return AwaitedAdvance::Passed(phase),
             Polled::Here(phase) => return AwaitedAdvance::Here(phase),
             Polled::Ended(shown) => return AwaitedAdvance::Ended(shown),
-            Polled::Waiting => thread::yield_now(),
+            Polled::Waiting => tiers.pause(rt, &mut pauses),
         }
     }
     unreachable!()

@@ -25,9 +25,10 @@ use cyclic_gate::CyclicGate;
 use ghost_lists::tickets::TicketList;
 use program_stretches::{Left, Stretches};
 use programs::program::TaskLoop;
+use sleepers::Sleepers;
 use std::alloc::{AllocError, Global};
 use std::marker::Brand;
-use std::sync::{Condvar, Mutex, Wait};
+use std::sync::{Mutex, Wait};
 use std::thread;
 use std::thread::Threads;
 use stretch_queue::fault::{Refused, WorkerFault};
@@ -226,9 +227,8 @@ where
     let mut own = OwnToken::new(door);
     let shared = Shared {
         queue: Mutex::new(queue),
-        changed: Condvar::new(),
         published: Published::new(),
-        spins: spins_of(rt, setup.workers),
+        sleepers: Sleepers::new(spins_of(rt, setup.workers)),
         lanes,
         tree,
     };

@@ -6,9 +6,9 @@ use crate::published::{OVER, Published};
 use crate::tree::WorkerTree;
 use program_stretches::Left;
 use programs::program::TaskLoop;
+use sleepers::{Pauses, Sleepers};
 use std::alloc::Global;
-use std::hint::spin_loop;
-use std::sync::{Condvar, Mutex, Wait};
+use std::sync::{Mutex, Wait};
 use stretch_queue::fault::{Refused, WorkerFault};
 use stretch_queue::hand::{HeldStretch, RanStretch};
 use stretch_queue::hook::{Hook, Lines};
@@ -34,11 +34,10 @@ pub(crate) enum Next<'p, P: TaskLoop, L: Lines, J: Running> {
 #[derive(Drop)]
 pub(crate) struct Shared<'t, 'p, P: TaskLoop, H: Hook<P>, J: Running, F: Fn(u32, u32) -> bool> {
     pub(crate) queue: Mutex<Queue<'t, 'p, P, H, J>>,
-    pub(crate) changed: Condvar,
     // Written under the lock of the queue, once the inboxes are filled.
     pub(crate) published: Published,
-    // How often a worker looks at it before it sleeps.
-    pub(crate) spins: u32,
+    // The workers that wait until something else is published.
+    pub(crate) sleepers: Sleepers,
     // By the number of a worker.
     pub(crate) lanes: Vec<Lane<'p, P, H, J>>,
     pub(crate) tree: WorkerTree<J, F>,
@@ -63,7 +62,7 @@ impl<'t, 'p, P: TaskLoop, H: Hook<P>, J: Running, F: Fn(u32, u32) -> bool> Share
     // Publishes the superstep of the stretches that were handed out, or that workers must stop, and wakes all that wait for it.
     fn publish(&self, queue: &Queue<'t, 'p, P, H, J>) {
         self.published.publish(queue);
-        self.changed.notify_all();
+        self.sleepers.wake();
     }
 
     // Hands out the ready stretches, to each worker those of its range, and publishes their superstep.
@@ -99,17 +98,14 @@ impl<'t, 'p, P: TaskLoop, H: Hook<P>, J: Running, F: Fn(u32, u32) -> bool> Share
 
     // Waits until something else than this is published.
     fn wait<R: Wait>(&self, rt: &R, seen: u64) {
-        let published = &self.published;
-        for _ in 0..self.spins {
-            if published.look() != seen {
+        let mut pauses = Pauses::new();
+        for _ in rt.forever() {
+            if self.published.look() != seen {
                 return;
             }
-            spin_loop();
+            self.sleepers.pause(rt, &mut pauses);
         }
-        let queue = self.queue.lock(rt);
-        let _queue = self
-            .changed
-            .wait_while(rt, queue, |_queue| { published.look() == seen });
+        unreachable!()
     }
 
     /// Returns what a worker does next. Waits until a stretch is to be run, or workers must stop.
@@ -275,9 +271,8 @@ impl<'t, 'p, P: TaskLoop, H: Hook<P>, J: Running, F: Fn(u32, u32) -> bool> Share
     {
         let Shared {
             queue,
-            changed: _,
             published: _,
-            spins: _,
+            sleepers: _,
             lanes: _,
             tree: _,
         } = self;

@@ -12,12 +12,6 @@ use Rattle.tier_table.specs.AtLast.{HasSplit}
 use Rattle.tier_table.proofs.Lasting.{opens_for, refused_for, entered_more, watched_enters}
 use Rattle.tier_table.proofs.waiting.join_once.Goals as goal
 
--- a registration that is held off, or ran out of tries
-held_off : (r : Registered) (h : Holding) (old : List Kind) → ((phase : ℕ) × (cause : Cause) × (r ≡ Held h phase cause)) ⊎ (r ≡ Busy h)
-    → EnteredBy r old (token_of r).steps → HasEntered old h.steps
-held_off r h old (inl e) m = subst (λ (s : Registered). EnteredBy s old (token_of s).steps) e.2 m
-held_off r h old (inr e) m = watched_enters (subst (λ (s : Registered). EnteredBy s old (token_of s).steps) e m)
-
 pub join-requires-clause-own : goal.join-requires-clause-own
 join-requires-clause-own g c = c.requires.own
 
@@ -78,5 +72,5 @@ returns-in-Owing g c =
       ended = λ p e. absurd (c.in-Owing.ensures.ended p e);
     }
 
-pub returns-in-Held-clause-made : goal.returns-in-Held-clause-made
-returns-in-Held-clause-made g c = held_off c.join.result c.in-Held.next c.args.door.steps c.in-Held.is c.join.ensures.made
+pub returns-in-Busy-clause-made : goal.returns-in-Busy-clause-made
+returns-in-Busy-clause-made g c = watched_enters c.in-Busy.ensures.made
