@@ -10,8 +10,8 @@
 //! loaded it, or another that was faster, makes it even, one more than it was, and wakes all. Who hasn't begun to sleep by then
 //! finds another number, and looks again. The number grows, so that nobody who was slow takes a later odd number for its own.
 //!
-//! No clause says so, as no clause says that a thread waits or goes on. `bench/sleepers.py` tries every order of the steps of two that
-//! wake and three that wait; tests try threads.
+//! No clause says so, as no clause says that a thread waits or goes on. `tools/sleepers` tries every order of the steps of two threads
+//! that wake others and three that wait; tests try threads.
 //!
 //! # How long a call waits
 //!
