@@ -9,7 +9,8 @@ use phasers::tree::{EndPlan, Forced, Guest, Party, PhaserTree};
 use sleepers::{Pauses, Sleepers};
 use std::process::Abort;
 use std::sync::Wait;
-use std::thread;
+use std::sync::atomic::{AtomicU64, Ordering};
+use std::thread::{self, Threads};
 use std::time::{Clock, Duration};
 use test_groups::rules::{Rule, WHEN_EMPTY, is_empty};
 use tier_table::joining::{Opened, Registered};
@@ -17,8 +18,10 @@ use tier_table::tokens::{Door, Opening};
 use tier_table::tree::Tree;
 use tier_table::waiting::RegisteredAtLast;
 
-// Long enough for a thread that waits to fall asleep.
-const WHILE: Duration = Duration::from_millis(60);
+// Sleeps long enough for a thread that waits to fall asleep.
+fn sleeps_a_while<R: Clock>(rt: &R) {
+    thread::sleep(rt, Duration::from_millis(60));
+}
 
 // Meets the others, and returns the phase after that, or a number below 0 if the tree has ended.
 fn meets<R: Wait>(rt: &R, mut party: Party<'_>) -> i64 {
@@ -27,7 +30,7 @@ fn meets<R: Wait>(rt: &R, mut party: Party<'_>) -> i64 {
 
 // Does the same after a while.
 fn meets_late<R: Wait + Clock>(rt: &R, party: Party<'_>) -> i64 {
-    thread::sleep(rt, WHILE);
+    sleeps_a_while(rt);
     meets(rt, party)
 }
 
@@ -53,7 +56,7 @@ fn an_advance_wakes(rt: HostRuntime) {
 
 // Ends the tree after a while. Returns true if that was done.
 fn ends_late<R: Clock>(rt: &R, mut guest: Guest<'_>) -> bool {
-    thread::sleep(rt, WHILE);
+    sleeps_a_while(rt);
     matches!(guest.force(16), Forced::Ended(_))
 }
 
@@ -76,7 +79,7 @@ fn joins<R: Wait>(rt: &R, guest: Guest<'_>) -> i64 {
 // After a while the second party advances the tree, and after another the first one brings its leaf into the new phase.
 fn catches_up<R: Wait + Clock>(rt: &R, mut first: Party<'_>, second: Party<'_>) -> i64 {
     let met = meets_late(rt, second);
-    thread::sleep(rt, WHILE);
+    sleeps_a_while(rt);
     let _ = first.poll();
     met
 }
@@ -104,36 +107,44 @@ fn registers<R: Wait>(rt: &R, tree: &Tree<Rule>, door: Door, tier: u16) -> u32
 }
 
 // Resumes a registration after a while. Returns the same numbers.
-fn resumes_late<R: Clock>(rt: &R, tree: &Tree<Rule>, opening: Opening) -> u32
+fn resumes_late<R: Clock + Abort>(rt: &R, tree: &Tree<Rule>, opening: Opening) -> u32
     requires own { opening.token.tree ≡ tree.now.tree }
 {
-    thread::sleep(rt, WHILE);
+    sleeps_a_while(rt);
     match tree.resume_opening(opening, 16) {
         Opened::Joined(_, phase) => phase,
         Opened::Full(_, parties) => parties,
-        _ => u32::MAX,
+        _ => panic!(rt; "16 tries are enough"),
     }
 }
 
-// Two threads register at a tier. The first has claimed it, and goes on after a while. Returns what both return.
+// A thread claims a tier by one try, and goes on after a while. Meanwhile another one registers there. Adds up what both return.
 fn two_register<R: Threads + Wait + Clock + Abort + Sync>(
     rt: &R,
     tree: &Tree<Rule>,
     first: Door,
     second: Door,
     tier: u16,
-) -> (u32, u32)
+) -> u64
     requires own { (first.tree ≡ tree.now.tree) × (second.tree ≡ tree.now.tree) }
     requires tier { tier < length tree.now.tree.key.shape }
 {
-    match tree.register(first, tier, 1, 1) {
-        Registered::Owing(opening) => thread::join(
-            rt,
-            || registers(rt, tree, second, tier),
-            || resumes_late(rt, tree, opening),
-        ),
-        _ => panic!(rt; "one try claims the tier"),
-    }
+    let sum = AtomicU64::new(0);
+    let shared = &sum;
+    thread::scope(thread::scope_env(), rt, |scope| {
+        match tree.register(first, tier, 1, 1) {
+            Registered::Owing(opening) => {
+                let _ = scope.spawn(move || {
+                    let got = registers(rt, tree, second, tier);
+                    shared.fetch_add(u64::from(got), Ordering::SeqCst);
+                });
+                let got = resumes_late(rt, tree, opening);
+                shared.fetch_add(u64::from(got), Ordering::SeqCst);
+            }
+            _ => panic!(rt; "one try claims the tier"),
+        }
+    });
+    sum.load(Ordering::SeqCst)
 }
 
 #[test]
@@ -142,7 +153,7 @@ fn a_tier_that_opens_wakes(rt: HostRuntime) {
     let (tree, mut first) = planted(&rt, rt.alloc(), "2", 0, rule);
     let second = tree.split(&mut first);
     assert!(rt; tree.shape().count() == 3);
-    assert!(rt; two_register(&rt, &tree, first, second, 1) == (0, 0));
+    assert!(rt; two_register(&rt, &tree, first, second, 1) == 0);
 }
 
 #[test]
@@ -154,7 +165,7 @@ fn a_tier_that_is_given_back_wakes(rt: HostRuntime) {
     assert!(rt; tree.shape().count() == 3);
     let filled = tree.register_wait(&rt, full, 1, 65535);
     assert!(rt; matches!(filled, RegisteredAtLast::Joined(_, 0)));
-    assert!(rt; two_register(&rt, &tree, first, second, 2) == (65535, 65535));
+    assert!(rt; two_register(&rt, &tree, first, second, 2) == 131070);
 }
 
 // Pauses until the next pause would sleep: 64 times it lets others run, and then it marks the word for the last look. A pause that
