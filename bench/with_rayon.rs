@@ -19,23 +19,33 @@ fn rod(supersteps: usize) -> Vec<i64> {
     cells
 }
 
+const WIDTH: usize = 512;
+
+/// A row of the game of life from three rows: first the sums of columns, then those of three columns.
+fn live(to: &mut [i64], above: &[i64], own: &[i64], below: &[i64]) {
+    let mut sums = [0i64; WIDTH + 2];
+    for (sum, ((above, own), below)) in sums[1..=WIDTH].iter_mut().zip(above.iter().zip(own).zip(below)) {
+        *sum = above + own + below;
+    }
+    for ((cell, own), three) in to.iter_mut().zip(own).zip(sums.windows(3)) {
+        let around = three[0] + three[1] + three[2];
+        *cell = i64::from(around == 3) | i64::from(around == 4) & own;
+    }
+}
+
 fn life(supersteps: usize) -> Vec<i64> {
-    const WIDTH: usize = 512;
     let mut cells = vec![0i64; WIDTH * WIDTH];
     for place in [130_817, 130_818, 131_328, 131_329, 131_841] {
         cells[place] = 1;
     }
     let mut next = cells.clone();
+    let empty = [0i64; WIDTH];
     for _ in 0..supersteps {
         next.par_chunks_mut(WIDTH * 32).enumerate().for_each(|(block, part)| {
-            let at = |row: usize, column: usize| if row < WIDTH && column < WIDTH { cells[row * WIDTH + column] } else { 0 };
-            for (row, line) in part.chunks_mut(WIDTH).enumerate() {
+            let at = |row: usize| if row < WIDTH { &cells[row * WIDTH..(row + 1) * WIDTH] } else { &empty };
+            for (row, line) in part.chunks_exact_mut(WIDTH).enumerate() {
                 let row = block * 32 + row;
-                for (column, cell) in line.iter_mut().enumerate() {
-                    let three = |row| at(row, column.wrapping_sub(1)) + at(row, column) + at(row, column + 1);
-                    let around = three(row.wrapping_sub(1)) + three(row) + three(row + 1);
-                    *cell = i64::from(around == 3 || around == 4 && at(row, column) == 1);
-                }
+                live(line, at(row.wrapping_sub(1)), at(row), at(row + 1));
             }
         });
         std::mem::swap(&mut cells, &mut next);

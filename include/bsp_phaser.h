@@ -48,8 +48,10 @@ enum {
     BSP_FULL = 4,
     BSP_NOBODY_UNARRIVED = 5,
     BSP_NEGATIVE = 6,
-    /* of bsp_shared_arrive_and_wait alone: the phaser ended before all had arrived */
-    BSP_ENDED = 7
+    /* of bsp_shared_arrive_and_wait and bsp_shared_arrive_and_wait_for: the phaser ended before all had arrived */
+    BSP_ENDED = 7,
+    /* of bsp_shared_await_for and bsp_shared_arrive_and_wait_for: the time has passed, and the phase isn't over */
+    BSP_TIMED_OUT = 8
 };
 
 /* as `at`: no phase ends the phaser (as any number above 2147483647) */
@@ -119,19 +121,35 @@ typedef _Atomic(uint64_t) bsp_word;
 #define BSP_YIELD() ((void)0)
 #endif
 
-#if defined(__linux__) && !defined(BSP_NO_SLEEP)
+#include <time.h>
+#if defined(__linux__)
 #include <sys/syscall.h>
 #include <unistd.h>
 #ifndef __cplusplus
 long syscall(long number, ...);
 #endif
-#ifdef BSP_WORD_BETWEEN_PROCESSES
-#define BSP_FUTEX(word, what, number) ((void)syscall(SYS_futex, bsp_word_phase_(word), what, number, (void *)0))
-#else
-#define BSP_FUTEX(word, what, number) ((void)syscall(SYS_futex, bsp_word_phase_(word), (what) | 128, number, (void *)0))
 #endif
-#define BSP_SLEEP(word, seen) BSP_FUTEX(word, 0, (uint32_t)((seen) >> 32))
-#define BSP_WAKE(word) BSP_FUTEX(word, 1, INT32_MAX)
+
+/* nanoseconds since some moment: on Linux of a clock that never goes back, elsewhere of the clock of the day */
+static inline int64_t bsp_now_(void) {
+    struct timespec now = {0, 0};
+#if defined(__linux__)
+    (void)syscall(SYS_clock_gettime, 1, &now);
+#else
+    (void)timespec_get(&now, TIME_UTC);
+#endif
+    return (int64_t)now.tv_sec * 1000000000 + now.tv_nsec;
+}
+
+#if defined(__linux__) && !defined(BSP_NO_SLEEP)
+#ifdef BSP_WORD_BETWEEN_PROCESSES
+#define BSP_FUTEX(word, what, number, time) ((void)syscall(SYS_futex, bsp_word_phase_(word), what, number, time))
+#else
+#define BSP_FUTEX(word, what, number, time) ((void)syscall(SYS_futex, bsp_word_phase_(word), (what) | 128, number, time))
+#endif
+#define BSP_SLEEP(word, seen) BSP_FUTEX(word, 0, (uint32_t)((seen) >> 32), (void *)0)
+#define BSP_SLEEP_FOR(word, seen, nanoseconds) bsp_word_sleep_for_(word, seen, nanoseconds)
+#define BSP_WAKE(word) BSP_FUTEX(word, 1, INT32_MAX, (void *)0)
 /* the half of the word that has the phase and the end */
 static inline void *bsp_word_phase_(bsp_word *word) {
 #if defined(__BYTE_ORDER__) && __BYTE_ORDER__ == __ORDER_BIG_ENDIAN__
@@ -140,8 +158,16 @@ static inline void *bsp_word_phase_(bsp_word *word) {
     return (void *)((char *)(void *)word + 4);
 #endif
 }
+/* sleeps while phase and end are as they were seen, but no longer than this */
+static inline void bsp_word_sleep_for_(bsp_word *word, uint64_t seen, int64_t nanoseconds) {
+    struct timespec time;
+    time.tv_sec = (time_t)(nanoseconds / 1000000000);
+    time.tv_nsec = (long)(nanoseconds % 1000000000);
+    BSP_FUTEX(word, 0, (uint32_t)(seen >> 32), &time);
+}
 #else
 #define BSP_SLEEP(word, seen) BSP_YIELD()
+#define BSP_SLEEP_FOR(word, seen, nanoseconds) BSP_YIELD()
 #define BSP_WAKE(word) ((void)(word))
 #endif
 
@@ -199,23 +225,60 @@ static inline int32_t bsp_shared_await(bsp_word *word, int32_t phase, int32_t *a
     }
 }
 
+/* The same, but waits no longer than this: BSP_TIMED_OUT if the phase isn't over by then, as after a single look for 0 or less. The
+ * party has arrived all the same: wait again, or call bsp_phaser_unarrived to see how many haven't arrived. */
+static inline int32_t bsp_shared_await_for(bsp_word *word, int32_t phase, int64_t nanoseconds, int32_t *answer) {
+    int64_t now = bsp_now_(), end = nanoseconds > INT64_MAX - now ? INT64_MAX : now + nanoseconds;
+    for (unsigned turn = 0;; turn += turn < 80) {
+        uint64_t seen = bsp_word_get(word);
+        int32_t status = bsp_phaser_await(seen, phase, answer);
+        if (status != BSP_WAITING) return status;
+        if (nanoseconds <= 0) return BSP_TIMED_OUT;
+        if (turn < 60) continue;
+        now = bsp_now_();
+        if (now >= end) return BSP_TIMED_OUT;
+        if (turn == 80) BSP_SLEEP_FOR(word, seen, end - now);
+        else BSP_YIELD();
+    }
+}
+
+/* one party arrives: how many were unarrived before, and the phase */
+static inline int32_t bsp_word_arrive_(bsp_word *word, uint32_t least, int32_t *before, int32_t *phase) {
+    uint64_t old = bsp_word_get(word), next;
+    for (;;) {
+        int32_t status = bsp_phaser_arrive(old, least, BSP_NEVER, &next, phase);
+        if (status != BSP_DONE) return status;
+        if (*phase < 0) return BSP_ENDED;
+        (void)bsp_phaser_unarrived(old, before);
+        if (bsp_word_exchange_(word, &old, next)) return BSP_DONE;
+    }
+}
+
+/* the arrival index of a party that has waited for the phase to pass, or -BSP_ENDED if the phaser ended in it */
+static inline int32_t bsp_word_index_(int32_t before, int32_t phase, int32_t now) {
+    if (now < 0 && now + INT32_MAX + 1 == phase) return -BSP_ENDED;
+    return before - 1;
+}
+
 /* The cyclic barrier: arrives, waits for the phase to pass, and returns the arrival index, as Java's
  * CyclicBarrier.await does: parties - 1 for the first to arrive, 0 for the last. Otherwise the negative of a status:
  * -BSP_NO_WORD, -BSP_NOBODY_UNARRIVED, or -BSP_ENDED if the phaser ended before all had arrived. */
 static inline int32_t bsp_shared_arrive_and_wait(bsp_word *word, uint32_t least) {
-    uint64_t old = bsp_word_get(word), next;
-    int32_t phase, before, now, status;
-    for (;;) {
-        status = bsp_phaser_arrive(old, least, BSP_NEVER, &next, &phase);
-        if (status != BSP_DONE) return -status;
-        if (phase < 0) return -BSP_ENDED;
-        (void)bsp_phaser_unarrived(old, &before);
-        if (bsp_word_exchange_(word, &old, next)) break;
-    }
+    int32_t before, phase, now, status = bsp_word_arrive_(word, least, &before, &phase);
+    if (status != BSP_DONE) return -status;
     status = bsp_shared_await(word, phase, &now);
     if (status != BSP_DONE) return -status;
-    if (now < 0 && now + INT32_MAX + 1 == phase) return -BSP_ENDED;
-    return before - 1;
+    return bsp_word_index_(before, phase, now);
+}
+
+/* The same, but waits no longer than this: -BSP_TIMED_OUT if some haven't arrived by then. The caller has arrived, so don't call it
+ * again in this phase; who means to wait again calls bsp_shared_arrive and bsp_shared_await_for instead. */
+static inline int32_t bsp_shared_arrive_and_wait_for(bsp_word *word, uint32_t least, int64_t nanoseconds) {
+    int32_t before, phase, now, status = bsp_word_arrive_(word, least, &before, &phase);
+    if (status != BSP_DONE) return -status;
+    status = bsp_shared_await_for(word, phase, nanoseconds, &now);
+    if (status != BSP_DONE) return -status;
+    return bsp_word_index_(before, phase, now);
 }
 
 #endif

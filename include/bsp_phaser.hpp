@@ -5,7 +5,9 @@
 #define BSP_PHASER_HPP
 
 #include "bsp_phaser.h"
+#include <chrono>
 #include <cstddef>
+#include <optional>
 #include <stdexcept>
 
 namespace bsp {
@@ -39,6 +41,19 @@ class phaser {
         if (status != BSP_DONE) throw refused(status);
     }
 
+    static std::ptrdiff_t index_of(std::int32_t index) {
+        if (index == -BSP_ENDED) throw ended();
+        if (index < 0) throw refused(-index);
+        return index;
+    }
+
+    // Rounded up, so that a limit above 0 stays above 0; at most what 64 bits hold, some 292 years.
+    template <class Rep, class Period> static std::int64_t nanoseconds(std::chrono::duration<Rep, Period> limit) {
+        using std::chrono::duration;
+        if (duration<double>(limit).count() >= 9.2e9) return INT64_MAX;
+        return std::chrono::ceil<std::chrono::nanoseconds>(limit).count();
+    }
+
 public:
     // The phase of an arrival; negative once the phaser has ended.
     using arrival_token = std::int32_t;
@@ -67,12 +82,30 @@ public:
         return now;
     }
 
+    // The same, but waits no longer than `limit`, and returns nothing if the phase isn't over by then.
+    template <class Rep, class Period>
+    std::optional<std::int32_t> wait_for(arrival_token arrival, std::chrono::duration<Rep, Period> limit) const {
+        std::int32_t now, status = bsp_shared_await_for(&word_, arrival, nanoseconds(limit), &now);
+        if (status == BSP_TIMED_OUT) return std::nullopt;
+        done(status);
+        return now;
+    }
+
+    // The same without waiting.
+    std::optional<std::int32_t> try_wait(arrival_token arrival) const { return wait_for(arrival, std::chrono::nanoseconds(0)); }
+
     // Arrives, waits for the others, and returns the arrival index: parties - 1 for the first to arrive, 0 for the last.
     std::ptrdiff_t arrive_and_wait() {
-        std::int32_t index = bsp_shared_arrive_and_wait(&word_, least_);
-        if (index == -BSP_ENDED) throw ended();
-        if (index < 0) throw refused(-index);
-        return index;
+        return index_of(bsp_shared_arrive_and_wait(&word_, least_));
+    }
+
+    // The same, but waits no longer than `limit`, and returns nothing if some haven't arrived by then. The caller has arrived all the
+    // same. Who means to wait again calls arrive and wait_for instead.
+    template <class Rep, class Period>
+    std::optional<std::ptrdiff_t> arrive_and_wait_for(std::chrono::duration<Rep, Period> limit) {
+        std::int32_t index = bsp_shared_arrive_and_wait_for(&word_, least_, nanoseconds(limit));
+        if (index == -BSP_TIMED_OUT) return std::nullopt;
+        return index_of(index);
     }
 
     // Arrives in this phase, and doesn't take part in the next ones.

@@ -1,5 +1,6 @@
 use crate::{sleep, sys};
 use std::sync::atomic::{AtomicU64, Ordering::SeqCst};
+use std::time::{Duration, Instant};
 
 /// No phase ends the phaser.
 const NEVER: u32 = u32::MAX;
@@ -17,8 +18,10 @@ pub enum Refused {
     NobodyUnarrived,
     /// Fewer than 0 parties to be added.
     Negative,
-    /// The phaser ended before all had arrived; of [`Phaser::arrive_and_wait`] alone.
+    /// The phaser ended before all had arrived; of [`Phaser::arrive_and_wait`] and [`Phaser::arrive_and_wait_timeout`] alone.
     Ended,
+    /// The time has passed, and the phase isn't over; of the calls with a limit alone.
+    TimedOut,
 }
 
 impl std::fmt::Display for Refused {
@@ -30,6 +33,7 @@ impl std::fmt::Display for Refused {
             Refused::NobodyUnarrived => "nobody is unarrived",
             Refused::Negative => "fewer than 0 parties to add",
             Refused::Ended => "the phaser has ended",
+            Refused::TimedOut => "the time has passed",
         })
     }
 }
@@ -140,6 +144,18 @@ impl Phaser {
 
     /// Waits until this phase is over: spins a little, yields, and sleeps. Answers the phase then, negative once ended.
     pub fn wait(&self, phase: i32) -> Result<i32, Refused> {
+        self.wait_until(phase, None)
+    }
+
+    /// Waits as [`Phaser::wait`], but no longer than `limit`. Answers [`Refused::TimedOut`] if the phase isn't over by then, as after a
+    /// single look for a limit of 0.
+    pub fn wait_timeout(&self, phase: i32, limit: Duration) -> Result<i32, Refused> {
+        // A time that can't be named never comes.
+        self.wait_until(phase, Instant::now().checked_add(limit))
+    }
+
+    // Waits until the phase is over, or this time has come.
+    fn wait_until(&self, phase: i32, end: Option<Instant>) -> Result<i32, Refused> {
         let mut turn = 0;
         loop {
             let seen = self.word.load(SeqCst);
@@ -148,13 +164,17 @@ impl Phaser {
             if status != 2 {
                 return told(status, answer);
             }
+            let left = end.map(|end| end.saturating_duration_since(Instant::now()));
+            if left.is_some_and(|left| left.is_zero()) {
+                return Err(Refused::TimedOut);
+            }
             turn += 1;
             match turn {
                 ..60 => std::hint::spin_loop(),
                 60..80 => std::thread::yield_now(),
                 _ => {
                     turn = 80;
-                    sleep::sleep(&self.word, seen);
+                    sleep::sleep(&self.word, seen, left);
                 }
             }
         }
@@ -170,6 +190,27 @@ impl Phaser {
     /// # Ok::<(), bsp::Refused>(())
     /// ```
     pub fn arrive_and_wait(&self) -> Result<Arrival, Refused> {
+        self.meet_until(None)
+    }
+
+    /// The same, but waits no longer than `limit`. Answers [`Refused::TimedOut`] if some haven't arrived by then: this party has
+    /// arrived all the same. Who means to wait again calls [`Phaser::arrive`] and [`Phaser::wait_timeout`] instead.
+    ///
+    /// ```
+    /// use std::time::Duration;
+    /// let phaser = bsp::Phaser::new(2)?;
+    /// let limit = Duration::from_millis(1);
+    /// assert_eq!(phaser.arrive_and_wait_timeout(limit), Err(bsp::Refused::TimedOut));
+    /// assert_eq!((phaser.parties()?, phaser.unarrived()?), (2, 1));
+    /// assert_eq!(phaser.arrive_and_wait_timeout(limit)?, bsp::Arrival { index: 0, phase: 1 });
+    /// # Ok::<(), bsp::Refused>(())
+    /// ```
+    pub fn arrive_and_wait_timeout(&self, limit: Duration) -> Result<Arrival, Refused> {
+        self.meet_until(Instant::now().checked_add(limit))
+    }
+
+    // One party arrives, and waits until all have, or this time has come.
+    fn meet_until(&self, end: Option<Instant>) -> Result<Arrival, Refused> {
         let before = std::cell::Cell::new(0);
         let phase = self.exchanged(|word, next, answer| {
             let mut unarrived = 0;
@@ -180,7 +221,7 @@ impl Phaser {
         if phase < 0 {
             return Err(Refused::Ended);
         }
-        let now = self.wait(phase)?;
+        let now = self.wait_until(phase, end)?;
         if now < 0 && now.wrapping_sub(i32::MIN) == phase {
             return Err(Refused::Ended);
         }

@@ -1,9 +1,10 @@
 -- What contracts see of a gate and of its answers.
-use Rattle.std.specs.Prelude.{◌≡◌, ℕ, true, Option, Result, Ok, Err}
+use Rattle.std.specs.Prelude.{◌≡◌, ℕ, true, Option, Result, Ok, Err, List}
 use Rattle.advance_rule.specs.Stored.{Stored}
-use Rattle.cyclic_gate.specs.Steps.{Answer, Waiting, Trips, Fails, IsBroken, Already, is_change}
+use Rattle.cyclic_gate.specs.Steps.{Answer, Waiting, Trips, Fails, Breaks, IsBroken, Already, answer, is_change}
+use Rattle.cyclic_gate.specs.Machine.{Machine}
 use Rattle.cyclic_gate.specs.Ledger.{Book, booked}
-use Rattle.cyclic_gate.specs.declared.call.Call.TheVariants.{Await}
+use Rattle.cyclic_gate.specs.declared.call.Call.TheVariants.{Await, Abandon}
 use Rattle.cyclic_gate.specs.declared.gate_state.Arrival.{Arrival}
 use Rattle.cyclic_gate.specs.declared.gate_state.Arrival.TheVariants as arrival
 use Rattle.cyclic_gate.specs.declared.gate.GateFault.{GateFault}
@@ -32,6 +33,14 @@ GivesNoTurn gate.ActionFailed (Fails others) = Unit {0}
 GivesNoTurn gate.ActionFailed _ = ⊥
 GivesNoTurn gate.AlreadyWaiting a = a ≡ Already
 GivesNoTurn gate.Memory a = is_change a ≡ true
+GivesNoTurn gate.TimedOut a = ⊥
+
+-- What a caller gets that waits for some time at a barrier in this state. If it gave up, it waited there, and its removal broke the
+-- barrier.
+abbrev pub GivesTurnFor : Option ℕ → ℕ → Result ℕ GateFault → Machine → Type 0
+GivesTurnFor fails caller (Ok index) m = GivesTurn index (answer fails (Await caller) m)
+GivesTurnFor fails caller (Err gate.TimedOut) m = (others : List ℕ) × (answer fails (Abandon caller) m ≡ Breaks others)
+GivesTurnFor fails caller (Err fault) m = GivesNoTurn fault (answer fails (Await caller) m)
 
 -- How an arrival goes on at the gate: the caller waits for the end of this generation, with its index, or goes on as the last.
 abbrev pub IsArrival : Arrival → Answer → ℕ → Type 0
@@ -45,6 +54,7 @@ RefusesArrival gate.ActionFailed (Fails others) = Unit {0}
 RefusesArrival gate.ActionFailed _ = ⊥
 RefusesArrival gate.AlreadyWaiting a = a ≡ Already
 RefusesArrival gate.Memory a = is_change a ≡ true
+RefusesArrival gate.TimedOut a = ⊥
 
 -- The ledger that an arrival leaves. If the caller waits or was the last, also if the action failed then, it is the
 -- ledger after the call; else it is as it was.
@@ -54,3 +64,4 @@ left_by (Err gate.ActionFailed) caller b = booked (Await caller) b
 left_by (Err gate.Broken) caller b = b
 left_by (Err gate.AlreadyWaiting) caller b = b
 left_by (Err gate.Memory) caller b = b
+left_by (Err gate.TimedOut) caller b = b

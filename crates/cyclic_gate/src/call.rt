@@ -18,8 +18,7 @@ pub enum Call {
     Reset,
 }
 
-/// The answer of an arrival. `tier_table` has another enum of this name: the answer of a crew that waits for the next
-/// phase of a tree.
+/// The answer of an arrival.
 #[derive(Drop)]
 pub enum AwaitedStep {
     /// The caller waits, with this arrival index. It passes when another call returns a list with its number.

@@ -4,7 +4,7 @@ ghost use Rattle.advance_rule.specs.Action.{AnswersAction};
 ghost use Rattle.cyclic_gate.specs.Steps.{answer, Breaks};
 ghost use Rattle.cyclic_gate.specs.Runs.{AfterSome};
 ghost use Rattle.cyclic_gate.specs.Seen.{RefusesAbandon};
-ghost use Rattle.cyclic_gate.specs.Gate.{GivesTurn, GivesNoTurn};
+ghost use Rattle.cyclic_gate.specs.Gate.{GivesTurn, GivesNoTurn, GivesTurnFor};
 ghost use Rattle.cyclic_gate.specs.declared.call.Call.TheVariants.{Await, Abandon, BreakOff, Reset};
 
 use crate::call::BarrierFault;
@@ -13,6 +13,7 @@ use advance_rule::StoredAction;
 use std::alloc::Global;
 use std::marker::Model;
 use std::sync::Wait;
+use std::time::{Clock, Duration};
 use thiserror::Error;
 
 /// Why a caller was given no turn.
@@ -30,6 +31,9 @@ pub enum GateFault {
     /// There was no memory, and nothing changed. The caller may try again.
     #[error("out of memory")]
     Memory,
+    /// The time of the wait has passed, and the barrier is broken now. Only `await_turn_for` fails so.
+    #[error("the time has passed")]
+    TimedOut,
 }
 
 /// A cyclic barrier at which threads wait, with its action (Java SE 21, `CyclicBarrier`).
@@ -102,6 +106,22 @@ impl<F: Fn(u64) -> bool> CyclicGate<F> {
             (λ e. GivesNoTurn e (answer self.now.action.plan (Await caller) m))) }
     {
         self.state.await_turn(rt, caller, &self.action)
+    }
+
+    /// Waits as `await_turn` does, but no longer than `limit`. Then removes the caller, which breaks the barrier for all, and
+    /// fails with `TimedOut`: the others' calls fail with `Broken`, and so do later ones until `reset` (Java SE 21,
+    /// `CyclicBarrier.await` with a timeout). With a limit of 0 only the last caller doesn't break the barrier.
+    pub fn await_turn_for<R: Wait + Clock>(
+        &self,
+        rt: &R,
+        caller: u32,
+        limit: Duration,
+    ) -> Result<u32, GateFault>
+        requires rule { AnswersAction (F.pre self.now.action.closure) (F.post self.now.action.closure) self.now.action.plan }
+        ensures below { IfOk result (λ i. i < self.now.parties) }
+        ensures turn { AfterSome self.now.parties self.now.action.plan (GivesTurnFor self.now.action.plan caller result) }
+    {
+        self.state.await_turn_for(rt, caller, &self.action, limit)
     }
 
     /// Removes a waiting caller, which breaks the barrier. Returns the others, whose calls fail with

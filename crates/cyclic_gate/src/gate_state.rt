@@ -1,11 +1,11 @@
 //! The barrier under a lock, at which threads wait, without its action.
-ghost use Rattle.std.specs.Prelude.{◌≡◌, ◌⊎◌, ◌↔◌, ◌<◌, ◌≤◌, ◌<ℤ◌, pos, IfOk, IfErr, MatchResult};
+ghost use Rattle.std.specs.Prelude.{◌≡◌, ◌⊎◌, ◌↔◌, ◌<◌, ◌≤◌, ◌<ℤ◌, pos, Err, IfOk, IfErr, MatchResult};
 ghost use Rattle.advance_rule.specs.Action.{AnswersAction};
 ghost use Rattle.cyclic_gate.specs.Steps.{answer, Breaks};
 ghost use Rattle.cyclic_gate.specs.Runs.{AfterSome};
 ghost use Rattle.cyclic_gate.specs.Seen.{RefusesAbandon};
 ghost use Rattle.cyclic_gate.specs.Ledger.{booked};
-ghost use Rattle.cyclic_gate.specs.Gate.{GivesTurn, GivesNoTurn, IsArrival, RefusesArrival, left_by};
+ghost use Rattle.cyclic_gate.specs.Gate.{GivesTurn, GivesNoTurn, GivesTurnFor, IsArrival, RefusesArrival, left_by};
 ghost use Rattle.cyclic_gate.specs.declared.call.Call.TheVariants.{Await, Abandon, BreakOff, Reset};
 
 use crate::call::{Arrived, BarrierFault};
@@ -14,7 +14,8 @@ use crate::ledger::{Ledger, Outcome};
 use advance_rule::StoredAction;
 use std::alloc::Global;
 use std::marker::Model;
-use std::sync::{Condvar, Mutex, Wait};
+use std::sync::{Condvar, CondvarTimeouts, Mutex, Wait};
+use std::time::{Clock, Duration};
 
 // How an arrival goes on.
 #[derive(Clone, Copy)]
@@ -131,6 +132,59 @@ impl GateState {
                 });
                 turn_after(ledger.read_end(generation), index, self.parties)
             }
+        }
+    }
+
+    /// Waits as `await_turn` does, but no longer than `limit`. Then removes the caller, which breaks the barrier for all, and
+    /// fails with `TimedOut` (Java SE 21, `CyclicBarrier.await` with a timeout).
+    pub fn await_turn_for<R: Wait + Clock, F: Fn(u64) -> bool>(
+        &self,
+        rt: &R,
+        caller: u32,
+        action: &StoredAction<F>,
+        limit: Duration,
+    ) -> Result<u32, GateFault>
+        requires rule { AnswersAction (F.pre action.now.closure) (F.post action.now.closure) action.now.plan }
+        requires plan { action.now.plan ≡ self.now.fails }
+        ensures below { IfOk result (λ i. i < self.now.parties) }
+        ensures turn { AfterSome self.now.parties self.now.fails (GivesTurnFor self.now.fails caller result) }
+    {
+        let mut ledger = self.ledger.lock(rt);
+        if !ledger.is_of(self.parties, self.fails) {
+            return Err(GateFault::Broken);
+        }
+        match self.arrive(&mut ledger, caller, action)? {
+            Arrival::Last(index) => Ok(index),
+            Arrival::Waits(index, generation) => {
+                let (mut ledger, waited) = self.ended.wait_timeout_while(
+                    rt,
+                    ledger,
+                    limit,
+                    |ledger| { ledger.end_of(generation) == Outcome::GoesOn },
+                );
+                if waited.timed_out() {
+                    return Err(self.give_up(&mut ledger, caller, generation));
+                }
+                turn_after(ledger.read_end(generation), index, self.parties)
+            }
+        }
+    }
+
+    // Removes a caller under the lock whose time has passed, wakes the others, and reads the end of its generation. The code also
+    // returns `Broken` for a ledger of another barrier and for a caller that doesn't wait. Neither ever occurs.
+    fn give_up(&self, ledger: &mut Ledger, caller: u32, generation: u64) -> GateFault
+        ensures turn { AfterSome self.now.parties self.now.fails (GivesTurnFor self.now.fails caller (Err result)) }
+        ensures late { (result ≡ GateFault.TimedOut) ⊎ (result ≡ GateFault.Broken) }
+    {
+        if !ledger.is_of(self.parties, self.fails) {
+            return GateFault::Broken;
+        }
+        let given_up = self.abandon_now(ledger, caller).is_ok();
+        ledger.read_end(generation);
+        if given_up {
+            GateFault::TimedOut
+        } else {
+            GateFault::Broken
         }
     }
 

@@ -35,3 +35,5 @@ pub mod Late
 pub mod Thin
 pub mod Together
 pub mod Trying
+pub mod Limited
+pub mod Snapshots

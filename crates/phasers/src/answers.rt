@@ -29,6 +29,20 @@ impl<A: OnAdvance> fmt::Debug for JoinError<'_, A> {
     }
 }
 
+/// The time of a registration has passed, and nobody has joined.
+#[derive(Drop, Error)]
+#[error("the time has passed")]
+pub struct JoinTimedOut<'a, A: OnAdvance = NoHook> {
+    /// The guest: use it again, or drop it.
+    pub guest: Guest<'a, A>,
+}
+
+impl<A: OnAdvance> fmt::Debug for JoinTimedOut<'_, A> {
+    fn fmt<W: fmt::Write>(&self, f: &mut fmt::Formatter<W>) -> fmt::Result {
+        write!(f, "JoinTimedOut")
+    }
+}
+
 /// Why a party has brought nobody. A token that was split off it for them is handed back: use it, or drop it.
 #[derive(Drop, Error)]
 pub enum BringError<'a, A: OnAdvance = NoHook> {

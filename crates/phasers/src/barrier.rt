@@ -4,7 +4,7 @@ ghost use Rattle.std.specs.Prelude.{◌≡◌, ◌⊎◌, ◌↔◌, ◌<◌, �
 ghost use Rattle.cyclic_gate.specs.Steps.{answer, Breaks};
 ghost use Rattle.cyclic_gate.specs.Runs.{AfterSome};
 ghost use Rattle.cyclic_gate.specs.Seen.{RefusesAbandon};
-ghost use Rattle.cyclic_gate.specs.Gate.{GivesTurn, GivesNoTurn};
+ghost use Rattle.cyclic_gate.specs.Gate.{GivesTurn, GivesNoTurn, GivesTurnFor};
 ghost use Rattle.cyclic_gate.specs.declared.call.Call.TheVariants.{Await, Abandon, BreakOff, Reset};
 
 pub use advance_rule::StoredAction;
@@ -12,6 +12,7 @@ pub use cyclic_gate::{BarrierCore, BarrierFault, BarrierState, CyclicGate, GateF
 use std::alloc::Global;
 use std::marker::Model;
 use std::sync::Wait;
+use std::time::{Clock, Duration};
 
 /// An action at the end of each generation of a barrier (Java SE 21, the `barrierAction` of `CyclicBarrier`).
 ///
@@ -97,6 +98,28 @@ impl<A: Action> Barrier<A> {
         };
         let stored = StoredAction::new(action, None);
         self.state.await_turn(rt, caller, &stored)
+    }
+
+    /// Waits as `await_turn` does, but no longer than `limit`. Then removes the caller, which breaks the barrier for all, and
+    /// fails with `TimedOut`: the others' calls fail with `Broken`, and so do later ones until `reset` (Java SE 21,
+    /// `CyclicBarrier.await` with a timeout).
+    pub fn await_turn_for<R: Wait + Clock>(
+        &self,
+        rt: &R,
+        caller: u32,
+        limit: Duration,
+    ) -> Result<u32, GateFault>
+        ensures below { IfOk result (λ i. i < self.now) }
+        ensures turn { AfterSome self.now None (GivesTurnFor None caller result) }
+    {
+        let action = |generation: u64| -> bool
+            ensures { result ≡ false }
+        {
+            self.action.run(generation);
+            false
+        };
+        let stored = StoredAction::new(action, None);
+        self.state.await_turn_for(rt, caller, &stored, limit)
     }
 
     /// Removes a waiting caller, which breaks the barrier. Returns the others, whose calls fail with `Broken`, in order

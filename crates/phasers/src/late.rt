@@ -1,33 +1,42 @@
 //! Threads that join later: a guest that waits for a phase.
 
-ghost use Rattle.std.specs.Prelude.{◌≡◌};
-ghost use Rattle.phasers.specs.Late.{AwaitsPhase, SeesPhase};
+ghost use Rattle.std.specs.Prelude.{◌≡◌, IfErr};
+ghost use Rattle.phasers.specs.Late.{AwaitsPhase, SeesPhaseWithin};
 
 use crate::answers::TreeEnded;
 use crate::shared::OnAdvance;
 use crate::tree::Guest;
 use std::sync::Wait;
-use tier_calls::Pauses;
 use tier_calls::tiers::Tiers;
 use tier_calls::tokens::Door;
+use tier_calls::{Patience, TimedOut, Unlimited};
 
-// Waits until the tree is in `phase` or a later one.
-fn await_phase<R: Wait>(tiers: &Tiers, rt: &R, door: &mut Door, phase: u32) -> Result<u32, i32>
+// Waits until the tree is in `phase` or a later one, as long as `patience` lasts.
+pub(crate) fn await_phase_within<R: Wait, P: Patience<R> + Drop>(
+    tiers: &Tiers,
+    rt: &R,
+    door: &mut Door,
+    phase: u32,
+    patience: P,
+) -> Result<Result<u32, i32>, TimedOut>
     requires own { door.old.tree ≡ tiers.now }
     ensures tree { door.new.tree ≡ door.old.tree }
-    ensures answer { SeesPhase phase door.old door.new result }
+    ensures answer { SeesPhaseWithin phase door.old door.new result }
+    ensures within { IfErr result (λ fault. P.ends) }
 {
-    let mut pauses = Pauses::new();
+    let mut patience = patience;
     for _ in rt.forever() {
         match tiers.watch(door) {
             Ok(now) => {
                 if phase <= now {
-                    return Ok(now);
+                    return Ok(Ok(now));
                 }
             }
-            Err(shown) => return Err(shown),
+            Err(shown) => return Ok(Err(shown)),
         }
-        tiers.pause(rt, &mut pauses);
+        if tiers.pause(rt, &mut patience).is_err() {
+            return Err(TimedOut);
+        }
     }
     unreachable!()
 }
@@ -43,9 +52,10 @@ impl<'a, A: OnAdvance> Guest<'a, A> {
         ensures answer { AwaitsPhase phase self.old self.new result }
     {
         let shared = self.shared;
-        match await_phase(&shared.tiers, rt, &mut self.door, phase) {
-            Ok(now) => Ok(now),
-            Err(shown) => Err(TreeEnded { shown }),
+        match await_phase_within(&shared.tiers, rt, &mut self.door, phase, Unlimited::new()) {
+            Ok(Ok(now)) => Ok(now),
+            Ok(Err(shown)) => Err(TreeEnded { shown }),
+            Err(_) => unreachable!(),
         }
     }
 }

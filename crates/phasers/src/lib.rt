@@ -252,7 +252,8 @@
 //!   closure that ends it.
 //!
 //! The files: `tree`, `parties`, `seat`, `barrier` and `phaser` have the types above, `answers` what calls of a tree answer;
-//! `late` has guests that wait for a phase, `trying` meetings that don't wait, `beside` and `shared` what several of these call.
+//! `late` has guests that wait for a phase, `limited` calls that wait for some time, `snapshot` the words of all tiers, `trying`
+//! meetings that don't wait, `beside` and `shared` what several of these call.
 //!
 //! Your contracts may cite the definitions that the calls use. There, a `Guest` or a `Party` is a `Holding`, like the token
 //! inside it, and a `PhaserTree` is its first token, off which `guest` splits others.
@@ -262,9 +263,11 @@ mod answers;
 pub mod barrier;
 mod beside;
 mod late;
+mod limited;
 pub mod parties;
 pub mod phaser;
 mod seat;
 mod shared;
+mod snapshot;
 pub mod tree;
 mod trying;

@@ -1,13 +1,13 @@
 //! Members of a tree that arrive together. One exchange of a word counts all of them, however many they are.
 
-ghost use Rattle.std.specs.Prelude.{◌≡◌, ◌<◌, ◌≤◌, ◌+◌, ◌-◌, ℕ, Some, [], All, IfErr, IfOk, length};
+ghost use Rattle.std.specs.Prelude.{◌≡◌, ◌<◌, ◌≤◌, ◌+◌, ◌-◌, ℕ, Some, [], All, IfErr, IfOk, MatchResult, length};
 ghost use Rattle.std.specs.Vec.{vec_capacity};
 ghost use Rattle.tier_calls.specs.ArrivesAll.{PollsAll, AllCaughtUpBy};
 ghost use Rattle.tier_calls.specs.ArrivesWith.{OnlySplit};
 ghost use Rattle.tier_calls.specs.Polls as polls;
 ghost use Rattle.tier_calls.specs.Splits.{SplitAt};
 ghost use Rattle.tier_calls.specs.Waited.{PollAllWaited};
-ghost use Rattle.tier_table.specs.GroupsAtLast.{ArrivesAllAtLast, ArrivesWithAtLast, AwaitsAll, MeetsAll, HasEndedAll, tokens_arrived};
+ghost use Rattle.tier_table.specs.GroupsAtLast.{ArrivesAllAtLast, ArrivesWithAtLast, AwaitsAll, AwaitsAllWithin, MeetsAll, MeetsAllWithin, HasEndedAll, tokens_arrived};
 ghost use Rattle.tier_table.specs.AtLast.{HasEndedWait};
 ghost use Rattle.tier_table.specs.Beginning.{AreAtLeaves, HaveRoom};
 ghost use Rattle.tier_table.specs.GroupMembersAtLast.{JoinsAllAtLast, LeavesAllAtLast, RegistersAllAtLast, HasEndedJoining, HasEndedLeaving, HasEndedRegistering, tree_registered};
@@ -26,8 +26,8 @@ use tier_table::beginning::{Unregistered, register_leaves};
 use tier_table::group_members::{
     GroupJoined, GroupLeft, GroupRegistered, join_all_wait, register_all_wait,
 };
-use tier_table::groups::{Group, GroupArrived, await_advance_all};
-use tier_table::waiting::AwaitedAdvance;
+use tier_table::groups::{Group, GroupArrived, await_advance_all, await_all_within};
+use tier_table::waiting::{AwaitedAdvance, Patience, TimedOut, Unlimited};
 
 /// Some members of a tree, all at one tier and in one phase. They arrive together, by one exchange of a word, and so they
 /// have all arrived in their phase or none has.
@@ -390,6 +390,38 @@ impl<'a, A: OnAdvance> Parties<'a, A> {
         await_advance_all(&shared.tiers, rt, &mut self.group)
     }
 
+    // Waits as `await_advance` does, as long as `patience` lasts.
+    pub(crate) fn await_within<R: Wait, P: Patience<R> + Drop>(
+        &mut self,
+        rt: &R,
+        patience: P,
+    ) -> Result<AwaitedAdvance, TimedOut>
+        ensures answer { AwaitsAllWithin self.old self.new result }
+        ensures ended { (phase : ℕ) → self.old.view.end_seen ≡ Some phase → MatchResult result HasEndedWait (λ fault. ⊥) }
+    {
+        let shared = self.shared;
+        await_all_within(&shared.tiers, rt, &mut self.group, patience)
+    }
+
+    // Meets as `meet_all` does, as long as `patience` lasts.
+    pub(crate) fn meet_within<R: Wait, P: Patience<R> + Drop>(
+        self,
+        rt: &R,
+        patience: P,
+    ) -> (Parties<'a, A>, Result<AwaitedAdvance, TimedOut>)
+        ensures answer { MeetsAllWithin TRIES self.entry result.0 result.1 }
+        ensures ended { (phase : ℕ) → self.entry.view.end_seen ≡ Some phase → MatchResult result.1 HasEndedWait (λ fault. ⊥) }
+        ensures within { IfErr result.1 (λ fault. P.ends) }
+    {
+        let Parties {
+            shared,
+            group,
+            door,
+        } = self;
+        let (group, answer) = shared.meet_all_within(rt, group, patience);
+        (Parties::of(shared, group, door), answer)
+    }
+
     /// Checks whether the phase in which all members have arrived is over. Doesn't wait.
     pub fn poll(&mut self) -> Polled
         ensures answer { PollsAll self.old self.new result }
@@ -408,13 +440,11 @@ impl<'a, A: OnAdvance> Parties<'a, A> {
         ensures answer { MeetsAll TRIES self.entry result.0 result.1 }
         ensures ended { (phase : ℕ) → self.entry.view.end_seen ≡ Some phase → HasEndedWait result.1 }
     {
-        let Parties {
-            shared,
-            group,
-            door,
-        } = self;
-        let (group, answer) = shared.meet_all(rt, group);
-        (Parties::of(shared, group, door), answer)
+        let (parties, met) = self.meet_within(rt, Unlimited::new());
+        match met {
+            Ok(answer) => (parties, answer),
+            Err(_) => unreachable!(),
+        }
     }
 
     /// Registers `n` new members at the tier of these, who have not arrived. The new members belong to these parties.

@@ -1,10 +1,12 @@
 //! A place in which one thread leaves a party, and another takes it.
 
-ghost use Rattle.std.specs.Prelude.{◌≡◌, ◌<◌, IfErr, IfSome};
+ghost use Rattle.std.specs.Prelude.{◌≡◌, ◌<◌, IfErr, IfOk, IfSome};
 
 use crate::shared::{NoHook, OnAdvance};
 use crate::tree::Party;
-use std::sync::{Condvar, Mutex, Wait};
+use sleepers::{Deadline, TimedOut};
+use std::sync::{Condvar, CondvarTimeouts, Mutex, Wait};
+use std::time::{Clock, Duration};
 
 // What is in a seat.
 #[derive(Drop)]
@@ -86,6 +88,33 @@ impl<'a, A: OnAdvance> Seat<'a, A> {
                 return None;
             }
             place = self.changed.wait(rt, place);
+        }
+        unreachable!()
+    }
+
+    /// Takes the party in the seat as `take` does, and waits for one no longer than `limit`. Then fails with `TimedOut`.
+    pub fn take_for<R: Wait + Clock>(
+        &self,
+        rt: &R,
+        limit: Duration,
+    ) -> Result<Option<Party<'a, A>>, TimedOut>
+        ensures { IfOk result (λ taken. IfSome taken (λ party. 0 < party.view.size)) }
+    {
+        let deadline = Deadline::after(rt, limit);
+        let mut place = self.place.lock(rt);
+        for _ in rt.forever() {
+            if let Some(party) = place.party.take() {
+                // For the prover: a party has members.
+                let _ = party.size();
+                return Ok(Some(party));
+            }
+            if place.closed {
+                return Ok(None);
+            }
+            let Some(left) = deadline.left(rt) else {
+                return Err(TimedOut);
+            };
+            place = self.changed.wait_timeout(rt, place, left).0;
         }
         unreachable!()
     }

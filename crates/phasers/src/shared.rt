@@ -1,6 +1,6 @@
 //! What the tokens of a tree share: its tiers, the plan that ends it, its leaves, and the hook of its advances.
 
-ghost use Rattle.std.specs.Prelude.{◌≡◌, ◌<◌, ◌≤◌, ◌+◌, ℕ, Some, [], length, IfOk};
+ghost use Rattle.std.specs.Prelude.{◌≡◌, ◌<◌, ◌≤◌, ◌+◌, ℕ, Some, [], length, IfErr, IfOk, MatchResult};
 ghost use Rattle.advance_rule.specs.Plan.{end_ends_at};
 ghost use Rattle.tier_steps.specs.View.{new_view};
 ghost use Rattle.tier_steps.specs.Start.{empty_word};
@@ -14,7 +14,7 @@ ghost use Rattle.tier_shape.specs.Preferred.{leaf_at};
 ghost use Rattle.tier_steps.specs.declared.view.Passage.TheVariants.{Arrival, Departure};
 ghost use Rattle.tier_table.specs.AtLast.{token_counted, ArrivesAtLast, LedAtLast, HasEndedArrival, HasEndedWait, PassedBy};
 ghost use Rattle.tier_calls.specs.ArrivesWith.{OnlySplit};
-ghost use Rattle.tier_table.specs.GroupsAtLast.{ArrivesAllAtLast, ArrivesWithAtLast, MeetsAll, HasEndedAll, tokens_arrived};
+ghost use Rattle.tier_table.specs.GroupsAtLast.{ArrivesAllAtLast, ArrivesWithAtLast, MeetsAllWithin, HasEndedAll, tokens_arrived};
 ghost use Rattle.tier_table.specs.GroupMembersAtLast.{LeavesAllAtLast, HasEndedLeaving, tree_left};
 
 use advance_rule::{EndPlan, StoredAdvance};
@@ -30,8 +30,8 @@ use tier_shape::leaves::leaf_at;
 use tier_steps::view::Passage;
 use tier_table::TRIES;
 use tier_table::group_members::{GroupLeft, leave_all_wait};
-use tier_table::groups::{Group, GroupArrived, arrive_all_wait, arrive_with_wait, meet_all_wait};
-use tier_table::waiting::{ArrivedAtLast, AwaitedAdvance, pass_wait};
+use tier_table::groups::{Group, GroupArrived, arrive_all_wait, arrive_with_wait, meet_all_within};
+use tier_table::waiting::{ArrivedAtLast, AwaitedAdvance, Patience, TimedOut, pass_wait};
 
 /// An action at each advance of a tree (Java SE 21, `Phaser.onAdvance`).
 ///
@@ -201,15 +201,21 @@ impl<A: OnAdvance> SharedTree<A> {
         arrive_with_wait(&self.tiers, rt, door, group, joining, leaving, &rule)
     }
 
-    /// Lets all members of `group` arrive, and waits until the phase is over.
-    pub(crate) fn meet_all<R: Wait>(&self, rt: &R, group: Group) -> (Group, AwaitedAdvance)
+    /// Lets all members of `group` arrive, and waits until the phase is over, as long as `patience` lasts.
+    pub(crate) fn meet_all_within<R: Wait, P: Patience<R> + Drop>(
+        &self,
+        rt: &R,
+        group: Group,
+        patience: P,
+    ) -> (Group, Result<AwaitedAdvance, TimedOut>)
         requires own { group.tree ≡ self.now }
         ensures tree { result.0.tree ≡ group.tree }
-        ensures answer { MeetsAll TRIES group result.0 result.1 }
-        ensures ended { (phase : ℕ) → group.view.end_seen ≡ Some phase → HasEndedWait result.1 }
+        ensures answer { MeetsAllWithin TRIES group result.0 result.1 }
+        ensures ended { (phase : ℕ) → group.view.end_seen ≡ Some phase → MatchResult result.1 HasEndedWait (λ fault. ⊥) }
+        ensures within { IfErr result.1 (λ fault. P.ends) }
     {
         let rule = StoredAdvance::new(|phase: u32, count: u32| self.ends(phase, count), self.plan);
-        meet_all_wait(&self.tiers, rt, group, &rule)
+        meet_all_within(&self.tiers, rt, group, &rule, patience)
     }
 
     /// Lets all members of `group` leave.

@@ -20,14 +20,16 @@ ghost use Rattle.tier_shape.specs.Faults.{fault_number};
 ghost use Rattle.tier_shape.specs.InText.{shape_in_text};
 ghost use Rattle.phasers.specs.Thin.{IsFirst, admitted_of, awaited_of, counted_of, Meets, Brings, Leaves, HasEndedBringing, LeavesWords};
 
-pub use crate::answers::{BringError, Departed, JoinError, MeetError, TreeEnded};
+pub use crate::answers::{BringError, Departed, JoinError, JoinTimedOut, MeetError, TreeEnded};
 use crate::beside::{join_beside_wait, leave_next};
 pub use crate::seat::Seat;
 use crate::shared::SharedTree;
 pub use crate::shared::{NoHook, OnAdvance};
+pub use crate::snapshot::Snapshot;
 pub use crate::trying::{Met, Owed, Settled};
 pub use advance_rule::{EndPlan, StoredAdvance};
 pub use phaser_word::Word;
+pub use sleepers::TimedOut;
 use std::alloc::{AllocError, Global};
 use std::marker::Model;
 use std::sync::Wait;
@@ -60,8 +62,8 @@ use tier_table::waiting::{ArrivedAtLast, RegisteredAtLast, await_advance, regist
 /// ```
 #[derive(Drop)]
 pub struct PhaserTree<A: OnAdvance = NoHook> {
-    shared: SharedTree<A>,
-    first: Door,
+    pub(crate) shared: SharedTree<A>,
+    pub(crate) first: Door,
 }
 
 impl<A: OnAdvance> Model for PhaserTree<A> {

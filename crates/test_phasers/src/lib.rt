@@ -1,6 +1,7 @@
 //! Tests of phasers, trees and barriers that need Rust: what a row can say is in `examples/rows.txt`.
 //!
-//! * `parties`, `leaving`, `hooked`: the calls of `phasers`; `barrier`: the barrier; `closures`, `written`: closures at advances.
+//! * `parties`, `leaving`, `hooked`, `limited`: the calls of `phasers`; `sleeping`: who wakes threads that wait; `barrier`: the
+//!   barrier; `closures`, `written`: closures at advances.
 //! * `table`: runs on one thread, worked out by hand; `lists`: random lists of calls, beside the machine; `shared`: threads.
 //! * `makers`: words and shapes; `examples`: the examples in docs; `calls`, `trees`: what these tests share.
 #![tactic(auto)]
@@ -17,6 +18,8 @@ mod hooked;
 #[cfg(test)]
 mod leaving;
 #[cfg(test)]
+mod limited;
+#[cfg(test)]
 mod lists;
 #[cfg(test)]
 mod makers;
@@ -24,6 +27,8 @@ mod makers;
 mod parties;
 #[cfg(test)]
 mod shared;
+#[cfg(test)]
+mod sleeping;
 #[cfg(test)]
 mod table;
 #[cfg(test)]

@@ -40,3 +40,4 @@ pub mod KeepingLeaving
 pub mod KeepingWith
 pub mod JoiningTries
 pub mod Registering
+pub mod LooksAlong

@@ -32,3 +32,4 @@ pub mod KeptTries
 pub mod JoinsAll
 pub mod RegistersAll
 pub mod Watches
+pub mod Reads

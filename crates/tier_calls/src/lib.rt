@@ -33,8 +33,8 @@
 //! * `tokens.rt`: the tokens; `seen.rt`: words as the numbers in the table, which a step unpacks only in part;
 //!   `tiers.rt`: single loads and exchanges; `going.rt`: calls that go on; `stepping.rt`: the steps of arrivals and
 //!   departures, by kind; `writing.rt`: what a step writes into a view; `arriving.rt`, `in_place.rt` (an arrival whose
-//!   crew isn't moved), `joining.rt`, `beside.rt` (`join_here`), `polling.rt`, `looking.rt`, `forcing.rt`,
-//!   `closing.rt`: the calls;
+//!   crew isn't moved), `joining.rt`, `beside.rt` (`join_here`), `polling.rt`, `looking.rt`, `reading.rt`,
+//!   `forcing.rt`, `closing.rt`: the calls;
 //!   `next.rt`: which tier a call looks for; `seated.rt`: a token's seat.
 //! * `groups.rt`: groups, their arrivals and polls, how they split and go together; `kept.rt`: from what an exchange by all
 //!   tokens begins; `arriving_with.rt`: an arrival with which others join and leave, and the new tokens for it;
@@ -68,6 +68,7 @@ pub mod leaving_all;
 mod looking;
 mod next;
 pub mod polling;
+pub mod reading;
 pub mod registering_all;
 mod seated;
 mod seen;
@@ -76,7 +77,7 @@ pub mod tiers;
 pub mod tokens;
 mod writing;
 
-pub use sleepers::Pauses;
+pub use sleepers::{Limited, Patience, TimedOut, Unlimited};
 
 /// The number of tries that is enough for every call if no other token takes a step meanwhile.
 pub const TRIES: u32 = 16;

@@ -1,6 +1,6 @@
 //! The tiers of a tree as atomic words, and single loads and compare-and-swaps of them.
 
-ghost use Rattle.std.specs.Prelude.{◌≡◌, ◌≤◌, ◌<◌, IfOk, MatchBool, [], length, replicate};
+ghost use Rattle.std.specs.Prelude.{◌≡◌, ◌≤◌, ◌<◌, IfErr, IfOk, MatchBool, [], length, replicate};
 ghost use Rattle.tier_shape.specs.Paths.{IsTiers};
 ghost use Rattle.tier_steps.specs.View.{new_view};
 ghost use Rattle.tier_steps.specs.Start.{empty_word};
@@ -17,7 +17,7 @@ use crate::writing::step_in;
 use advance_rule::EndPlan;
 use atomic_table::{Seat, Table};
 use phaser_word::{LAST_PHASE, Word};
-use sleepers::{Pauses, Sleepers};
+use sleepers::{Patience, Sleepers, TimedOut};
 use std::alloc::{AllocError, Global};
 use std::marker::{Brand, Model};
 use std::sync::Wait;
@@ -232,9 +232,12 @@ impl Tiers {
         }
     }
 
-    /// Waits for a while, or until a step was taken for which others may wait. Look at the tree again after each pause.
-    pub fn pause<R: Wait>(&self, rt: &R, pauses: &mut Pauses) {
-        self.sleepers.pause(rt, pauses);
+    /// Waits for a while, or until a step was taken for which others may wait. Look at the tree again after each pause. Fails if
+    /// the time of the wait has passed.
+    pub fn pause<R: Wait, P: Patience<R>>(&self, rt: &R, patience: &mut P) -> Result<(), TimedOut>
+        ensures { IfErr result (λ fault. P.ends) }
+    {
+        patience.pause(rt, &self.sleepers)
     }
 
     /// Makes a token of a new seat, by a first load of the root. `J` names the tree, for the table's rule.

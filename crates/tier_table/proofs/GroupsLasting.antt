@@ -7,7 +7,7 @@ use Rattle.phaser_word.specs.Phase.{next_phase_of}
 use Rattle.tier_calls.specs.Holding.{Holding}
 use Rattle.tier_calls.specs.Made.{MadeOnly, HasLooked, is_quiet}
 use Rattle.tier_calls.specs.Arrives.{IsLooked}
-use Rattle.tier_calls.specs.Passes.{IsSame}
+use Rattle.tier_calls.specs.Passes.{IsSame, IsFresh}
 use Rattle.tier_calls.specs.Groups.{GroupHeld}
 use Rattle.tier_calls.specs.ArrivesAll.{Each, Did, Looks, OnlyLooks, KeepsAll}
 use Rattle.tier_calls.specs.ArrivesWith.{FirstLook, OnlySplit}
@@ -15,7 +15,7 @@ use Rattle.tier_calls.specs.Finishes.{IsBeside, IsWhole}
 use Rattle.tier_calls.proofs.ArrivingAll.{each_then, each_long}
 use Rattle.tier_table.specs.declared.groups.GroupArrived.{GroupArrived}
 use Rattle.tier_table.specs.declared.groups.GroupArrived.TheVariants as group_arrived
-use Rattle.tier_table.specs.GroupsAtLast.{HaveLookedOn, FinishesAtLast, IsBefore, ArrivesAllAtLast, ArrivesWithAtLast, HaveWaited, tokens_arrived}
+use Rattle.tier_table.specs.GroupsAtLast.{HaveLookedOn, FinishesAtLast, IsBefore, ArrivesAllAtLast, ArrivesWithAtLast, HaveWaited, AllWait, tokens_arrived}
 use Rattle.tier_table.proofs.Lasting.{looked_then, watched_then, same_first, same_then, waits_same}
 
 pub beside_by : (h : Holding) (o : Option GroupHeld) → ((c : GroupHeld) → o ≡ Some c → IsBeside h c) → IfSome o (IsBeside h)
@@ -105,6 +105,17 @@ waited_more {a} {b} {c} tries one p tree looked all each =
       tree = tree ∙ p.tree;
       view = same_then p.view (waits_same (omega arith) (all ∙ sym size) looked);
       before = inr (before_more (omega arith) p.before (record { tree = tree; view = looked; tries = tries; tokens = each }));
+    }
+
+-- a wait that is given up
+pub waits_all : {a b c : GroupHeld} (tries : ℕ) → b.view.size ≡ 1 → HaveWaited a b → c.tree ≡ b.tree → IsLooked b.view c.view → IsFresh c.view
+    → c.view.arrived ≡ 1 → Each (Did HasLooked tries) b.tokens c.tokens → AllWait a c
+waits_all {a} {b} {c} tries one p tree looked fresh all each =
+    let size : c.view.size ≡ 1 = looked.size ∙ one in record {
+      same = same_then p.view (waits_same (omega arith) (all ∙ sym size) looked);
+      looked = before_more (omega arith) p.before (record { tree = tree; view = looked; tries = tries; tokens = each });
+      fresh = fresh;
+      all = all;
     }
 
 whole_tree : (h : Holding) (o : Option GroupHeld) (c : GroupHeld) → IsWhole h o c → c.tree ≡ h.tree

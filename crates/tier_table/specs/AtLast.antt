@@ -20,6 +20,7 @@ use Rattle.tier_table.specs.declared.waiting.ArrivedAtLast.{ArrivedAtLast}
 use Rattle.tier_table.specs.declared.waiting.ArrivedAtLast.TheVariants as counted
 use Rattle.tier_table.specs.declared.waiting.AwaitedAdvance.{AwaitedAdvance}
 use Rattle.tier_table.specs.declared.waiting.AwaitedAdvance.TheVariants as awaited
+use Rattle.sleepers.specs.declared.TimedOut.{TimedOut}
 
 -- a registration of this many members at this tier of a tree
 abbrev pub RegistersAtLast : Named → ℕ → ℕ → RegisteredAtLast → Type 0
@@ -60,6 +61,17 @@ AwaitsAdvance old new (awaited.Passed phase) =
 AwaitsAdvance old new (awaited.Here phase) =
     IsLooked old.view new.view × IsFresh new.view × (new.view.arrived < new.view.size) × (phase ≡ new.view.phase)
 AwaitsAdvance old new (awaited.Ended shown) = IsLooked old.view new.view × EndSeen new.view shown
+
+-- a crew that has given up its wait: it is as it was, and at its last look the phase in which all its members have arrived was not over
+pub record IsWaiting (old new : Holding) : Type 0 where
+  pub same : IsSame old.view new.view
+  pub fresh : IsFresh new.view
+  pub all : new.view.arrived ≡ new.view.size
+
+-- a crew that waits until its phase has passed, or gives up
+abbrev pub AwaitsWithin : Holding → Holding → Result AwaitedAdvance TimedOut → Type 0
+AwaitsWithin old new (Ok answer) = AwaitsAdvance old new answer
+AwaitsWithin old new (Err fault) = IsWaiting old new
 
 -- the crew before the last look of its wait: it had only looked
 pub record HasOnlyLooked (old last : Holding) : Type 0 where

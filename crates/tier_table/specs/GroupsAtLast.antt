@@ -1,7 +1,7 @@
 -- What calls that wait answer to a group of tokens: as the calls that they repeat (not part of Java's API).
-use Rattle.std.specs.Prelude.{◌≡◌, ◌≢◌, ℕ, ◌⊎◌, Bool, false, Option}
+use Rattle.std.specs.Prelude.{◌≡◌, ◌≢◌, ℕ, ◌⊎◌, Bool, false, Option, Result, Ok, Err}
 use Rattle.tier_calls.specs.Holding.{Holding}
-use Rattle.tier_calls.specs.Passes.{IsSame}
+use Rattle.tier_calls.specs.Passes.{IsSame, IsFresh}
 use Rattle.tier_calls.specs.Arrives.{IsLooked}
 use Rattle.tier_calls.specs.Made.{HasLooked}
 use Rattle.tier_calls.specs.Groups.{GroupHeld}
@@ -18,6 +18,7 @@ use Rattle.tier_table.specs.AtLast.{ResumesAtLast, ResumedBy, LedAtLast}
 use Rattle.tier_table.specs.declared.waiting.ArrivedAtLast.TheVariants as counted
 use Rattle.tier_table.specs.declared.waiting.AwaitedAdvance.{AwaitedAdvance}
 use Rattle.tier_table.specs.declared.waiting.AwaitedAdvance.TheVariants as awaited
+use Rattle.sleepers.specs.declared.TimedOut.{TimedOut}
 use Rattle.tier_table.specs.declared.groups.GroupArrived.{GroupArrived}
 use Rattle.tier_table.specs.declared.groups.GroupArrived.TheVariants as group_arrived
 
@@ -104,23 +105,39 @@ tokens_arrived (group_arrived.Full new parties) = new
 tokens_arrived (group_arrived.AlreadyArrived new phase) = new
 tokens_arrived (group_arrived.Ended new shown) = new
 
+-- members that have given up their wait: they are as they were, and at their last look their phase was not over
+pub record AllWait (old new : GroupHeld) : Type 0 where
+  pub same : IsSame old.view new.view
+  pub looked : HaveLookedOn old new
+  pub fresh : IsFresh new.view
+  pub all : new.view.arrived ≡ 1
+
+-- members that wait until their phase has passed, or give up
+abbrev pub AwaitsAllWithin : GroupHeld → GroupHeld → Result AwaitedAdvance TimedOut → Type 0
+AwaitsAllWithin old new (Ok answer) = AwaitsAll old new answer
+AwaitsAllWithin old new (Err fault) = AllWait old new
+
 -- What follows an arrival of all members in this phase. If the tokens were already seen in another phase than that in which they arrived,
 -- this phase has passed; before the last advance all members of all tokens had arrived. Else they wait.
-abbrev pub AwaitsAfter : GroupHeld → ℕ → GroupHeld → AwaitedAdvance → Type 0
+abbrev pub AwaitsAfter : GroupHeld → ℕ → GroupHeld → Result AwaitedAdvance TimedOut → Type 0
 AwaitsAfter mid phase new answer =
-    ((mid.view.phase ≢ phase) × (new ≡ mid) × (answer ≡ awaited.Passed mid.view.phase) × WaitedFor mid.tree phase mid.view.phase)
-    ⊎ AwaitsAll mid new answer
+    ((mid.view.phase ≢ phase) × (new ≡ mid) × (answer ≡ Ok (awaited.Passed mid.view.phase)) × WaitedFor mid.tree phase mid.view.phase)
+    ⊎ ((mid.view.phase ≡ phase) × AwaitsAllWithin mid new answer)
 
 -- what follows an arrival of all members in a meeting
-abbrev pub MeetsAfter : GroupArrived → GroupHeld → AwaitedAdvance → Type 0
+abbrev pub MeetsAfter : GroupArrived → GroupHeld → Result AwaitedAdvance TimedOut → Type 0
 MeetsAfter (group_arrived.Done mid phase led) new answer = AwaitsAfter mid phase new answer
 MeetsAfter (group_arrived.Full mid parties) new answer = ⊥
-MeetsAfter (group_arrived.AlreadyArrived mid phase) new answer = AwaitsAll mid new answer
-MeetsAfter (group_arrived.Ended mid shown) new answer = (new ≡ mid) × (answer ≡ awaited.Ended shown)
+MeetsAfter (group_arrived.AlreadyArrived mid phase) new answer = AwaitsAllWithin mid new answer
+MeetsAfter (group_arrived.Ended mid shown) new answer = (new ≡ mid) × (answer ≡ Ok (awaited.Ended shown))
 
--- an arrival of all members, and then a wait
+-- an arrival of all members, and then a wait, which may be given up
+abbrev pub MeetsAllWithin : ℕ → GroupHeld → GroupHeld → Result AwaitedAdvance TimedOut → Type 0
+MeetsAllWithin tries old new answer = (arrival : GroupArrived) × ArrivesAllAtLast tries old arrival × MeetsAfter arrival new answer
+
+-- the same without a limit
 abbrev pub MeetsAll : ℕ → GroupHeld → GroupHeld → AwaitedAdvance → Type 0
-MeetsAll tries old new answer = (arrival : GroupArrived) × ArrivesAllAtLast tries old arrival × MeetsAfter arrival new answer
+MeetsAll tries old new answer = MeetsAllWithin tries old new (Ok answer)
 
 -- the answer of an arrival says that the tree has ended
 abbrev pub HasEndedAll : GroupArrived → Type 0

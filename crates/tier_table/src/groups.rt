@@ -1,6 +1,6 @@
 //! Groups of tokens in a tree. One exchange lets all members of a group arrive, however many they are.
 
-ghost use Rattle.std.specs.Prelude.{◌≡◌, ◌<◌, ◌≤◌, ◌+◌, ℕ, Some, IfSome, MatchResult, length};
+ghost use Rattle.std.specs.Prelude.{◌≡◌, ◌<◌, ◌≤◌, ◌+◌, ℕ, Some, IfErr, IfSome, MatchResult, length};
 ghost use Rattle.advance_rule.specs.Stored.{Answers};
 ghost use Rattle.advance_rule.specs.Plan.{end_ends_at};
 ghost use Rattle.tier_calls.specs.ArrivesAll.{ArrivesAll, PollsAll, AllCaughtUpBy};
@@ -11,7 +11,7 @@ ghost use Rattle.tier_calls.specs.Finishes.{IsBeside, Finishes};
 ghost use Rattle.tier_calls.specs.Polls as polls;
 ghost use Rattle.tier_calls.specs.Splits.{SplitAt, AreTogether, Together};
 ghost use Rattle.tier_calls.specs.Waited.{PollAllWaited};
-ghost use Rattle.tier_table.specs.GroupsAtLast.{HaveLookedOn, FinishesAtLast, ArrivesAllAtLast, ArrivesWithAtLast, AwaitsAfter, AwaitsAll, MeetsAll, HasEndedAll, tokens_arrived};
+ghost use Rattle.tier_table.specs.GroupsAtLast.{HaveLookedOn, FinishesAtLast, ArrivesAllAtLast, ArrivesWithAtLast, AwaitsAfter, AwaitsAll, AwaitsAllWithin, MeetsAll, MeetsAllWithin, HasEndedAll, tokens_arrived};
 ghost use Rattle.tier_table.specs.AtLast.{HasEndedWait};
 
 use crate::tree::Tree;
@@ -25,7 +25,7 @@ pub use tier_calls::groups::{ArrivedAll, Group};
 use tier_calls::polling::Polled;
 use tier_calls::tiers::Tiers;
 use tier_calls::tokens::{Door, Errand};
-use tier_calls::{Pauses, TRIES};
+use tier_calls::{Patience, TRIES, TimedOut, Unlimited};
 
 /// The answer of an arrival of a whole group that waits until it is counted.
 #[derive(Drop)]
@@ -188,6 +188,38 @@ pub fn arrive_with_wait<R: Wait, F: Fn(u32, u32) -> bool>(
     unreachable!()
 }
 
+/// Waits as [`await_advance_all`] does, as long as `patience` lasts. Then fails with `TimedOut`: the members have arrived, are
+/// still registered, and their phase was not over at the last look.
+pub fn await_all_within<R: Wait, P: Patience<R> + Drop>(
+    tiers: &Tiers,
+    rt: &R,
+    group: &mut Group,
+    patience: P,
+) -> Result<AwaitedAdvance, TimedOut>
+    requires own { group.old.tree ≡ tiers.now }
+    ensures tree { group.new.tree ≡ group.old.tree }
+    ensures answer { AwaitsAllWithin group.old group.new result }
+    ensures ended { (phase : ℕ) → group.old.view.end_seen ≡ Some phase → MatchResult result HasEndedWait (λ fault. ⊥) }
+    ensures within { IfErr result (λ fault. P.ends) }
+{
+    // For the prover: each token has one member.
+    let _ = group.size();
+    let mut patience = patience;
+    for _ in rt.forever() {
+        match tiers.poll_all(group) {
+            Polled::Passed(phase) => return Ok(AwaitedAdvance::Passed(phase)),
+            Polled::Here(phase) => return Ok(AwaitedAdvance::Here(phase)),
+            Polled::Ended(shown) => return Ok(AwaitedAdvance::Ended(shown)),
+            Polled::Waiting => {
+                if tiers.pause(rt, &mut patience).is_err() {
+                    return Err(TimedOut);
+                }
+            }
+        }
+    }
+    unreachable!()
+}
+
 /// Waits until the phase in which all members of `group` have arrived is over. Returns at once if they have not arrived,
 /// or the tree has ended.
 pub fn await_advance_all<R: Wait>(tiers: &Tiers, rt: &R, group: &mut Group) -> AwaitedAdvance
@@ -196,34 +228,61 @@ pub fn await_advance_all<R: Wait>(tiers: &Tiers, rt: &R, group: &mut Group) -> A
     ensures answer { AwaitsAll group.old group.new result }
     ensures ended { (phase : ℕ) → group.old.view.end_seen ≡ Some phase → HasEndedWait result }
 {
-    // For the prover: each token has one member.
-    let _ = group.size();
-    let mut pauses = Pauses::new();
-    for _ in rt.forever() {
-        match tiers.poll_all(group) {
-            Polled::Passed(phase) => return AwaitedAdvance::Passed(phase),
-            Polled::Here(phase) => return AwaitedAdvance::Here(phase),
-            Polled::Ended(shown) => return AwaitedAdvance::Ended(shown),
-            Polled::Waiting => tiers.pause(rt, &mut pauses),
-        }
+    match await_all_within(tiers, rt, group, Unlimited::new()) {
+        Ok(answer) => answer,
+        Err(_) => unreachable!(),
     }
-    unreachable!()
 }
 
-// Waits until `phase` is over, in which all members of `group` have arrived. Returns at once if the group is seen in another
-// phase already.
-fn await_after<R: Wait>(tiers: &Tiers, rt: &R, group: Group, phase: u32) -> (Group, AwaitedAdvance)
+// Waits until `phase` is over, in which all members of `group` have arrived, as long as `patience` lasts. Returns at once if the
+// group is seen in another phase already.
+fn await_after<R: Wait, P: Patience<R> + Drop>(
+    tiers: &Tiers,
+    rt: &R,
+    group: Group,
+    phase: u32,
+    patience: P,
+) -> (Group, Result<AwaitedAdvance, TimedOut>)
     requires own { group.tree ≡ tiers.now }
     ensures tree { result.0.tree ≡ group.tree }
     ensures answer { AwaitsAfter group phase result.0 result.1 }
+    ensures within { IfErr result.1 (λ fault. P.ends) }
 {
     let mut group = group;
     let now = group.phase();
     if now != phase {
-        return (group, AwaitedAdvance::Passed(now));
+        return (group, Ok(AwaitedAdvance::Passed(now)));
     }
-    let waited = await_advance_all(tiers, rt, &mut group);
+    let waited = await_all_within(tiers, rt, &mut group, patience);
     (group, waited)
+}
+
+/// Lets all members of `group` arrive, and waits until the phase is over, as long as `patience` lasts. Returns the group and the
+/// answer of [`await_all_within`]. If the phase is over by the time the arrival returns, that is `Passed`.
+pub fn meet_all_within<R: Wait, P: Patience<R> + Drop, F: Fn(u32, u32) -> bool>(
+    tiers: &Tiers,
+    rt: &R,
+    group: Group,
+    rule: &StoredAdvance<F>,
+    patience: P,
+) -> (Group, Result<AwaitedAdvance, TimedOut>)
+    requires own { group.tree ≡ tiers.now }
+    requires rule { Answers (F.pre rule.now.closure) (F.post rule.now.closure) (end_ends_at rule.now.plan) }
+    requires plan { rule.now.plan ≡ tiers.now.key.plan }
+    ensures tree { result.0.tree ≡ group.tree }
+    ensures answer { MeetsAllWithin TRIES group result.0 result.1 }
+    ensures ended { (phase : ℕ) → group.view.end_seen ≡ Some phase → MatchResult result.1 HasEndedWait (λ fault. ⊥) }
+    ensures within { IfErr result.1 (λ fault. P.ends) }
+{
+    match arrive_all_wait(tiers, rt, group, rule) {
+        GroupArrived::Done(group, phase, _) => await_after(tiers, rt, group, phase, patience),
+        GroupArrived::AlreadyArrived(mut group, _) => {
+            let answer = await_all_within(tiers, rt, &mut group, patience);
+            (group, answer)
+        }
+        GroupArrived::Ended(group, shown) => (group, Ok(AwaitedAdvance::Ended(shown))),
+        GroupArrived::Full(_, _) => unreachable!(),
+    }
 }
 
 /// Lets all members of `group` arrive, and waits until the phase is over. Returns the group and the answer of
@@ -241,14 +300,10 @@ pub fn meet_all_wait<R: Wait, F: Fn(u32, u32) -> bool>(
     ensures answer { MeetsAll TRIES group result.0 result.1 }
     ensures ended { (phase : ℕ) → group.view.end_seen ≡ Some phase → HasEndedWait result.1 }
 {
-    match arrive_all_wait(tiers, rt, group, rule) {
-        GroupArrived::Done(group, phase, _) => await_after(tiers, rt, group, phase),
-        GroupArrived::AlreadyArrived(mut group, _) => {
-            let answer = await_advance_all(tiers, rt, &mut group);
-            (group, answer)
-        }
-        GroupArrived::Ended(group, shown) => (group, AwaitedAdvance::Ended(shown)),
-        GroupArrived::Full(_, _) => unreachable!(),
+    let (group, met) = meet_all_within(tiers, rt, group, rule, Unlimited::new());
+    match met {
+        Ok(answer) => (group, answer),
+        Err(_) => unreachable!(),
     }
 }
 

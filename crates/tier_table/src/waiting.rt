@@ -1,11 +1,13 @@
 //! Calls that wait. Each repeats a call of the tree, [`TRIES`] tries at a time, until it has an answer that lasts, and
-//! lets other threads run in between. What waits for an advance, or until a tier takes newcomers, sleeps after some time; the
-//! step that ends that wakes it (`Tiers::pause`). That such a call returns is not part of its contract: others may hold a tier for
-//! ever.
+//! lets other threads run in between. A thread that waits for an advance, or until a tier takes newcomers, sleeps after some
+//! time, and the step that ends its wait wakes it (`Tiers::pause`). That such a call returns is not part of its contract: others
+//! may hold a tier for ever.
+//!
+//! A call whose name ends in `within` waits as long as its [`Patience`] lasts. The same call without a limit has the same loop.
 //!
 //! The functions take the tiers, and the rule if an advance may be due. [`Tree`] passes both.
 
-ghost use Rattle.std.specs.Prelude.{◌≡◌, ◌<◌, ◌≤◌, ℕ, Some, length, List, MatchResult};
+ghost use Rattle.std.specs.Prelude.{◌≡◌, ◌<◌, ◌≤◌, ℕ, Some, length, List, IfErr, IfOk, MatchResult};
 ghost use Rattle.advance_rule.specs.Stored.{Answers};
 ghost use Rattle.advance_rule.specs.Plan.{end_ends_at};
 ghost use Rattle.tier_steps.specs.declared.view.Passage.TheVariants.{Arrival, Departure};
@@ -17,19 +19,20 @@ ghost use Rattle.tier_steps.specs.declared.kind.Kind.{Kind};
 ghost use Rattle.tier_calls.specs.Led.{LedInPlaceWaited};
 ghost use Rattle.tier_calls.specs.InPlace.{ArrivesInPlace};
 ghost use Rattle.tier_calls.specs.InPlace as in_place;
-ghost use Rattle.tier_table.specs.AtLast.{token_admitted, token_counted, steps_of, HasSplit, HasWaited, LedAtLast, PassedBy, ResumedBy, CaughtUpBy, RegistersAtLast, OpensAtLast, ArrivesAtLast, ResumesAtLast, AwaitsAdvance, AwaitWaited, HasEndedJoin, HasEndedArrival, HasEndedWait};
+ghost use Rattle.tier_table.specs.AtLast.{token_admitted, token_counted, steps_of, HasSplit, HasWaited, LedAtLast, PassedBy, ResumedBy, CaughtUpBy, RegistersAtLast, OpensAtLast, ArrivesAtLast, ResumesAtLast, AwaitsAdvance, AwaitsWithin, AwaitWaited, HasEndedJoin, HasEndedArrival, HasEndedWait};
 
 use crate::tree::Tree;
 use advance_rule::StoredAdvance;
 use std::sync::Wait;
 use std::thread;
+use tier_calls::TRIES;
 use tier_calls::arriving::{Arrived, Resumed};
 use tier_calls::in_place::ArrivedInPlace;
 use tier_calls::joining::{Opened, Registered};
 use tier_calls::polling::Polled;
 use tier_calls::tiers::Tiers;
 use tier_calls::tokens::{Crew, Door, Errand, Opening};
-use tier_calls::{Pauses, TRIES};
+pub use tier_calls::{Limited, Patience, TimedOut, Unlimited};
 use tier_steps::view::Passage;
 
 /// The answer of a registration that waits.
@@ -60,8 +63,7 @@ pub enum ArrivedAtLast {
     Ended(Crew, i32),
 }
 
-/// The answer of a crew that waits for the next phase. `cyclic_gate` has another enum of this name: the answer of an
-/// arrival at a barrier.
+/// The answer of a crew that waits for the next phase.
 #[derive(Clone, Copy, PartialEq, Eq)]
 pub enum AwaitedAdvance {
     /// The phase in which all members had arrived is over, and this is the next one. Arrive in it.
@@ -95,14 +97,14 @@ pub fn open_wait<R: Wait>(tiers: &Tiers, rt: &R, opening: Opening) -> Result<Reg
 }
 
 // Tries once to register `members` members. If the tier is empty, opens the path to it. Returns the door as an error if
-// the members may not join now, or the tries were used up. Nobody wakes a thread after that, so the pauses begin anew.
-fn join_once<R: Wait>(
+// the members may not join now, or the tries were used up. After that nobody wakes a thread, so the pauses begin anew.
+fn join_once<R: Wait, P: Patience<R>>(
     tiers: &Tiers,
     rt: &R,
     door: Door,
     tier: u16,
     members: u32,
-    pauses: &mut Pauses,
+    patience: &mut P,
 ) -> Result<RegisteredAtLast, Door>
     requires own { door.tree ≡ tiers.now }
     requires tier { tier < length tiers.now.key.shape }
@@ -118,11 +120,44 @@ fn join_once<R: Wait>(
         Registered::Ended(next, shown) => Ok(RegisteredAtLast::Ended(next, shown)),
         Registered::Held(next, _, _) => Err(next),
         Registered::Busy(next) => {
-            pauses.restart();
+            patience.restart();
             Err(next)
         }
         Registered::Owing(opening) => open_wait(tiers, rt, opening),
     }
+}
+
+/// Registers `members` new members at `tier`, as [`register_wait`] does, as long as `patience` lasts. Then returns the door as
+/// an error: nobody has joined.
+pub fn register_within<R: Wait, P: Patience<R> + Drop>(
+    tiers: &Tiers,
+    rt: &R,
+    door: Door,
+    tier: u16,
+    members: u32,
+    patience: P,
+) -> Result<RegisteredAtLast, Door>
+    requires own { door.tree ≡ tiers.now }
+    requires tier { tier < length tiers.now.key.shape }
+    requires members { (0 < members) × (members ≤ 65535) }
+    ensures answer { OpensAtLast tiers.now tier members result }
+    ensures unsplit { HasSplit door.opened result }
+    ensures made { HasEntered door.steps (steps_of result) }
+    ensures ended { (phase : ℕ) → door.view.end_seen ≡ Some phase → MatchResult result HasEndedJoin (λ next. ⊥) }
+    ensures within { IfErr result (λ next. P.ends) }
+{
+    let mut door = door;
+    let mut patience = patience;
+    for _ in rt.forever() {
+        match join_once(tiers, rt, door, tier, members, &mut patience) {
+            Ok(answer) => return Ok(answer),
+            Err(next) => door = next,
+        }
+        if tiers.pause(rt, &mut patience).is_err() {
+            return Err(door);
+        }
+    }
+    unreachable!()
 }
 
 /// Registers `members` new members at `tier`. If the tier is empty, first opens the path to it from the nearest tier
@@ -143,16 +178,10 @@ pub fn register_wait<R: Wait>(
     ensures made { HasEntered door.steps (token_admitted result).steps }
     ensures ended { (phase : ℕ) → door.view.end_seen ≡ Some phase → HasEndedJoin result }
 {
-    let mut door = door;
-    let mut pauses = Pauses::new();
-    for _ in rt.forever() {
-        match join_once(tiers, rt, door, tier, members, &mut pauses) {
-            Ok(answer) => return answer,
-            Err(next) => door = next,
-        }
-        tiers.pause(rt, &mut pauses);
+    match register_within(tiers, rt, door, tier, members, Unlimited::new()) {
+        Ok(answer) => answer,
+        Err(_) => unreachable!(),
     }
-    unreachable!()
 }
 
 // Resumes an arrival or a departure that was counted, until it is over.
@@ -267,6 +296,42 @@ pub fn pass_wait<R: Wait, F: Fn(u32, u32) -> bool>(
     unreachable!()
 }
 
+/// Waits as [`await_advance`] does, as long as `patience` lasts. Then fails with `TimedOut`: the members have arrived, are still
+/// registered, and their phase was not over at the last look.
+pub fn await_within<R: Wait, P: Patience<R> + Drop>(
+    tiers: &Tiers,
+    rt: &R,
+    crew: &mut Crew,
+    patience: P,
+) -> Result<AwaitedAdvance, TimedOut>
+    requires own { crew.old.tree ≡ tiers.now }
+    ensures tree { crew.new.tree ≡ crew.old.tree }
+    ensures answer { AwaitsWithin crew.old crew.new result }
+    ensures waited { IfOk result (AwaitWaited crew.old crew.new) }
+    ensures unsplit { crew.new.opened ≡ crew.old.opened }
+    ensures made { HasLooked crew.old.steps crew.new.steps }
+    ensures caught_up { IfOk result (λ answer. CaughtUpBy answer crew.new) }
+    ensures ended { (phase : ℕ) → crew.old.view.end_seen ≡ Some phase → MatchResult result HasEndedWait (λ fault. ⊥) }
+    ensures within { IfErr result (λ fault. P.ends) }
+{
+    // For the prover: a crew has members.
+    let _ = crew.size();
+    let mut patience = patience;
+    for _ in rt.forever() {
+        match tiers.poll(crew) {
+            Polled::Passed(phase) => return Ok(AwaitedAdvance::Passed(phase)),
+            Polled::Here(phase) => return Ok(AwaitedAdvance::Here(phase)),
+            Polled::Ended(shown) => return Ok(AwaitedAdvance::Ended(shown)),
+            Polled::Waiting => {
+                if tiers.pause(rt, &mut patience).is_err() {
+                    return Err(TimedOut);
+                }
+            }
+        }
+    }
+    unreachable!()
+}
+
 /// Waits until the phase in which all members of `crew` have arrived is over. Returns at once if a member has not
 /// arrived, or the tree has ended.
 pub fn await_advance<R: Wait>(tiers: &Tiers, rt: &R, crew: &mut Crew) -> AwaitedAdvance
@@ -279,18 +344,10 @@ pub fn await_advance<R: Wait>(tiers: &Tiers, rt: &R, crew: &mut Crew) -> Awaited
     ensures caught_up { CaughtUpBy result crew.new }
     ensures ended { (phase : ℕ) → crew.old.view.end_seen ≡ Some phase → HasEndedWait result }
 {
-    // For the prover: a crew has members.
-    let _ = crew.size();
-    let mut pauses = Pauses::new();
-    for _ in rt.forever() {
-        match tiers.poll(crew) {
-            Polled::Passed(phase) => return AwaitedAdvance::Passed(phase),
-            Polled::Here(phase) => return AwaitedAdvance::Here(phase),
-            Polled::Ended(shown) => return AwaitedAdvance::Ended(shown),
-            Polled::Waiting => tiers.pause(rt, &mut pauses),
-        }
+    match await_within(tiers, rt, crew, Unlimited::new()) {
+        Ok(answer) => answer,
+        Err(_) => unreachable!(),
     }
-    unreachable!()
 }
 
 impl<F: Fn(u32, u32) -> bool> Tree<F> {

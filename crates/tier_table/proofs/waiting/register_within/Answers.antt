@@ -1,7 +1,7 @@
 use Rattle.std.proofs.Common.{◌∙◌, refl, inl, inr}
 use Rattle.std.proofs.lemmas.Bool.{false≢true}
 use Rattle.tier_table.proofs.Lasting.{entered_then}
-use Rattle.tier_table.proofs.waiting.register_wait.Goals as goal
+use Rattle.tier_table.proofs.waiting.register_within.Goals as goal
 
 pub loop-init : goal.loop-init
 loop-init g c = (tt, tt, c.requires.own, λ p e. e, refl, inl refl)
@@ -21,7 +21,11 @@ returns-in-Ok g c = record {
   unsplit = c.in-Ok.ensures.unsplit ∙ c.loop.invariant.4;
   made = entered_then c.loop.invariant.5 c.in-Ok.ensures.made;
   ended = λ p e. c.in-Ok.ensures.ended p (c.loop.invariant.3 p e);
+  within = tt;
 }
+
+pub returns-then-is_err-clause-made : goal.returns-then-is_err-clause-made
+returns-then-is_err-clause-made g c = entered_then c.loop.invariant.5 c.in-Err.ensures.made
 
 pub loop-preserved : goal.loop-preserved
 loop-preserved g c = (

@@ -1,7 +1,7 @@
 use Rattle.std.proofs.Common.{◌∙◌, rules}
 use Rattle.std.proofs.lemmas.Bool.{false≢true}
-use Rattle.tier_table.proofs.GroupsLasting.{waited_first, waited_more}
-use Rattle.tier_table.proofs.groups.await_advance_all.Goals as goal
+use Rattle.tier_table.proofs.GroupsLasting.{waited_first, waited_more, waits_all}
+use Rattle.tier_table.proofs.groups.await_all_within.Goals as goal
 
 pub loop-init : goal.loop-init
 loop-init g c = (tt, tt, waited_first c.args.group.now, λ p e. e)
@@ -72,3 +72,15 @@ returns-in-Here-clause-ended g c = λ p e. absurd (c.in-Here.ensures.ended p (c.
 
 pub returns-in-Ended-clause-ended : goal.returns-in-Ended-clause-ended
 returns-in-Ended-clause-ended g c = λ p e. tt
+
+pub returns-then-is_err-clause-answer : goal.returns-then-is_err-clause-answer
+returns-then-is_err-clause-answer g c =
+    let reported = c.in-Waiting.ensures.answer in
+    let kept = c.loop.invariant.2 in
+    waits_all 1 (kept.view.size ∙ c.size.ensures.one) kept reported.0 reported.1 reported.2 reported.3 reported.4
+
+pub returns-then-is_err-clause-tree : goal.returns-then-is_err-clause-tree
+returns-then-is_err-clause-tree g c = c.in-Waiting.ensures.answer.0 ∙ c.loop.invariant.2.tree
+
+pub returns-then-is_err-clause-ended : goal.returns-then-is_err-clause-ended
+returns-then-is_err-clause-ended g c = λ p e. absurd (c.in-Waiting.ensures.ended p (c.loop.invariant.3 p e))

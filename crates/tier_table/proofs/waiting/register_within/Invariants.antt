@@ -1,6 +1,6 @@
 use Rattle.std.proofs.Common.{◌≡◌, ◌⊎◌, ℕ, Some}
 use Rattle.tier_calls.specs.Made.{HasEntered}
-use Rattle.tier_table.proofs.waiting.register_wait.Given as goal
+use Rattle.tier_table.proofs.waiting.register_within.Given as goal
 
 abbrev pub invariant-loop : goal.invariant-loop
 invariant-loop g l =

@@ -1,7 +1,7 @@
 use Rattle.std.proofs.Common.{◌≡◌, ◌⊎◌, ℕ, Some}
 use Rattle.tier_calls.specs.Made.{HasLooked}
 use Rattle.tier_calls.specs.Passes.{IsSame}
-use Rattle.tier_table.proofs.waiting.await_advance.Given as goal
+use Rattle.tier_table.proofs.waiting.await_within.Given as goal
 
 abbrev pub invariant-loop : goal.invariant-loop
 invariant-loop g l =

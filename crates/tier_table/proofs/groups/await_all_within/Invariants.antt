@@ -1,6 +1,6 @@
 use Rattle.std.proofs.Common.{◌≡◌, ℕ, Some}
 use Rattle.tier_table.specs.GroupsAtLast.{HaveWaited}
-use Rattle.tier_table.proofs.groups.await_advance_all.Given as goal
+use Rattle.tier_table.proofs.groups.await_all_within.Given as goal
 
 abbrev pub invariant-loop : goal.invariant-loop
 invariant-loop g l =
