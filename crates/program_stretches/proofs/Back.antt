@@ -4,12 +4,13 @@ use Rattle.superstep_memory.specs.Paths.{is_rising}
 use Rattle.program_stretches.specs.declared.fault.Outcome.TheVariants.{Faulted}
 use Rattle.program_stretches.specs.PartValue.{PartValue}
 use Rattle.program_stretches.specs.Next.{CanAllSettle}
-use Rattle.program_stretches.specs.Parts.{Reading, EachDid, covers, fault_in, tasks_in, puts_in, deeds_in, prints_in}
+use Rattle.program_stretches.specs.Parts.{Reading, EachDid, FindsMaker, covers, fault_in, tasks_in, puts_in, deeds_in, prints_in}
 use Rattle.program_stretches.specs.SuperstepStart.{live_of}
 use Rattle.program_stretches.specs.StretchesValue.{StretchesValue, status_in, IsAfter, IsOpen, IsRunSoFar, HaveRun}
 use Rattle.program_stretches.specs.Closing.{EndsBy, IsClosed}
 use Rattle.program_stretches.proofs.Closed.{after_with, closed_from, closed_end, open_now, begun_now, did_now, fault_now}
-use Rattle.program_stretches.proofs.EachDone.{live_rise, each_did, each_can}
+use Rattle.program_stretches.proofs.Finding.{finds_maker}
+use Rattle.program_stretches.proofs.EachDone.{live_rise, each_did, each_can, each_known}
 
 -- a run that goes on, and whose stretches are all back
 pub record AreBack {Q S T : Type 0} (m : Q → Reading S T) (v : StretchesValue Q S) : Type 0 where
@@ -87,3 +88,9 @@ module _ {Q S T : Type 0} {m : Q → Reading S T} {v : StretchesValue Q S} (b : 
       all_can =
           subst (CanAllSettle (m v.program).path) (sym is)
           (each_can (m v.program) b.law v.arrays v.step (live_of now.start) rise v.count 0 v.parts now.own b.covered quiet)
+
+      pub all_found : FindsMaker v.arrays (puts_in found) found
+      all_found =
+          subst (λ (ss : List (Option (PartValue S))). FindsMaker v.arrays (puts_in ss) ss) (sym is)
+          (finds_maker v.arrays v.parts
+          (each_known (m v.program) b.law v.arrays v.step (live_of now.start) rise v.count 0 v.parts now.own b.covered quiet))

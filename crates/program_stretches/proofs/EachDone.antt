@@ -9,7 +9,7 @@ use Rattle.programs.specs.Reads.{reads}
 use Rattle.programs.specs.DeedValue.{DeedValue}
 use Rattle.programs.specs.Regroup.{AreNumbered}
 use Rattle.programs.specs.Superstep.{State, or_next}
-use Rattle.programs.specs.InPlace.{AllDone, deeds_of, kept, living_with, left_in, spawned_in}
+use Rattle.programs.specs.InPlace.{AllDone, deeds_of, kept, living_with, left_in, spawned_in, made_in}
 use Rattle.programs.specs.History.{AreOf, says_in}
 use Rattle.programs.proofs.RunState.{deeds_reported, fits_in}
 use Rattle.programs.proofs.History.{agrees, all_formed, entries_rise, numbers_in, rising_front, stays_in}
@@ -22,6 +22,7 @@ use Rattle.program_stretches.specs.SuperstepStart.{live_of}
 use Rattle.program_stretches.specs.Did.{DidAll}
 use Rattle.program_stretches.specs.StretchesValue.{StretchesValue, state_with, IsAfter}
 use Rattle.program_stretches.proofs.Along.{both}
+use Rattle.program_stretches.proofs.Finding.{AreKnown, made_all}
 use Rattle.program_stretches.proofs.Whole.{ran_all}
 use Rattle.program_stretches.proofs.Taken.{paths_rise}
 
@@ -71,6 +72,25 @@ module _ {S T : Type 0} (r : Reading S T) (law : (t : S) → r.frame.path (r.mea
           says = says_in r.frame 0 d.entries;
           done = (d.reported (says_in r.frame 0 d.entries) (agrees r.frame 0 arrays step d.entries rises)).done;
         }
+
+    -- and made as many puts as its deed says
+    pub puts_each : (olds : List S) (part : PartValue S) → is_rising (map r.path olds) ≡ true → HasRun r arrays step olds part
+        → length part.tasks ≡ length olds → part.fault ≡ None
+        → made_in part.deeds ≡ length part.puts
+    puts_each olds part rise h same none =
+        let d =
+        subst (λ (o : Option (ℕ × List ℕ)). DidAll r arrays step o part.puts olds part.tasks part.deeds part.prints) none
+        (ran_all r arrays step olds part h same) in
+        let are : AreOf r.frame (map r.meant olds) d.entries = record {
+          back = map r.meant d.back;
+          cut = ap (map r.meant) d.cut ∙ map-append r.meant d.done d.back ∙ ap (λ (xs : List T). xs ++ map r.meant d.back) (sym d.tasks);
+          whole = λ e. ap (map r.meant) (d.whole refl);
+        } in
+        let rises = entries_rise r.frame (map r.meant olds) d.entries are (ap is_rising (paths_read olds) ∙ rise) in
+        let says = says_in r.frame 0 d.entries in
+        let all = d.reported says (agrees r.frame 0 arrays step d.entries rises) in
+        made_all (reads says r.meant r.path) part.tasks part.deeds (deeds_of (reads says r.meant r.path) arrays step olds) all.done
+        ∙ ap length (sym all.log)
 
     pub deeds_each : (olds us : List S) (ds : List (DeedValue S)) → DidEach olds us ds → length us ≡ length ds
     deeds_each olds us ds d =
@@ -135,6 +155,13 @@ module _ {S T : Type 0} (r : Reading S T) (law : (t : S) → r.frame.path (r.mea
           let f = each_fits p.olds part rises t.0 t.1 none in
           record { done = done; same = f.same; rising = f.rising; numbered = f.numbered }
 
+      -- and made as many puts as their deeds say
+      pub part_made : (part : PartValue S) → IsPartOf r arrays live step part → part.done ≡ true → part.fault ≡ None
+          → made_in part.deeds ≡ length part.puts
+      part_made part p done none =
+          let t = subst (λ b. HasDone r arrays step b p.olds part) done p.reported in
+          puts_each p.olds part (olds_rise live p.olds p.back part.first p.live_from rise) t.0 t.1 none
+
       -- if all stay, the same tasks live
       pub part_stays : (part : PartValue S) → IsPartOf r arrays live step part → part.done ≡ true → part.fault ≡ None
           → left_in part.deeds ≡ 0 → spawned_in part.deeds ≡ 0
@@ -177,6 +204,17 @@ module _ {S T : Type 0} (r : Reading S T) (law : (t : S) → r.frame.path (r.mea
           let b = both (part.first == at) part.done a.0 in
           let n = none_first part.fault (fault_in ss) none in
           (part_settles part own.0 b.1 n.0, each_can end (at + length part.tasks) ss own.1 a.1 n.1)
+
+      -- and it is known who made which puts
+      pub each_known : (end at : ℕ) (ss : List (Option (PartValue S))) → AreOwn r arrays live step ss → covers true end at ss ≡ true
+          → fault_in ss ≡ None → AreKnown ss
+      each_known end at [] own h none = tt
+      each_known end at (None ∷ ss) own h none = cc
+      each_known end at (Some part ∷ ss) own h none =
+          let a = both ((part.first == at) && part.done) (covers true end (at + length part.tasks) ss) h in
+          let b = both (part.first == at) part.done a.0 in
+          let n = none_first part.fault (fault_in ss) none in
+          (own.0.sets, part_made part own.0 b.1 n.0, each_known end (at + length part.tasks) ss own.1 a.1 n.1)
 
 module _ {Q S T : Type 0} (m : Q → Reading S T) (v : StretchesValue Q S)
     (law : (t : S) → (m v.program).frame.path ((m v.program).meant t) ≡ (m v.program).path t) where

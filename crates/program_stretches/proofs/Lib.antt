@@ -12,6 +12,7 @@ pub mod Owning
 pub mod RunsSoFar
 pub mod Closed
 pub mod Refusing
+pub mod Finding
 pub mod EachDone
 pub mod Reopening
 pub mod Back

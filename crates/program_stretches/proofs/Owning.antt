@@ -1,17 +1,22 @@
 -- Stretches are taken, run and taken back.
 use Rattle.std.proofs.Common.{◌≡◌, ◌⊎◌, ◌<◌, ℕ, zero, suc, ◌+◌, Bool, true, false, List, [], ◌∷◌, ◌++◌, length, drop, Option, Some, None, Result, Ok, Err, slice_get, slice_set, get_or, refl, sym, ap, ◌∙◌, subst, inl, inr, ⊎_elim, arith}
 use Rattle.std.specs.Prelude.{ℤ, OnOk, OnErr, not}
+use Rattle.std.specs.List.{list_all}
+use Rattle.superstep_memory.specs.Landing.{is_set}
 use Rattle.program_stretches.specs.PartValue.{PartValue}
 use Rattle.program_stretches.specs.Parts.{Reading, HasRun, HasDone, IsPartOf, IsOwn, AreOwn, AreFresh, fresh_part, tasks_in}
 use Rattle.program_stretches.specs.StretchesValue.{ready_at}
 use Rattle.program_stretches.proofs.Whole.{drop_more}
 
+not_both : {A : Type 0} {b : Bool} → b ≡ true → b ≡ false → A
+not_both on off = let bad : true ≡ false = sym on ∙ off in absurd cc
+
 module _ {S T : Type 0} (r : Reading S T) (arrays : List (List ℕ × List ℤ)) (live : List S) (step : ℕ) where
   -- tasks that ran are of the same live ones; so are none
   pub ran_is_part : (old new : PartValue S) → IsPartOf r arrays live step old → old.done ≡ false → new.first ≡ old.first
       → ((new.done ≡ true) × HasRun r arrays step old.tasks new × (length new.tasks ≡ length old.tasks)) ⊎ (new ≡ fresh_part old.first [])
-      → IsPartOf r arrays live step new
-  ran_is_part old new h n first way = ⊎_elim yes no way
+      → new.settled ≡ false → IsPartOf r arrays live step new
+  ran_is_part old new h n first way un = ⊎_elim yes no way
     where
       fresh : old ≡ fresh_part old.first h.olds
       fresh = subst (λ b. HasDone r arrays step b h.olds old) n h.reported
@@ -25,20 +30,35 @@ module _ {S T : Type 0} (r : Reading S T) (arrays : List (List ℕ × List ℤ))
         back = h.back;
         live_from = ap (λ (k : ℕ). drop k live) first ∙ h.live_from ∙ ap (λ ts. ts ++ h.back) (sym tasks);
         reported = subst (λ b. HasDone r arrays step b old.tasks new) (sym t.0) (t.1, t.2);
+        sets = λ on. not_both on un;
       }
 
       no : new ≡ fresh_part old.first [] → IsPartOf r arrays live step new
       no e =
-          subst (IsPartOf r arrays live step) (sym e) (record { olds = []; back = drop old.first live; live_from = refl; reported = refl })
+          subst (IsPartOf r arrays live step) (sym e)
+          (record { olds = []; back = drop old.first live; live_from = refl; reported = refl; sets = λ on. not_both on refl })
 
   -- whichever way a run of them ended
   pub run_is_part : {X E : Type 0} (answer : Result X E) (old new : PartValue S) → IsPartOf r arrays live step old → old.done ≡ false
       → new.first ≡ old.first
       → OnOk answer (new.done ≡ true) → OnOk answer (HasRun r arrays step old.tasks new) → OnOk answer (length new.tasks ≡ length old.tasks)
-      → OnErr answer (new ≡ fresh_part old.first [])
+      → OnErr answer (new ≡ fresh_part old.first []) → new.settled ≡ false
       → IsPartOf r arrays live step new
-  run_is_part (Ok x) old new h n first done ran count lost = ran_is_part old new h n first (inl (done, ran, count))
-  run_is_part (Err e) old new h n first done ran count lost = ran_is_part old new h n first (inr lost)
+  run_is_part (Ok x) old new h n first done ran count lost un = ran_is_part old new h n first (inl (done, ran, count)) un
+  run_is_part (Err e) old new h n first done ran count lost un = ran_is_part old new h n first (inr lost) un
+
+  -- so are they once they are settled, if none of their puts adds
+  pub settled_is_part : (old new : PartValue S) → IsPartOf r arrays live step old → old.done ≡ true → list_all is_set old.puts ≡ true
+      → new ≡ record old { settled = new.settled } → IsPartOf r arrays live step new
+  settled_is_part old new h done all e =
+      let t = subst (λ b. HasDone r arrays step b h.olds old) done h.reported in
+      subst (IsPartOf r arrays live step) (sym e) (record {
+        olds = h.olds;
+        back = h.back;
+        live_from = h.live_from;
+        reported = subst (λ b. HasDone r arrays step b h.olds (record old { settled = new.settled })) (sym done) (t.0, t.1);
+        sets = λ on. all;
+      })
 
   pub own_get : (parts : List (Option (PartValue S))) (k : ℕ) (part : PartValue S) → AreOwn r arrays live step parts
       → slice_get parts k ≡ Some (Some part) → IsPartOf r arrays live step part
@@ -73,6 +93,7 @@ module _ {S T : Type 0} (r : Reading S T) (arrays : List (List ℕ × List ℤ))
       reported =
           subst (λ b. HasDone r arrays step b part.tasks part) (sym (ap (λ (p : PartValue S). p.done) h.0))
           (h.0 ∙ ap (λ (k : ℕ). fresh_part k part.tasks) (sym (ap (λ (p : PartValue S). p.first) h.0)));
+      sets = λ on. not_both on (ap (λ (p : PartValue S). p.settled) h.0);
     },
     fresh_from (at + length part.tasks) ss live (drop_more live part.tasks (tasks_in ss) at (length part.tasks) e refl) h.1,
   )

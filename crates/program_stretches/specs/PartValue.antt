@@ -5,7 +5,7 @@ use Rattle.phase_records.specs.PrintValue.{PrintValue}
 use Rattle.programs.specs.DeedValue.{DeedValue}
 
 -- Consecutive live tasks, and the place of the first among all live ones. Once they have run: their puts, deeds and
--- prints, and the first fault.
+-- prints, the first fault, and whether the next live tasks have replaced them.
 pub record PartValue (S : Type 0) : Type 0 where
   pub first : ℕ
   pub tasks : List S
@@ -14,3 +14,4 @@ pub record PartValue (S : Type 0) : Type 0 where
   pub deeds : List (DeedValue S)
   pub prints : List PrintValue
   pub fault : Option (ℕ × List ℕ)
+  pub settled : Bool

@@ -1,5 +1,5 @@
 -- A stretch as its code keeps it (own).
-use Rattle.std.specs.Prelude.{ℕ, List, reverse}
+use Rattle.std.specs.Prelude.{ℕ, List, reverse, is_some}
 use Rattle.program_stretches.specs.declared.part.Part.TheInside.{Inside}
 use Rattle.program_stretches.specs.PartValue.{PartValue}
 use Rattle.program_stretches.specs.Kept.{IsKept, tasks_by, deeds_by, if_done, fault_if_done}
@@ -13,6 +13,7 @@ part_of i = record {
   deeds = if_done i.state.value.done (deeds_by i.state.value.notes.items i.state.value.deeds);
   prints = if_done i.state.value.done i.state.value.prints.items;
   fault = fault_if_done i.state.value.done i.state.value.fault;
+  settled = is_some i.state.value.settled;
 }
 
 abbrev pub IsPartInside : {S : Type 0} → (S → List ℕ) → Inside S → Type 0

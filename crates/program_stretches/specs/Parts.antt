@@ -1,12 +1,14 @@
 -- What a stretch has done of its superstep, and what stretches are together (own).
-use Rattle.std.specs.Prelude.{◌≡◌, ◌==◌, ◌&&◌, ℕ, ℤ, ◌+◌, Bool, true, false, not, List, [], ◌∷◌, ◌++◌, length, drop, Option, Some, None}
+use Rattle.std.specs.Prelude.{◌≡◌, ◌<◌, ◌==◌, ◌&&◌, ℕ, ℤ, ◌+◌, ◌-◌, nat_lt, if◌then◌else◌, Bool, true, false, not, List, [], ◌∷◌, ◌++◌, length, drop, Option, Some, None}
+use Rattle.std.specs.List.{list_all}
 use Rattle.superstep_memory.specs.declared.arrays.Put.{Put}
+use Rattle.superstep_memory.specs.Landing.{is_set, over_in}
 use Rattle.phase_records.specs.PrintValue.{PrintValue}
 use Rattle.programs.specs.Meaning.{Segment, Frame}
 use Rattle.programs.specs.Superstep.{or_next}
 use Rattle.programs.specs.History.{Setup}
 use Rattle.programs.specs.DeedValue.{DeedValue}
-use Rattle.programs.specs.InPlace.{living_with}
+use Rattle.programs.specs.InPlace.{living_with, made_in}
 use Rattle.programs.specs.Done.{HasDoneRange}
 use Rattle.program_stretches.specs.PartValue.{PartValue}
 
@@ -29,7 +31,8 @@ setup_by r most arrays tasks limit =
 module _ {S : Type 0} where
   -- one whose tasks haven't run
   abbrev pub fresh_part : ℕ → List S → PartValue S
-  fresh_part first tasks = record { first = first; tasks = tasks; done = false; puts = []; deeds = []; prints = []; fault = None }
+  fresh_part first tasks =
+      record { first = first; tasks = tasks; done = false; puts = []; deeds = []; prints = []; fault = None; settled = false }
 
 module _ {S T : Type 0} where
   -- these tasks ran at this step over these arrays, and this is what they left; or the first fault of theirs is known
@@ -43,12 +46,13 @@ module _ {S T : Type 0} where
   HasDone r arrays step false olds part = part ≡ fresh_part part.first olds
   HasDone r arrays step true olds part = HasRun r arrays step olds part × (length part.tasks ≡ length olds)
 
-  -- it is of these live tasks
+  -- it is of these live tasks; once it is settled, none of its puts adds
   pub record IsPartOf (r : Reading S T) (arrays : List (List ℕ × List ℤ)) (live : List S) (step : ℕ) (part : PartValue S) : Type 0 where
     pub olds : List S
     pub back : List S
     pub live_from : drop part.first live ≡ olds ++ back
     pub reported : HasDone r arrays step part.done olds part
+    pub sets : part.settled ≡ true → list_all is_set part.puts ≡ true
 
   -- one that is there is of these live tasks
   abbrev pub IsOwn : Reading S T → List (List ℕ × List ℤ) → List S → ℕ → Option (PartValue S) → Type 0
@@ -89,6 +93,18 @@ module _ {S : Type 0} where
   -- of their tasks those that go on, each with the tasks that it spawned
   abbrev pub living_in : List (Option (PartValue S)) → List S
   living_in ss = in_turn (λ part. living_with part.tasks part.deeds) ss
+
+  -- whether the task whose put is at this place of all puts, by their deeds, is of a stretch that is settled
+  abbrev pub settled_at : List (Option (PartValue S)) → ℕ → Bool
+  settled_at [] place = false
+  settled_at (None ∷ ss) place = settled_at ss place
+  settled_at (Some part ∷ ss) place =
+      if nat_lt place (made_in part.deeds) then part.settled else settled_at ss (place - made_in part.deeds)
+
+  -- if one of these puts overflows, its task can be found
+  abbrev pub FindsMaker : List (List ℕ × List ℤ) → List Put → List (Option (PartValue S)) → Type 0
+  FindsMaker arrays puts ss =
+      (place : ℕ) → Some place ≡ over_in arrays [] 0 puts → (settled_at ss place ≡ false) × (place < made_in (deeds_in ss))
 
   -- none of their tasks faulted, and each of them has a deed
   abbrev pub EachDid : List (Option (PartValue S)) → Type 0

@@ -1,9 +1,9 @@
 //! A stretch of live tasks, and what they did.
-ghost use Rattle.std.specs.Prelude.{◌≡◌, ◌≤◌, ◌++◌, [], None, true, false, length, map, reverse, slice_get, IfSome, OnOk, OnErr};
+ghost use Rattle.std.specs.Prelude.{◌≡◌, ◌≤◌, ◌<◌, ◌++◌, ◌↔◌, [], None, true, false, IsTrue, is_some, length, map, reverse, slice_get, IfSome, MatchOption, OnOk, OnErr};
 ghost use Rattle.std.specs.Option.{option_map};
 ghost use Rattle.superstep_memory.specs.Paths.{is_rising};
 ghost use Rattle.superstep_memory.specs.PathOrder.{in_path_order};
-ghost use Rattle.programs.specs.InPlace.{living_with};
+ghost use Rattle.programs.specs.InPlace.{left_in, living_with, made_in, spawned_in};
 ghost use Rattle.programs.specs.Regroup.{AreNumbered};
 ghost use Rattle.program_stretches.specs.Kept.{IsKept, tasks_by, deeds_by};
 ghost use Rattle.program_stretches.specs.Parts.{HasRun, reading_of, fresh_part};
@@ -89,7 +89,7 @@ pub fn blame_again(blame: &Blame) -> Blame
 }
 
 impl<T: OnPath> Part<T> {
-    ghost use Rattle.std.specs.Prelude.{◌≡◌, ◌≤◌, ◌<◌, ◌+◌, ◌++◌, ◌↔◌, [], Some, true, false, IsTrue, IfOk, IfSome, OnOk, OnErr, is_some, length, map, reverse, slice_get};
+    ghost use Rattle.std.specs.Prelude.{◌≡◌, ◌≤◌, ◌<◌, ◌+◌, ◌-◌, ◌++◌, ◌↔◌, ◌&&◌, if◌then◌else◌, not, [], None, Some, true, false, IsTrue, IfOk, IfSome, MatchOption, OnOk, OnErr, is_some, length, map, reverse, slice_get};
     ghost use Rattle.std.specs.Option.{option_map};
     ghost use Rattle.superstep_memory.specs.Paths.{is_rising};
     ghost use Rattle.superstep_memory.specs.PathOrder.{in_path_order};
@@ -242,7 +242,8 @@ impl<T: OnPath> Part<T> {
     /// Returns its tasks, and what each of them did to the list of tasks, up to the first fault. Returns `None` if it is settled, or
     /// if its tasks haven't run.
     pub fn changes(&self) -> Option<(&[T], Changes<'_, T>)>
-        ensures { IfSome result (λ r. (r.0.now ≡ self.now.tasks) × (r.1 ≡ self.now.deeds)) }
+        ensures changes { IfSome result (λ r. (r.0.now ≡ self.now.tasks) × (r.1 ≡ self.now.deeds)) }
+        ensures some { is_some result ≡ (self.now.done && not self.now.settled) }
     {
         match &self.state.settled {
             None if self.state.done => Some((&self.state.tasks, self.state.deeds.changes())),
@@ -329,19 +330,30 @@ impl<T: OnPath> Part<T> {
 
     /// Returns how many puts its tasks made, by their deeds. `None` if that number is too large to be kept.
     pub fn put_count(&self) -> Option<usize>
-        ensures { IfSome result (λ count. count ≡ made_in self.now.deeds) }
+        ensures { MatchOption result (18446744073709551615 < made_in self.now.deeds) (λ count. count ≡ made_in self.now.deeds) }
     {
         match &self.state.settled {
             Some(settled) => Some(settled.puts),
-            None if self.state.done => self.state.deeds.put_count(),
+            None if self.state.done => count_puts(self.state.deeds.changes()),
             None => Some(0),
         }
+    }
+
+    /// Returns the place, among the puts of later stretches, of the put at this place. `None` if that is one of its own.
+    pub fn pass_by(&self, place: usize) -> Option<usize>
+        ensures { MatchOption result (place < made_in self.now.deeds) (λ rest. (made_in self.now.deeds ≤ place) × (rest ≡ place - made_in self.now.deeds)) }
+    {
+        let count = self.put_count()?;
+        if place < count {
+            return None;
+        }
+        Some(place - count)
     }
 
     /// Returns the fault of the task that made the put at this place of its puts. `None` if fewer were made, if it is settled, or if
     /// its tasks haven't run.
     pub fn blame_at(&self, place: usize) -> Option<Blame>
-        ensures { IfSome result (λ blame. Some blame ≡ option_map overflow_at (maker T.path_of self.now.tasks self.now.deeds place)) }
+        ensures { result ≡ if self.now.settled then None else option_map overflow_at (maker T.path_of self.now.tasks self.now.deeds place) }
     {
         match &self.state.settled {
             None if self.state.done => self.state.deeds.blame_at(&self.state.tasks, place),
@@ -357,13 +369,15 @@ impl<T: OnPath> Part<T> {
     }
 
     /// Replaces tasks that have run by the next live tasks, in path order, if tasks came or left: those that go on and those that
-    /// were spawned. This changes nothing of what is said of them. If memory runs out, nothing changes.
+    /// were spawned. This changes nothing else of what is said of them. If memory runs out, nothing changes.
     pub fn settle(&mut self) -> Result<(), AllocError>
         requires done { self.old.done ≡ true }
         requires same { length self.old.tasks ≡ length self.old.deeds }
         requires rising { is_rising (map T.path_of self.old.tasks) ≡ true }
         requires numbered { AreNumbered T.path_of self.old.tasks self.old.deeds }
-        ensures { self.new ≡ self.old }
+        ensures rest { self.new ≡ record self.old { settled = self.new.settled } }
+        ensures memory { OnErr result (self.new ≡ self.old) }
+        ensures settled { OnOk result (IsTrue self.new.settled ↔ ((left_in self.old.deeds ≡ 0) × (spawned_in self.old.deeds ≡ 0) → ⊥)) }
     {
         settle_state(&mut self.state)
     }
@@ -434,6 +448,8 @@ fn settle_state<T: OnPath>(state: &mut State<T>) -> Result<(), AllocError>
     ensures tasks { tasks_by state.new.notes.items state.new.tasks.items ≡ tasks_by state.old.notes.items state.old.tasks.items }
     ensures deeds { deeds_by state.new.notes.items state.new.deeds ≡ deeds_by state.old.notes.items state.old.deeds }
     ensures rest { (state.new.first ≡ state.old.first) × (state.new.done ≡ state.old.done) × (state.new.work ≡ state.old.work) × (state.new.prints ≡ state.old.prints) × (state.new.fault ≡ state.old.fault) }
+    ensures settled { OnOk result (IsTrue (is_some state.new.settled) ↔ ((left_in (deeds_by state.old.notes.items state.old.deeds) ≡ 0) × (spawned_in (deeds_by state.old.notes.items state.old.deeds) ≡ 0) → ⊥)) }
+    ensures memory { OnErr result (state.new.settled ≡ state.old.settled) }
     ensures next { OnOk result (state.new.tasks.items ++ reverse state.new.spare.waiting.items
         ≡ in_path_order T.path_of (living_with (tasks_by state.old.notes.items state.old.tasks.items) (deeds_by state.old.notes.items state.old.deeds))) }
 {
@@ -465,6 +481,19 @@ fn settle_state<T: OnPath>(state: &mut State<T>) -> Result<(), AllocError>
     Ok(())
 }
 
+// Returns the number of puts that were made, or `None` if it is too large to be kept.
+fn count_puts<T>(changes: Changes<'_, T>) -> Option<usize>
+    ensures { MatchOption result (18446744073709551615 < made_in changes.entry) (λ count. count ≡ made_in changes.entry) }
+{
+    let mut count: usize = 0;
+    let mut rest = changes;
+    while let Some((change, after)) = rest.split_first() {
+        count = count.checked_add(change.puts)?;
+        rest = after;
+    }
+    Some(count)
+}
+
 // Adds the puts to what the segments have computed.
 fn add_puts<T>(work: &mut Work<T>)
     ensures { work.new ≡ record work.old { effort = work.new.effort } }
@@ -484,6 +513,7 @@ pub fn run_part<P: TaskLoop>(
     ensures ran { OnOk result (HasRun (reading_of P.frame P.may P.meant P.Task.path_of program.now) arrays.now step part.old.tasks part.new) }
     ensures count { OnOk result (length part.new.tasks ≡ length part.old.tasks) }
     ensures done { OnOk result (part.new.done ≡ true) }
+    ensures unsettled { part.new.settled ≡ false }
     ensures place { part.new.first ≡ part.old.first }
     ensures lost { OnErr result (part.new ≡ fresh_part part.old.first []) }
 {

@@ -1,11 +1,11 @@
 //! What stretches have done together.
-ghost use Rattle.std.specs.Prelude.{◌≡◌, ◌==◌, ◌&&◌, ◌≤◌, ◌<◌, ◌+◌, ◌++◌, ◌^◌, [], None, Some, nat_le, IfOk, IfSome, OnOk, MatchOption, length, map};
+ghost use Rattle.std.specs.Prelude.{◌≡◌, ◌==◌, ◌&&◌, ◌≤◌, ◌<◌, ◌+◌, ◌++◌, ◌^◌, if◌then◌else◌, [], None, Some, nat_le, IfOk, IfSome, OnOk, MatchOption, length, map};
 ghost use Rattle.std.specs.Vec.{vec_len, vec_capacity};
 ghost use Rattle.std.specs.List.{list_all};
 ghost use Rattle.superstep_memory.specs.Landing.{is_set};
 ghost use Rattle.std.specs.Option.{option_map};
 ghost use Rattle.programs.specs.InPlace.{left_in, spawned_in, overflow_at, maker};
-ghost use Rattle.program_stretches.specs.Parts.{EachDid, covers, is_done, fault_in, of_slot, tasks_in, puts_in, deeds_in, prints_in, renewed};
+ghost use Rattle.program_stretches.specs.Parts.{EachDid, covers, is_done, fault_in, of_slot, settled_at, tasks_in, puts_in, deeds_in, prints_in, renewed};
 
 use crate::part::Part;
 use phase_records::Print;
@@ -154,22 +154,21 @@ pub fn are_all_sets<T: OnPath>(parts: &[Option<Part<T>>]) -> bool
     true
 }
 
-/// Returns the fault of the task that made the put at this place of all puts. `None` if fewer were made, if their number is too
-/// large to be kept, or if the stretch of the task is settled.
+/// Returns the fault of the task that made the put at this place of all puts. `None` if fewer were made, or if the stretch of the
+/// task is settled.
 pub fn find_blame<T: OnPath>(parts: &[Option<Part<T>>], place: usize) -> Option<Blame>
     requires { EachDid parts.now }
-    ensures { IfSome result (λ blame. Some blame ≡ option_map overflow_at (maker T.path_of (tasks_in parts.now) (deeds_in parts.now) place)) }
+    ensures { result ≡ if settled_at parts.now place then None else option_map overflow_at (maker T.path_of (tasks_in parts.now) (deeds_in parts.now) place) }
 {
     let mut left = place;
     let mut place = 0;
     while place < parts.len() {
         let slot = &parts[place];
         if let Some(part) = slot {
-            let count = part.put_count()?;
-            if left < count {
-                return part.blame_at(left);
+            match part.pass_by(left) {
+                Some(rest) => left = rest,
+                None => return part.blame_at(left),
             }
-            left -= count;
         }
         place += 1;
     }

@@ -35,7 +35,7 @@ impl<'p, P: Program> Model for Stretch<'p, P> {
 }
 
 impl<'p, P: Program> Stretch<'p, P> {
-    ghost use Rattle.std.specs.Prelude.{◌≡◌, ◌↔◌, true, None, IsTrue, IfSome, is_some, length, map, slice_get};
+    ghost use Rattle.std.specs.Prelude.{◌≡◌, ◌↔◌, ◌&&◌, not, true, None, IsTrue, IfSome, OnErr, is_some, length, map, slice_get};
     ghost use Rattle.std.specs.Option.{option_map};
     ghost use Rattle.programs.specs.InPlace.{left_in, spawned_in, living_with};
 
@@ -82,7 +82,8 @@ impl<'p, P: Program> Stretch<'p, P> {
 
     /// Returns true if one of its tasks has faulted.
     pub fn has_faulted(&self) -> bool
-        ensures { result ≡ is_some self.now.part.fault }
+        ensures fault { result ≡ is_some self.now.part.fault }
+        ensures each { self.now.part.done ≡ true → self.now.part.fault ≡ None → length self.now.part.tasks ≡ length self.now.part.deeds }
     {
         self.part.has_faulted()
     }
@@ -115,7 +116,8 @@ impl<'p, P: Program> Stretch<'p, P> {
     /// the task of a put that overflows must be found when it lands. After it, `changes` returns `None`.
     pub fn settle(&mut self) -> Result<(), AllocError>
         requires { self.old.part.done ≡ true }
-        ensures { self.new ≡ self.old }
+        ensures rest { self.new ≡ record self.old { part = record self.old.part { settled = self.new.part.settled } } }
+        ensures memory { OnErr result (self.new ≡ self.old) }
     {
         if self.part.has_faulted() {
             return Ok(());
@@ -126,9 +128,11 @@ impl<'p, P: Program> Stretch<'p, P> {
         self.part.settle()
     }
 
-    /// Returns its tasks, and what each of them did to the list of tasks, up to the first fault. Returns `None` once it is settled.
+    /// Returns its tasks, and what each of them did to the list of tasks, up to the first fault. Returns `None` once it is settled, and
+    /// before its tasks have run.
     pub fn changes(&self) -> Option<(&[P::Task], Changes<'_, P::Task>)>
-        ensures { IfSome result (λ r. (r.0.now ≡ self.now.part.tasks) × (r.1 ≡ self.now.part.deeds)) }
+        ensures changes { IfSome result (λ r. (r.0.now ≡ self.now.part.tasks) × (r.1 ≡ self.now.part.deeds)) }
+        ensures some { is_some result ≡ (self.now.part.done && not self.now.part.settled) }
     {
         self.part.changes()
     }
@@ -147,6 +151,7 @@ impl<'p, P: TaskLoop> Stretch<'p, P> {
     pub fn run(&mut self, alloc: Global) -> Result<(), AllocError>
         requires { self.old.part.done ≡ false }
         ensures done { OnOk result (self.new.part.done ≡ true) }
+        ensures unsettled { self.new.part.settled ≡ false }
         ensures count { OnOk result (length self.new.part.tasks ≡ length self.old.part.tasks) }
         ensures paths { OnOk result (self.new.part.fault ≡ None → map P.Task.path_of self.new.part.tasks ≡ map P.Task.path_of self.old.part.tasks) }
         ensures same { self.new ≡ record self.old { part = self.new.part } }

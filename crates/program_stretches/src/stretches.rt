@@ -76,11 +76,11 @@ impl<'t, 'p, P: Program> Stretches<'t, 'p, P> {
     ghost use Rattle.phase_records.specs.StatusSeen.{status_seen};
     ghost use Rattle.programs.specs.Meaning.{children};
     ghost use Rattle.ghost_lists.specs.Agreed.{WasBefore};
-    ghost use Rattle.programs.specs.InPlace.{record_in, left_in, spawned_in};
+    ghost use Rattle.programs.specs.InPlace.{record_in, left_in, spawned_in, made_in};
     ghost use Rattle.std.specs.List.{list_all};
     ghost use Rattle.superstep_memory.specs.Landing.{is_set};
     ghost use Rattle.program_stretches.specs.Next.{CanAllSettle};
-    ghost use Rattle.program_stretches.specs.Parts.{reading_of, AreFresh, EachDid, covers, tasks_in, puts_in, deeds_in, prints_in};
+    ghost use Rattle.program_stretches.specs.Parts.{reading_of, AreFresh, EachDid, FindsMaker, covers, settled_at, tasks_in, puts_in, deeds_in, prints_in};
     ghost use Rattle.program_stretches.specs.StretchesValue.{status_in, left_after, can_leave, can_stop, ready_at, tasks_at, with_slot, IsAfter, IsRunSoFar, HaveRun, OverflowsAt};
     ghost use Rattle.program_stretches.specs.Closing.{IsBegun, IsTaken, Refuses, Accepts, IsSameRun, NotClosed, IsClosed, EndsBy, IsLeftAs, HasLeft, HasLeftTo, IsGiven, IsReopened, AllStay, Logs, opened_with};
 
@@ -315,20 +315,16 @@ impl<'t, 'p, P: Program> Stretches<'t, 'p, P> {
         self.fault = Some(blame);
     }
 
-    // Ends the run by the put at this place of all puts, which overflows. Fails if the stretch of its task is settled: then its puts
-    // don't add, and none of them overflows.
-    fn overflow(
-        &mut self,
-        parts: &[Option<Part<P::Task>>],
-        place: usize,
-    ) -> Result<Outcome, AllocError>
+    // Ends the run by the put at this place of all puts, which overflows.
+    fn overflow(&mut self, parts: &[Option<Part<P::Task>>], place: usize) -> Outcome
         requires none { self.old.parts ≡ [] }
         requires running { status_in self.old ≡ None }
         requires run { OverflowsAt (reading_of P.frame P.may P.meant P.Task.path_of) self.old (tasks_in parts.now) (deeds_in parts.now) (prints_in parts.now) place }
         requires few { length (deeds_in parts.now) + spawned_in (deeds_in parts.now) ≤ self.old.most + left_in (deeds_in parts.now) }
         requires each { EachDid parts.now }
-        ensures closed { IfOk result (λ outcome. IsClosed (reading_of P.frame P.may P.meant P.Task.path_of) self.old self.new outcome) }
-        ensures over { IfOk result (λ outcome. outcome ≡ Outcome.Overflowed) }
+        requires found { (settled_at parts.now place ≡ false) × (place < made_in (deeds_in parts.now)) }
+        ensures closed { IsClosed (reading_of P.frame P.may P.meant P.Task.path_of) self.old self.new result }
+        ensures over { result ≡ Outcome.Overflowed }
         ensures same { IsSameRun self.old self.new }
         ensures log { self.new.log ≡ self.old.log }
         ensures none { self.new.parts ≡ [] }
@@ -337,9 +333,9 @@ impl<'t, 'p, P: Program> Stretches<'t, 'p, P> {
         match find_blame(parts, place) {
             Some(blame) => {
                 self.end(blame);
-                Ok(Outcome::Overflowed)
+                Outcome::Overflowed
             }
-            None => Err(AllocError),
+            None => unreachable!(),
         }
     }
 
@@ -383,6 +379,7 @@ impl<'t, 'p, P: Program> Stretches<'t, 'p, P> {
         requires counts { counts ≡ record_in self.old.step (deeds_in parts.items) }
         requires stays { (counts.left ≡ 0) × (counts.spawned ≡ 0) }
         requires each { EachDid parts.items }
+        requires makers { FindsMaker self.old.arrays (puts.now ++ puts_in parts.items) parts.items }
         ensures closed { IfOk result (λ outcome. IsClosed (reading_of P.frame P.may P.meant P.Task.path_of) self.old self.new outcome) }
         ensures reopened { IfOk result (λ outcome. IsReopened P.Task.path_of outcome self.old.step parts.items self.new) }
         ensures logs { IfOk result (λ outcome. Logs outcome self.old self.new) }
@@ -393,7 +390,7 @@ impl<'t, 'p, P: Program> Stretches<'t, 'p, P> {
     {
         make_room(&parts, &mut self.prints, &mut self.records)?;
         match land_shared(alloc, &mut self.arrays, puts, &parts, &mut self.olds)? {
-            Some(place) => self.overflow(&parts, place),
+            Some(place) => Ok(self.overflow(&parts, place)),
             None => {
                 print_and_renew(&mut parts, &mut self.prints);
                 self.records.push_reserved(counts);
@@ -421,6 +418,7 @@ impl<'t, 'p, P: Program> Stretches<'t, 'p, P> {
         requires moves { AllStay parts.items → ⊥ }
         requires each { EachDid parts.items }
         requires can { CanAllSettle P.Task.path_of parts.items }
+        requires makers { FindsMaker self.old.arrays (puts.now ++ puts_in parts.items) parts.items }
         ensures closed { IfOk result (λ outcome. IsClosed (reading_of P.frame P.may P.meant P.Task.path_of) self.old self.new outcome) }
         ensures reopened { IfOk result (λ outcome. IsReopened P.Task.path_of outcome self.old.step parts.items self.new) }
         ensures logs { IfOk result (λ outcome. Logs outcome self.old self.new) }
@@ -432,7 +430,7 @@ impl<'t, 'p, P: Program> Stretches<'t, 'p, P> {
         let count = (counts.parties - counts.left) as usize;
         make_room(&parts, &mut self.prints, &mut self.records)?;
         match land_shared(alloc, &mut self.arrays, puts, &parts, &mut self.olds)? {
-            Some(place) => self.overflow(&parts, place),
+            Some(place) => Ok(self.overflow(&parts, place)),
             None => {
                 give_all_prints(&mut parts, &mut self.prints);
                 self.records.push_reserved(counts);
@@ -459,6 +457,7 @@ impl<'t, 'p, P: Program> Stretches<'t, 'p, P> {
         requires no_puts { puts.old ≡ [] }
         requires each { EachDid parts.items }
         requires can { CanAllSettle P.Task.path_of parts.items }
+        requires makers { FindsMaker self.old.arrays (puts_in parts.items) parts.items }
         ensures closed { IfOk result (λ outcome. IsClosed (reading_of P.frame P.may P.meant P.Task.path_of) self.old self.new outcome) }
         ensures reopened { IfOk result (λ outcome. IsReopened P.Task.path_of outcome self.old.step parts.items self.new) }
         ensures logs { IfOk result (λ outcome. Logs outcome self.old self.new) }

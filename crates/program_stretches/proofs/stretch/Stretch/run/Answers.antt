@@ -26,7 +26,7 @@ invariant_of-self g c =
           (ap (λ (s : StretchValue g.row.P.Denot g.row.P-Task.Denot). s.part.done) c.self.view_is ∙ c.requires) c.run_part.ensures.place
           c.run_part.ensures.done
           (subst (λ (a : List (List ℕ × List ℤ)). OnOk c.run_part.result (HasRun (m q) a c.self.inside.step c.self.inside.part.tasks c.run_part.new.part)) c.deref.ensures c.run_part.ensures.ran)
-          c.run_part.ensures.count c.run_part.ensures.lost;
+          c.run_part.ensures.count c.run_part.ensures.lost c.run_part.ensures.unsettled;
     }
 
 pub returns-clause-paths : goal.returns-clause-paths

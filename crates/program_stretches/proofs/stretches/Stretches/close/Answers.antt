@@ -6,7 +6,7 @@ use Rattle.program_stretches.specs.StretchesValue.{StretchesValue, status_in}
 use Rattle.program_stretches.specs.StretchesView.{stretches_of}
 use Rattle.program_stretches.specs.Closing.{IsClosed}
 use Rattle.program_stretches.proofs.Closed.{closed_from}
-use Rattle.program_stretches.proofs.Back.{are_back, run_without, fault_ends, fault_closes, all_have_run, all_did, all_can}
+use Rattle.program_stretches.proofs.Back.{are_back, run_without, fault_ends, fault_closes, all_have_run, all_did, all_can, all_found}
 use Rattle.program_stretches.proofs.stretches.Stretches.close.Goals as goal
 
 pub end-requires-clause-ends : goal.end-requires-clause-ends
@@ -110,6 +110,18 @@ take_superstep-requires-clause-can g c =
     let parts = ap (λ x. x.items) c.replace-parts.ensures.value in
     let none = sym (c.find_fault.ensures ∙ ap fault_in c.deref-2.ensures.value) ∙ c.in_default.is in
     all_can b parts none
+
+pub take_superstep-requires-clause-makers : goal.take_superstep-requires-clause-makers
+take_superstep-requires-clause-makers g c =
+    let m = reading_of g.P.Program.frame g.P.Program.may g.P.Program.meant g.P.Task.OnPath.path_of in
+    let v = stretches_of c.self.inside in
+    let b =
+    are_back m v (g.met.P.Program.keeps_paths v.program) c.self.invariant.run
+    (sym (c.cover.ensures ∙ ap (covers true v.count 0) c.deref.ensures.value) ∙ c.if-not-cover.false)
+    (ap (λ (x : StretchesValue g.row.P.Denot g.row.P-Task.Denot). status_in x) c.self.view_is ∙ c.requires.running) in
+    let parts = ap (λ x. x.items) c.replace-parts.ensures.value in
+    let none = sym (c.find_fault.ensures ∙ ap fault_in c.deref-2.ensures.value) ∙ c.in_default.is in
+    all_found b parts none
 
 pub returns-clause-refused : goal.returns-clause-refused
 returns-clause-refused = grind (arith, common_steps)

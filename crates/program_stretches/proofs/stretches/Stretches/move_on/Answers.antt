@@ -11,6 +11,7 @@ use Rattle.program_stretches.specs.StretchesValue.{StretchesValue, status_in}
 use Rattle.program_stretches.specs.StretchesView.{stretches_of}
 use Rattle.program_stretches.proofs.Closed.{below_limit}
 use Rattle.program_stretches.proofs.Counted.{is_ready, next_count, has_landed, run_landed, after_now, closed_now}
+use Rattle.program_stretches.proofs.Finding.{found_on}
 use Rattle.program_stretches.proofs.EachDone.{living_joined, living_left, can_unprinted}
 use Rattle.program_stretches.proofs.stretches.Stretches.move_on.Goals as goal
 
@@ -161,3 +162,9 @@ returns-in_ok-reopen-in-None-clause-given = grind (arith, common_steps)
 
 pub returns-in_ok-reopen-in-None-clause-logs : goal.returns-in_ok-reopen-in-None-clause-logs
 returns-in_ok-reopen-in-None-clause-logs = grind (arith, common_steps)
+
+pub overflow-requires-clause-found : goal.overflow-requires-clause-found
+overflow-requires-clause-found g c =
+    found_on c.args.puts.now c.args.parts.items _ _ c.in-Some.place c.deref-2.ensures.value c.deref-in-Some.ensures.value
+    (sym c.in-Some.is ∙ c.in_ok-place.ensures.place)
+    (ap (λ (x : StretchesValue g.row.P.Denot g.row.P-Task.Denot). x.arrays) c.self.view_is) c.requires.makers

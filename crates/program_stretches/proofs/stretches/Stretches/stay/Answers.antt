@@ -7,6 +7,7 @@ use Rattle.program_stretches.specs.Parts.{reading_of, AreFresh, tasks_in, puts_i
 use Rattle.program_stretches.specs.StretchesValue.{StretchesValue}
 use Rattle.program_stretches.proofs.Closed.{tasks_renewed, fresh_renewed}
 use Rattle.program_stretches.proofs.Counted.{is_ready, count_stays, all_follow, has_landed, run_landed, after_now, closed_now}
+use Rattle.program_stretches.proofs.Finding.{found_on}
 use Rattle.program_stretches.proofs.EachDone.{living_joined}
 use Rattle.program_stretches.proofs.stretches.Stretches.stay.Goals as goal
 
@@ -111,3 +112,9 @@ returns-in_ok-reopen-in-None-clause-given = grind (arith, common_steps)
 
 pub returns-in_ok-reopen-in-None-clause-logs : goal.returns-in_ok-reopen-in-None-clause-logs
 returns-in_ok-reopen-in-None-clause-logs = grind (arith, common_steps)
+
+pub overflow-requires-clause-found : goal.overflow-requires-clause-found
+overflow-requires-clause-found g c =
+    found_on c.args.puts.now c.args.parts.items _ _ c.in-Some.place c.deref-2.ensures.value c.deref-in-Some.ensures.value
+    (sym c.in-Some.is ∙ c.in_ok-place.ensures.place)
+    (ap (λ (x : StretchesValue g.row.P.Denot g.row.P-Task.Denot). x.arrays) c.self.view_is) c.requires.makers

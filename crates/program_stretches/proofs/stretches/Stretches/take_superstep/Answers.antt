@@ -10,6 +10,7 @@ use Rattle.program_stretches.proofs.Closed.{ends_many, closed_end, have_same, co
 use Rattle.program_stretches.proofs.Counted.{are_counted, few_on, counts_on, did_the_same}
 use Rattle.program_stretches.proofs.Reopening.{if_ok, none_moved, reopened_from}
 use Rattle.program_stretches.proofs.stretches.Stretches.take_superstep.Goals.{else-left-eq0-via-then-left-eq0+else-spawned-eq0, else-left-eq0-via-else-left-eq0}
+use Rattle.program_stretches.proofs.Finding.{finds_also}
 use Rattle.program_stretches.proofs.EachDone.{each_also, can_also}
 use Rattle.program_stretches.proofs.stretches.Stretches.take_superstep.Goals as goal
 
@@ -186,3 +187,15 @@ move_on-requires-clause-each g c = each_also c.join_adds.new.parts.items c.args.
 pub move_on-requires-clause-can : goal.move_on-requires-clause-can
 move_on-requires-clause-can g c =
     can_also g.P.Task.OnPath.path_of c.join_adds.new.parts.items c.args.parts.items c.in_ok-join_adds.ensures.rest c.requires.can
+
+pub stay-requires-clause-makers : goal.stay-requires-clause-makers
+stay-requires-clause-makers g c =
+    let same = did_the_same c.join_adds.new.parts.items c.args.parts.items c.in_ok-join_adds.ensures.rest in
+    finds_also c.args.self.now.arrays _ c.join_adds.new.parts.items c.args.parts.items c.in_ok-join_adds.ensures.rest same.deeds
+    c.in_ok-join_adds.ensures.same c.requires.makers
+
+pub move_on-requires-clause-makers : goal.move_on-requires-clause-makers
+move_on-requires-clause-makers g c =
+    let same = did_the_same c.join_adds.new.parts.items c.args.parts.items c.in_ok-join_adds.ensures.rest in
+    finds_also c.args.self.now.arrays _ c.join_adds.new.parts.items c.args.parts.items c.in_ok-join_adds.ensures.rest same.deeds
+    c.in_ok-join_adds.ensures.same c.requires.makers
