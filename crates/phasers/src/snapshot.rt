@@ -23,6 +23,7 @@ use tier_calls::tokens::Door;
 /// let _late = guest.join(&rt, 1).expect(&rt, "the leaf has room");
 /// party.arrive(&rt);
 /// let snapshot = party.snapshot(rt.alloc()).expect(&rt, "memory");
+/// assert!(rt; snapshot.words().len() == 3);
 /// assert!(rt; snapshot.unarrived(1) == 0 && snapshot.unarrived(2) == 1);
 /// ```
 #[derive(Drop)]

@@ -108,6 +108,19 @@ fn a_seat_for_a_party(rt: HostRuntime) {
 }
 
 #[test]
+fn a_snapshot_of_a_tree(rt: HostRuntime) {
+    let plan = EndPlan::when_empty();
+    let mut tree = PhaserTree::from_widths(rt.alloc(), "2", plan).expect(&rt, "a tree");
+    let mut guest = tree.guest();
+    let mut party = guest.split().join(&rt, 0).expect(&rt, "the leaf has room");
+    let _late = guest.join(&rt, 1).expect(&rt, "the leaf has room");
+    party.arrive(&rt);
+    let snapshot = party.snapshot(rt.alloc()).expect(&rt, "memory");
+    assert!(rt; snapshot.words().len() == 3);
+    assert!(rt; snapshot.unarrived(1) == 0 && snapshot.unarrived(2) == 1);
+}
+
+#[test]
 fn a_barrier_without_an_action(rt: HostRuntime) {
     let barrier = Barrier::new(rt.alloc(), 1, NoAction).expect(&rt, "one party");
     assert!(rt; barrier.await_turn(&rt, 7) == Ok(0));

@@ -1,6 +1,6 @@
 //! Tests of phasers, trees and barriers that need Rust: what a row can say is in `examples/rows.txt`.
 //!
-//! * `parties`, `leaving`, `hooked`, `limited`: the calls of `phasers`; `sleeping`: who wakes threads that wait; `barrier`: the
+//! * `parties`, `leaving`, `hooked`, `limited`, `seats`: the calls of `phasers`; `sleeping`: who wakes threads that wait; `barrier`: the
 //!   barrier; `closures`, `written`: closures at advances.
 //! * `table`: runs on one thread, worked out by hand; `lists`: random lists of calls, beside the machine; `shared`: threads.
 //! * `makers`: words and shapes; `examples`: the examples in docs; `calls`, `trees`: what these tests share.
@@ -25,6 +25,8 @@ mod lists;
 mod makers;
 #[cfg(test)]
 mod parties;
+#[cfg(test)]
+mod seats;
 #[cfg(test)]
 mod shared;
 #[cfg(test)]
