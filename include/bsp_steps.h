@@ -8,8 +8,11 @@
  * What is promised, for any numbers and slices:
  *   bsp_steps_close, status 0 to 3: the run is one superstep further, in which each live task left exactly what its deed says.
  *   A put to no cell is fault 3 of its task, a spawn by a task whose path has 8 numbers is fault 5, a task's 65536th spawn
- *   fault 6, too many live tasks fault 7, a sum outside of 64 signed bits fault 8. After a fault nothing of its superstep counts;
- *   5, 8, 11, 12 and 13: in exactly that case, and nothing is changed; 4: an array is refused, and nothing is open;
+ *   fault 6, too many live tasks fault 7, a sum outside of 64 signed bits fault 8. Of one deed, its own fault comes first, then
+ *   3, 5 and 6; of several tasks, that of the first task; then 7, then 8. After a fault nothing of its superstep counts, and no
+ *   task is live; at the limit the tasks stay live;
+ *   At open: 8, else 5, else 14, else 4, in exactly that case; then nothing is opened, and nothing was allocated for an array that
+ *   is too large. At close: 7, else 12, else 11, in exactly that case, and nothing is changed. 13: in exactly that case;
  *   6: memory ran out. At open nothing is open then; at close nothing is changed, and the same close can be called again;
  *   7: nothing is open; 9: there is no array, task, print, record or fault of this number; what the call tells is left alone;
  *   10: `out` is too short for the text, which is `*bytes` long; the bytes of `out` may change.
@@ -19,8 +22,8 @@
  * call at a time; that pointers point to as many values as it says (any pointer, also NULL, if the number is 0), which don't
  * overlap with what a call writes; and that malloc, realloc and free are those of one allocator. What a call
  * lends is there, and stays as it is, until the next close or free of that slot, and any number of threads may read it meanwhile.
- * (The calls' contracts say so until the next call with that slot. Calls that only look leave the run as it is; that they move
- * nothing is tested.) */
+ * (The calls' contracts say so until the next call with that slot, and that calls that look or lend leave the run as it is; that they
+ * move nothing is tested.) */
 #ifndef BSP_STEPS_H
 #define BSP_STEPS_H
 
@@ -39,7 +42,7 @@ enum {
     BSP_STEPS_ENDED = 1,     /* no task lives on */
     BSP_STEPS_FAULT = 2,     /* a fault has ended the run */
     BSP_STEPS_LIMIT = 3,     /* the limit is reached with live tasks */
-    BSP_STEPS_REFUSED = 4,   /* an array's name is not UTF-8 or another array's, or it has over 4294967296 cells */
+    BSP_STEPS_REFUSED = 4,   /* an array has another array's name, or over 4294967295 cells */
     BSP_STEPS_TASKS = 5,     /* more start tasks than may live or than 65535, or more may live than 2147483647 */
     BSP_STEPS_NO_MEMORY = 6, /* an allocation failed */
     BSP_STEPS_CLOSED = 7,    /* nothing is open */
@@ -48,7 +51,8 @@ enum {
     BSP_STEPS_SHORT = 10,    /* `out` is too short */
     BSP_STEPS_UNFIT = 11,    /* the deeds are not as many as the live tasks, or one ends by a number from 2 to 15 */
     BSP_STEPS_OVER = 12,     /* the run was over before */
-    BSP_STEPS_GOING = 13     /* the run isn't over */
+    BSP_STEPS_GOING = 13,    /* the run isn't over */
+    BSP_STEPS_NAME = 14      /* an array has a name that no array of a job may have */
 };
 
 /* how a task ends a superstep, or the number of a fault, from 16 to 255 */
@@ -60,7 +64,9 @@ struct bsp_steps {
     bool held;
 };
 
-/* an array: its name and its cells, which are copied */
+/* An array: its name and its cells, which are copied. A name is that of an array of a job: a lower-case letter, and up to 15
+ * lower-case letters, digits and underscores, but none of the language's words: add, arg, array, body, bsp, else, end, if, let,
+ * print, put, spawn, start, step, stop, sync, while. */
 struct bsp_array {
     const uint8_t *name;
     size_t name_len;
@@ -94,8 +100,11 @@ struct bsp_origin {
     bool spawned;
 };
 
+/* How many supersteps were taken; 0 if the run goes on, else 1, 2 or 3 as a close gives it; how many tasks live, and how many
+ * arrays, prints and records there are. */
 struct bsp_look {
     uint32_t step;
+    int32_t status;
     size_t live;
     size_t arrays;
     size_t prints;
@@ -125,14 +134,14 @@ struct bsp_path {
     size_t len;
 };
 
-/* Begins a run of these arrays and of so many start tasks, whose paths are 0, 1 and so on: 0, 4, 5, 6 or 8. At most `most` tasks
- * may live at once, and at most `limit` supersteps are taken. */
+/* Begins a run of these arrays and of so many start tasks, whose paths are 0, 1 and so on: 0, 4, 5, 6, 8 or 14. At most `most` tasks
+ * may live at once, and at most `limit` supersteps are taken. With no start task, or a limit of 0, the run is over at once. */
 int32_t bsp_steps_open(const struct bsp_array *arrays, size_t array_count, uint32_t starts, uint32_t most, uint32_t limit, struct bsp_steps *slot);
 
 /* Takes one superstep. There is a deed for each live task, in order. 0 to 3, 6, 7, 11 or 12. */
 int32_t bsp_steps_close(const struct bsp_deed *deeds, size_t deed_count, struct bsp_steps *slot);
 
-/* Tells how many supersteps were taken, how many tasks live, and how many arrays, prints and records there are: 0 or 7. */
+/* Tells what `struct bsp_look` says: 0 or 7. */
 int32_t bsp_steps_look(struct bsp_steps *slot, struct bsp_look *look);
 
 /* Lends the cells of an array, the path of a live task, or tells where that comes from: 0, 7 or 9. */
@@ -152,7 +161,44 @@ int32_t bsp_steps_report(struct bsp_steps *slot, uint8_t *out, size_t out_len, s
 /* Frees the run: 0 or 7. */
 int32_t bsp_steps_free(struct bsp_steps *slot);
 
-/* Below: C, not proved. What a task leaves, in buffers of its own that are kept from one superstep to the next. */
+/* Below: C, not proved. */
+
+/* A sum of 64 bits of what is to be seen of a run: how far it is, its arrays, the paths of its live tasks, its prints and records. Two
+ * processes that took the same supersteps have the same sum; if the runs differ, so do the sums, but for chance. 0 if nothing is open. */
+static inline uint64_t bsp_steps_mixed(uint64_t sum, uint64_t word) {
+    sum = (sum ^ word) * 0x9e3779b97f4a7c15u;
+    return sum ^ sum >> 32;
+}
+
+static inline uint64_t bsp_steps_sum(struct bsp_steps *slot) {
+    struct bsp_look look;
+    struct bsp_cells cells;
+    struct bsp_path path;
+    struct bsp_print print;
+    struct bsp_record record;
+    if (bsp_steps_look(slot, &look) != BSP_STEPS_DONE) return 0;
+    uint64_t sum = bsp_steps_mixed(bsp_steps_mixed(look.arrays, look.step), (uint64_t)look.status);
+    sum = bsp_steps_mixed(bsp_steps_mixed(bsp_steps_mixed(sum, look.live), look.prints), look.records);
+    for (size_t i = 0; i < look.arrays && bsp_steps_cells(slot, i, &cells) == BSP_STEPS_DONE; i++) {
+        sum = bsp_steps_mixed(sum, cells.len);
+        for (size_t k = 0; k < cells.len; k++) sum = bsp_steps_mixed(sum, (uint64_t)cells.at[k]);
+    }
+    for (size_t i = 0; i < look.live && bsp_steps_path(slot, i, &path) == BSP_STEPS_DONE; i++) {
+        sum = bsp_steps_mixed(sum, path.len);
+        for (size_t k = 0; k < path.len; k++) sum = bsp_steps_mixed(sum, path.at[k]);
+    }
+    for (size_t i = 0; i < look.prints && bsp_steps_print(slot, i, &print, &path) == BSP_STEPS_DONE; i++) {
+        sum = bsp_steps_mixed(bsp_steps_mixed(bsp_steps_mixed(sum, print.step), (uint64_t)print.value), path.len);
+        for (size_t k = 0; k < path.len; k++) sum = bsp_steps_mixed(sum, path.at[k]);
+    }
+    for (size_t i = 0; i < look.records && bsp_steps_record(slot, i, &record) == BSP_STEPS_DONE; i++) {
+        sum = bsp_steps_mixed(bsp_steps_mixed(sum, record.phase), record.parties);
+        sum = bsp_steps_mixed(bsp_steps_mixed(sum, record.left), record.spawned);
+    }
+    return sum;
+}
+
+/* What a task leaves, in buffers of its own that are kept from one superstep to the next. */
 struct bsp_out {
     struct bsp_put *puts;
     size_t put_count, put_room;
@@ -196,6 +242,15 @@ static inline void bsp_out_put(struct bsp_out *out, uint16_t array, uint32_t ind
 /* Adds to a cell. */
 static inline void bsp_out_add(struct bsp_out *out, uint16_t array, uint32_t index, int64_t value) {
     bsp_out_push(out, array, 1, index, value);
+}
+
+/* Sets cells side by side, from `first` on, to so many values. The library lands such a row as one. */
+static inline void bsp_out_row(struct bsp_out *out, uint16_t array, uint32_t first, size_t count, const int64_t *values) {
+    for (size_t i = 0; i < count; i++) {
+        uint64_t index = (uint64_t)first + i;
+        /* no array has a cell of the last number */
+        bsp_out_push(out, array, 0, index < UINT32_MAX ? (uint32_t)index : UINT32_MAX, values[i]);
+    }
 }
 
 /* Prints a value. */

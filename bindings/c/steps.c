@@ -52,15 +52,51 @@ static size_t live(struct bsp_steps *run) {
     return bsp_steps_look(run, &look) ? 0 : look.live;
 }
 
+/* An array that is too large is refused before anything is allocated; one that isn't named anew, whatever the memory. */
+static void large(void) {
+    int64_t cells[1] = {1};
+    struct bsp_array sizes[2] = {array("a", cells, 1), array("b", cells, (size_t)1 << 32)};
+    struct bsp_array same[3] = {array("a", cells, 1), array("b", cells, 1), array("a", cells, 1)};
+    struct bsp_steps run = {0};
+#ifdef WRAPPED
+    left = 0;
+    WANT(bsp_steps_open(sizes, 2, 1, 1, 1, &run) == BSP_STEPS_REFUSED && !run.held && left == 0);
+    for (long allowed = 0; allowed < 9; allowed++) {
+        left = allowed;
+        WANT(bsp_steps_open(same, 3, 1, 1, 1, &run) == BSP_STEPS_REFUSED && !run.held);
+    }
+    left = -1;
+#endif
+    WANT(bsp_steps_open(sizes, 2, 1, 1, 1, &run) == BSP_STEPS_REFUSED && !run.held);
+    sizes[1].len = SIZE_MAX;
+    WANT(bsp_steps_open(sizes, 2, 1, 1, 1, &run) == BSP_STEPS_REFUSED && !run.held);
+    WANT(bsp_steps_open(same, 3, 1, 1, 1, &run) == BSP_STEPS_REFUSED && !run.held);
+}
+
+/* a run that is over as it begins */
+static void over_at_once(struct bsp_steps *run, int32_t status, size_t tasks, const char *report) {
+    struct bsp_look look;
+    uint8_t text[40];
+    size_t bytes = 0;
+    WANT(bsp_steps_look(run, &look) == BSP_STEPS_DONE && look.status == status && look.step == 0 && look.live == tasks);
+    WANT(bsp_steps_close(NULL, 0, run) == BSP_STEPS_OVER);
+    WANT(bsp_steps_report(run, text, sizeof text, &bytes) == BSP_STEPS_DONE && bytes == strlen(report) && !memcmp(text, report, bytes));
+}
+
 /* what is refused at open */
 static void opens(void) {
     int64_t cells[3] = {1, 2, 3};
     struct bsp_array same[2] = {array("a", cells, 3), array("a", cells, 1)};
-    struct bsp_array strange[1] = {array("\xff", cells, 3)};
-    struct bsp_array good[3] = {array("a", cells, 3), array("b", NULL, 0), array("", cells, 1)};
+    struct bsp_array good[3] = {array("a", cells, 3), array("b", NULL, 0), array("abc_def_01234567", cells, 1)};
     struct bsp_steps run = {0};
     WANT(bsp_steps_open(same, 2, 1, 1, 1, &run) == BSP_STEPS_REFUSED && !run.held);
-    WANT(bsp_steps_open(strange, 1, 1, 1, 1, &run) == BSP_STEPS_REFUSED && !run.held);
+    static const char *const strange[] = {"", "\xff", "A", "a b", "a b\nended 7", " a", "a\n", "9a", "_a", "a-b", "\xc3\xa9", "end", "array", "abcdefghijklmnopq"};
+    for (size_t i = 0; i < sizeof strange / sizeof *strange; i++) {
+        struct bsp_array named[3] = {array("a", cells, 3), array(strange[i], cells, 3), array("a", cells, 3)};
+        WANT(bsp_steps_open(named, 3, 1, 1, 1, &run) == BSP_STEPS_NAME && !run.held);
+        WANT(bsp_steps_open(named, 3, 2, 1, 1, &run) == BSP_STEPS_TASKS && !run.held);
+    }
+    large();
     WANT(bsp_steps_open(good, 3, 2, 1, 1, &run) == BSP_STEPS_TASKS && !run.held);
     WANT(bsp_steps_open(good, 3, 65536, 65536, 1, &run) == BSP_STEPS_TASKS && !run.held);
     WANT(bsp_steps_open(good, 3, 1, 2147483648u, 1, &run) == BSP_STEPS_TASKS && !run.held);
@@ -68,20 +104,21 @@ static void opens(void) {
     WANT(bsp_steps_free(&run) == BSP_STEPS_CLOSED);
     WANT(bsp_steps_open(good, 3, 1, 1, 1, &run) == BSP_STEPS_DONE && run.held);
     WANT(bsp_steps_open(good, 3, 1, 1, 1, &run) == BSP_STEPS_OPEN && run.held);
+    WANT(bsp_steps_open(same, 2, 2, 1, 1, &run) == BSP_STEPS_OPEN && run.held);
     WANT(bsp_steps_free(&run) == BSP_STEPS_DONE && !run.held);
     WANT(bsp_steps_free(&run) == BSP_STEPS_CLOSED);
     WANT(bsp_steps_open(none, 0, 0, 0, 0, &run) == BSP_STEPS_DONE);
-    WANT(bsp_steps_close(NULL, 0, &run) == BSP_STEPS_OVER);
+    over_at_once(&run, BSP_STEPS_ENDED, 0, "ended 0\n");
     WANT(bsp_steps_free(&run) == BSP_STEPS_DONE);
     WANT(bsp_steps_open(none, 0, 65535, 65535, 0, &run) == BSP_STEPS_DONE && live(&run) == 65535);
-    WANT(bsp_steps_close(NULL, 0, &run) == BSP_STEPS_OVER);
+    over_at_once(&run, BSP_STEPS_LIMIT, 65535, "limit 0\n");
     WANT(bsp_steps_free(&run) == BSP_STEPS_DONE);
 }
 
 /* each call on a slot that isn't open tells nothing */
 static void closed(void) {
     struct bsp_steps run = {0};
-    struct bsp_look look = {1, 2, 3, 4, 5};
+    struct bsp_look look = {1, 9, 2, 3, 4, 5};
     struct bsp_cells cells = {NULL, 7};
     struct bsp_path path = {NULL, 7};
     struct bsp_origin origin = {7, 7, true};
@@ -90,7 +127,7 @@ static void closed(void) {
     uint32_t code = 7;
     size_t bytes = 7;
     WANT(bsp_steps_close(NULL, 0, &run) == BSP_STEPS_CLOSED);
-    WANT(bsp_steps_look(&run, &look) == BSP_STEPS_CLOSED && look.step == 1 && look.records == 5);
+    WANT(bsp_steps_look(&run, &look) == BSP_STEPS_CLOSED && look.step == 1 && look.status == 9 && look.records == 5);
     WANT(bsp_steps_cells(&run, 0, &cells) == BSP_STEPS_CLOSED && cells.len == 7);
     WANT(bsp_steps_path(&run, 0, &path) == BSP_STEPS_CLOSED && path.len == 7);
     WANT(bsp_steps_origin(&run, 0, &origin) == BSP_STEPS_CLOSED && origin.place == 7);
@@ -183,14 +220,14 @@ static void depth(void) {
 static bool looks(struct bsp_steps *run, struct bsp_look as) {
     struct bsp_look now;
     if (bsp_steps_look(run, &now)) return false;
-    return now.step == as.step && now.live == as.live && now.arrays == as.arrays && now.prints == as.prints && now.records == as.records;
+    return now.step == as.step && now.status == as.status && now.live == as.live && now.arrays == as.arrays && now.prints == as.prints && now.records == as.records;
 }
 
 /* puts, prints, spawns, origins and the report of a run to its limit */
 static int32_t whole(struct bsp_steps *run) {
     int64_t cells[2] = {10, 20};
     struct bsp_array arrays[2] = {array("a", cells, 2), array("b", cells, 1)};
-    struct bsp_look begun = {0, 2, 2, 0, 0}, later = {1, 4, 2, 3, 1};
+    struct bsp_look begun = {0, 0, 2, 2, 0, 0}, later = {1, 0, 4, 2, 3, 1};
     int32_t status;
     EACH_REFUSED(status, bsp_steps_open(arrays, 2, 2, 9, 2, run), !run->held);
     WANT(status == BSP_STEPS_DONE && looks(run, begun));
@@ -258,6 +295,7 @@ static struct model_task model[MODEL_ROOM], after[MODEL_ROOM];
 static struct model_print model_prints[MODEL_PRINTS];
 static size_t model_live, model_printed;
 static uint32_t model_step;
+static int32_t model_status;
 static int64_t model_cells[2][MODEL_CELLS];
 static uint32_t seed;
 
@@ -341,7 +379,7 @@ static void same_print(struct bsp_steps *run, size_t i) {
 
 /* the steps, live tasks, prints and cells are those of the model */
 static bool same(struct bsp_steps *run) {
-    struct bsp_look look = {model_step, model_live, 2, model_printed, model_step};
+    struct bsp_look look = {model_step, model_status, model_live, 2, model_printed, model_step};
     long before = wrong;
     WANT(looks(run, look));
     for (size_t i = 0; i < model_printed; i += 1 + model_printed / 4) same_print(run, i);
@@ -381,7 +419,7 @@ static uint32_t random_run(bool calm) {
     struct bsp_array arrays[2] = {array("a", model_cells[0], MODEL_CELLS), array("b", model_cells[1], MODEL_CELLS)};
     struct bsp_steps run = {0};
     memset(model_cells, 0, sizeof model_cells);
-    model_live = 1 + pick(5), model_printed = 0, model_step = 0;
+    model_live = 1 + pick(5), model_printed = 0, model_step = 0, model_status = BSP_STEPS_DONE;
     for (size_t i = 0; i < model_live; i++) {
         struct model_task task = {{(uint16_t)i}, 1, 0, {i, 0, false}};
         model[i] = task;
@@ -414,6 +452,7 @@ static uint32_t random_run(bool calm) {
             model_live = next, model_step++;
             WANT(status == (next == 0 ? BSP_STEPS_ENDED : model_step == MODEL_STEPS ? BSP_STEPS_LIMIT : BSP_STEPS_DONE));
         }
+        model_status = status;
         if (status != BSP_STEPS_DONE) break;
     }
     same(&run);

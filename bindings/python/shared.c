@@ -1,7 +1,8 @@
 /* The loops of bsp_phaser.h as functions of libbsp.so, for languages that have no compare-and-swap, such as Python: a
- * word in memory that processes share. NOT proved, as all that is inline there. */
+ * word in memory that processes share. And the sum of bsp_steps.h. NOT proved, as all that is inline there. */
 #define BSP_WORD_BETWEEN_PROCESSES
 #include "bsp_phaser.h"
+#include "bsp_steps.h"
 #include <time.h>
 
 #if defined(__linux__)
@@ -16,6 +17,8 @@ static void sleep_for(bsp_word *word, uint64_t seen, uint32_t milliseconds) {
     BSP_YIELD();
 }
 #endif
+
+uint64_t bsp_process_sum(struct bsp_steps *slot) { return bsp_steps_sum(slot); }
 
 uint64_t bsp_process_get(bsp_word *word) { return bsp_word_get(word); }
 void bsp_process_set(bsp_word *word, uint64_t value) { bsp_word_set(word, value); }

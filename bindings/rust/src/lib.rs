@@ -10,12 +10,15 @@
 //! # Ok::<(), bsp::JobError>(())
 //! ```
 
+mod crew;
 mod job;
 mod phaser;
 mod sleep;
 mod steps;
+mod steps_run;
 pub mod sys;
 
 pub use job::{Code, End, Fault, JobError, Print, Refusal, Report, Superstep, check, run, upgrade};
 pub use phaser::{Arrival, Phaser, Refused};
 pub use steps::{Ending, Out, Steps, StepsEnd, StepsError, TaskBody, View};
+pub use steps_run::{Deed, Origin, StepTaken, StepsRun};

@@ -1,18 +1,26 @@
 //! Supersteps whose tasks are Rust values. The tasks of a superstep run on any number of threads, and the result is the same.
+use crate::crew::Crew;
+use crate::steps_run::{Origin, StepTaken, StepsRun};
 use crate::sys;
+use std::any::Any;
 use std::fmt;
 use std::marker::PhantomData;
+use std::ops::Deref;
+use std::panic::{AssertUnwindSafe, catch_unwind, resume_unwind};
 
 /// Why a call on a run has no result. Nothing changed, except after [`StepsError::Memory`], after which the run can't go on.
 #[derive(Clone, Copy, Debug, PartialEq, Eq)]
 pub enum StepsError {
-    /// An array has the name of another.
+    /// An array has the name of another, or over 4294967295 cells.
     Arrays,
+    /// An array has a name that no array of a job may have: one is a lower-case letter and up to 15 lower-case letters, digits and
+    /// underscores, and no word of the language.
+    Names,
     /// There are more start tasks than may live or than 65535, or more may live than 2147483647.
     Tasks,
     /// An allocation failed.
     Memory,
-    /// A task fails by a number below 16.
+    /// There isn't a deed for each live task, or a task fails by a number below 16.
     Ending,
     /// The run is over.
     Over,
@@ -21,13 +29,14 @@ pub enum StepsError {
 }
 
 impl StepsError {
-    fn of(status: i32) -> StepsError {
+    pub(crate) fn of(status: i32) -> StepsError {
         match status {
             4 => StepsError::Arrays,
             5 => StepsError::Tasks,
             11 => StepsError::Ending,
             12 => StepsError::Over,
             13 => StepsError::Going,
+            14 => StepsError::Names,
             _ => StepsError::Memory,
         }
     }
@@ -36,10 +45,11 @@ impl StepsError {
 impl fmt::Display for StepsError {
     fn fmt(&self, to: &mut fmt::Formatter<'_>) -> fmt::Result {
         to.write_str(match self {
-            StepsError::Arrays => "two arrays have one name",
+            StepsError::Arrays => "an array has another array's name, or over 4294967295 cells",
+            StepsError::Names => "an array has a name that no array of a job may have",
             StepsError::Tasks => "too many start tasks",
             StepsError::Memory => "out of memory",
-            StepsError::Ending => "a task fails by a number below 16",
+            StepsError::Ending => "there isn't a deed for each live task, or a task fails by a number below 16",
             StepsError::Over => "the run is over",
             StepsError::Going => "the run isn't over",
         })
@@ -48,7 +58,7 @@ impl fmt::Display for StepsError {
 
 impl std::error::Error for StepsError {}
 
-fn done(status: i32) -> Result<(), StepsError> {
+pub(crate) fn done(status: i32) -> Result<(), StepsError> {
     if status == 0 { Ok(()) } else { Err(StepsError::of(status)) }
 }
 
@@ -61,6 +71,17 @@ pub enum Ending {
     Stops,
     /// The run ends by a fault of this number, from 16 on.
     Fails(u8),
+}
+
+impl Ending {
+    // A fault below 16 is given as one that no task may have.
+    pub(crate) fn number(self) -> u8 {
+        match self {
+            Ending::GoesOn => 0,
+            Ending::Stops => 1,
+            Ending::Fails(number) => number.max(2),
+        }
+    }
 }
 
 /// How a run ended.
@@ -106,6 +127,13 @@ impl<K> Out<K> {
         self.puts.push(sys::Put { array, adds: 0, index, value });
     }
 
+    /// Sets cells side by side, from `first` on, to these values. If one isn't there, the run ends with fault 3.
+    pub fn put_row(&mut self, array: u16, first: u32, values: &[i64]) {
+        // No array has a cell of the last number.
+        let index = |place: usize| u32::try_from(u64::from(first) + place as u64).unwrap_or(u32::MAX);
+        self.puts.extend(values.iter().enumerate().map(|(place, value)| sys::Put { array, adds: 0, index: index(place), value: *value }));
+    }
+
     /// Adds to a cell. If there is no such cell, the run ends with fault 3; if a sum doesn't fit, with fault 8.
     pub fn add(&mut self, array: u16, index: u32, value: i64) {
         self.puts.push(sys::Put { array, adds: 1, index, value });
@@ -140,21 +168,22 @@ struct Task<K> {
     kept: Option<K>,
     out: Out<K>,
     ending: u8,
+    panic: Option<Box<dyn Any + Send>>,
 }
 
 impl<K: Send> Task<K> {
     fn new(kept: K, out: Out<K>) -> Task<K> {
-        Task { kept: Some(kept), out, ending: 0 }
+        Task { kept: Some(kept), out, ending: 0, panic: None }
     }
 
     fn segment<B: TaskBody<Kept = K> + ?Sized>(&mut self, body: &B, view: &View<'_>) {
         (self.out.puts.clear(), self.out.prints.clear(), self.out.spawns.clear());
         let kept = self.kept.as_mut().expect("a live task keeps something");
-        self.ending = match body.run(kept, view, &mut self.out) {
-            Ending::GoesOn => 0,
-            Ending::Stops => 1,
-            Ending::Fails(number) => number.max(2),
-        };
+        let out = &mut self.out;
+        match catch_unwind(AssertUnwindSafe(|| body.run(kept, view, out))) {
+            Ok(ending) => self.ending = ending.number(),
+            Err(panic) => self.panic = Some(panic),
+        }
     }
 
     fn deed(&self) -> sys::Deed<'_> {
@@ -198,9 +227,9 @@ impl<K: Send> Task<K> {
 /// # Ok::<(), bsp::StepsError>(())
 /// ```
 ///
-/// What a run lends can't be used too long. Cells end where the run goes on:
+/// Two arrays can be read side by side. But what a run lends can't be used too long. Cells end where the run goes on:
 ///
-/// ```compile_fail,E0499
+/// ```compile_fail,E0502
 /// # struct Stops;
 /// # impl bsp::TaskBody for Stops {
 /// #     type Kept = ();
@@ -251,97 +280,115 @@ impl<K: Send> Task<K> {
 /// }
 /// ```
 pub struct Steps<K> {
-    slot: sys::Slot,
+    run: StepsRun,
     tasks: Vec<Task<K>>,
     over: bool,
 }
 
+/// The reading calls of a run.
+impl<K> Deref for Steps<K> {
+    type Target = StepsRun;
+
+    fn deref(&self) -> &StepsRun {
+        &self.run
+    }
+}
+
+// A thread's share of a superstep: some of the tasks, the arrays as they are lent, and the superstep's number.
+struct Share<K> {
+    tasks: *mut [Task<K>],
+    arrays: Vec<sys::Cells>,
+    step: u32,
+}
+
+// SAFETY: each task is in one share alone; the cells are only read, and stay until the superstep is closed. Then all shares are done
+unsafe impl<K: Send> Send for Share<K> {}
+
+impl<K: Send> Share<K> {
+    fn segments<B: TaskBody<Kept = K> + ?Sized>(&mut self, body: &B) {
+        // SAFETY: as for `Send`
+        let lent = |it: &sys::Cells| if it.len > 0 { unsafe { std::slice::from_raw_parts(it.at, it.len) } } else { &[][..] };
+        let arrays: Vec<&[i64]> = self.arrays.iter().map(lent).collect();
+        let view = View { arrays: &arrays, step: self.step };
+        // SAFETY: as for `Send`
+        unsafe { &mut *self.tasks }.iter_mut().for_each(|task| task.segment(body, &view));
+    }
+}
+
+// Works on all shares of a superstep.
+type Round<'a, K> = &'a dyn Fn(Vec<Share<K>>);
+
 impl<K: Send> Steps<K> {
     /// Begins a run of these arrays; the start tasks keep these. At most `most` tasks may live at once, and at most `limit`
-    /// supersteps are taken.
+    /// supersteps are taken. With no start task, or a limit of 0, the run is over at once.
     pub fn new(arrays: &[(&str, &[i64])], starts: Vec<K>, most: u32, limit: u32) -> Result<Steps<K>, StepsError> {
-        let given: Vec<sys::Array> =
-            arrays.iter().map(|(name, cells)| sys::Array { name: name.as_ptr(), name_len: name.len(), cells: cells.as_ptr(), len: cells.len() }).collect();
         let count = u32::try_from(starts.len()).map_err(|_| StepsError::Tasks)?;
-        let mut slot = sys::Slot::default();
-        // SAFETY: the pointers are of slices with these lengths, and nothing was opened in the slot
-        done(unsafe { sys::bsp_steps_open(given.as_ptr(), given.len(), count, most, limit, &mut slot) })?;
-        let over = starts.is_empty() || limit == 0;
+        let run = StepsRun::new(arrays, count, most, limit)?;
         let tasks = starts.into_iter().map(|kept| Task::new(kept, Out { puts: Vec::new(), prints: Vec::new(), spawns: Vec::new() })).collect();
-        Ok(Steps { slot, tasks, over })
+        Ok(Steps { run, tasks, over: false })
     }
 
-    fn look(&mut self) -> Result<sys::Look, StepsError> {
-        let mut look = sys::Look::default();
-        // SAFETY: the slot was opened here, and no other call uses it now
-        done(unsafe { sys::bsp_steps_look(&mut self.slot, &mut look) })?;
-        Ok(look)
-    }
-
-    /// The cells of the array at this place, if there is one.
-    pub fn cells(&mut self, array: usize) -> Option<&[i64]> {
-        let mut lent = sys::Cells::default();
-        // SAFETY: as in `look`; what is lent stays until the next superstep, for which `self` has to be borrowed anew
-        match unsafe { sys::bsp_steps_cells(&mut self.slot, array, &mut lent) } {
-            0 if lent.len > 0 => Some(unsafe { std::slice::from_raw_parts(lent.at, lent.len) }),
-            0 => Some(&[]),
-            _ => None,
-        }
-    }
-
-    /// Takes supersteps until the run is over, their tasks on so many threads. If a body panics, its superstep isn't taken, and the run
-    /// is over.
+    /// Takes supersteps until the run is over, their tasks on so many threads, which stay from one superstep to the next. Returns how the
+    /// run ended, also if it was over as it began; later calls are refused.
+    ///
+    /// # Panics
+    ///
+    /// If a body panics: with what the first task that did, in the order of their paths, panicked with. Its superstep isn't taken, and
+    /// the run is over.
     pub fn run<B: TaskBody<Kept = K> + ?Sized>(&mut self, body: &B, threads: usize) -> Result<StepsEnd, StepsError> {
+        with_crew(body, threads, |round| {
+            loop {
+                if let StepTaken::Over(end) = self.superstep(threads, round)? {
+                    return Ok(end);
+                }
+            }
+        })
+    }
+
+    /// Takes one superstep, as [`Steps::run`] takes each. It starts the threads anew.
+    pub fn step<B: TaskBody<Kept = K> + ?Sized>(&mut self, body: &B, threads: usize) -> Result<StepTaken, StepsError> {
+        with_crew(body, threads, |round| self.superstep(threads, round))
+    }
+
+    // Takes a superstep. Unless the run goes on after it, the run is over, also if this panics.
+    fn superstep(&mut self, threads: usize, round: Round<'_, K>) -> Result<StepTaken, StepsError> {
         if std::mem::replace(&mut self.over, true) {
             return Err(StepsError::Over);
         }
-        loop {
-            let look = self.look()?;
-            self.segments(body, threads.max(1), &look);
-            let deeds: Vec<sys::Deed<'_>> = self.tasks.iter().map(Task::deed).collect();
-            // SAFETY: each deed points to what its task left, and the slot is as in `look`
-            match unsafe { sys::bsp_steps_close(deeds.as_ptr(), deeds.len(), &mut self.slot) } {
-                0 => self.carry_over()?,
-                1 => return Ok(StepsEnd::Ended(self.look()?.step)),
-                2 => return self.fault(look.step),
-                3 => return Ok(StepsEnd::Limit(self.look()?.step)),
-                status => return Err(StepsError::of(status)),
-            }
+        if let Some(end) = self.run.end() {
+            return Ok(StepTaken::Over(end));
         }
+        self.segments(threads.max(1), round);
+        if let Some(panic) = self.tasks.iter_mut().find_map(|task| task.panic.take()) {
+            resume_unwind(panic);
+        }
+        let deeds: Vec<sys::Deed<'_>> = self.tasks.iter().map(Task::deed).collect();
+        let taken = self.run.close_given(&deeds)?;
+        if taken == StepTaken::GoesOn {
+            self.carry_over();
+            self.over = false;
+        }
+        Ok(taken)
     }
 
-    fn segments<B: TaskBody<Kept = K> + ?Sized>(&mut self, body: &B, threads: usize, look: &sys::Look) {
-        let slot = &mut self.slot;
-        let lent = |array| {
-            let mut lent = sys::Cells::default();
-            // SAFETY: as in `cells`; no superstep is closed while these are used
-            match unsafe { sys::bsp_steps_cells(slot, array, &mut lent) } {
-                0 if lent.len > 0 => unsafe { std::slice::from_raw_parts(lent.at, lent.len) },
-                _ => &[],
-            }
-        };
-        let arrays: Vec<&[i64]> = (0..look.arrays).map(lent).collect();
-        let view = View { arrays: &arrays, step: look.step };
-        let size = self.tasks.len().div_ceil(threads).max(1);
-        let mut parts = self.tasks.chunks_mut(size);
-        let own = parts.next();
-        let all = |part: &mut [Task<K>]| part.iter_mut().for_each(|task| task.segment(body, &view));
-        std::thread::scope(|scope| {
-            parts.for_each(|part| drop(scope.spawn(|| all(part))));
-            own.map(all)
-        });
+    fn segments(&mut self, threads: usize, round: Round<'_, K>) {
+        let lent = |array| self.run.cells(array).map_or_else(sys::Cells::default, |it| sys::Cells { at: it.as_ptr(), len: it.len() });
+        let arrays: Vec<sys::Cells> = (0..self.run.arrays()).map(lent).collect();
+        let (step, size) = (self.run.taken(), self.tasks.len().div_ceil(threads).max(1));
+        round(self.tasks.chunks_mut(size).map(|tasks| Share { tasks, arrays: arrays.clone(), step }).collect());
     }
 
     // What the next live tasks keep, by their origins.
-    fn carry_over(&mut self) -> Result<(), StepsError> {
-        let live = self.look()?.live;
+    fn carry_over(&mut self) {
+        let live = self.run.live();
         let mut next = Vec::with_capacity(live);
         let mut spawned: Vec<Vec<Option<K>>> = self.tasks.iter_mut().map(|task| task.out.spawns.drain(..).map(Some).collect()).collect();
         for task in 0..live {
-            let mut origin = sys::Origin::default();
-            // SAFETY: as in `look`
-            done(unsafe { sys::bsp_steps_origin(&mut self.slot, task, &mut origin) })?;
-            let kept = if origin.spawned { spawned[origin.place][usize::from(origin.number)].take() } else { self.tasks[origin.place].kept.take() };
+            let kept = match self.run.origin(task) {
+                Some(Origin::Stayed { place }) => self.tasks[place].kept.take(),
+                Some(Origin::Spawned { place, number }) => spawned[place][usize::from(number)].take(),
+                None => None,
+            };
             next.push(Task::new(kept.expect("each origin is told once"), Out { puts: Vec::new(), prints: Vec::new(), spawns: Vec::new() }));
         }
         // The buffers are used again.
@@ -349,35 +396,20 @@ impl<K: Send> Steps<K> {
             (std::mem::swap(&mut task.out.puts, &mut old.out.puts), std::mem::swap(&mut task.out.prints, &mut old.out.prints));
         }
         self.tasks = next;
-        Ok(())
-    }
-
-    fn fault(&mut self, step: u32) -> Result<StepsEnd, StepsError> {
-        let (mut code, mut lent) = (0, sys::Path::default());
-        // SAFETY: as in `look`; the path is copied before the next call
-        done(unsafe { sys::bsp_steps_fault(&mut self.slot, &mut code, &mut lent) })?;
-        let path = if lent.len > 0 { unsafe { std::slice::from_raw_parts(lent.at, lent.len) }.to_vec() } else { Vec::new() };
-        Ok(StepsEnd::Fault { code, step, path })
-    }
-
-    /// The text of the report of a run that is over, as `bsp run` prints it.
-    pub fn text(&mut self) -> Result<String, StepsError> {
-        let mut bytes = 0;
-        let mut out = Vec::new();
-        loop {
-            // SAFETY: `out` has so many bytes, and the slot is as in `look`
-            match unsafe { sys::bsp_steps_report(&mut self.slot, out.as_mut_ptr(), out.len(), &mut bytes) } {
-                10 => out = vec![0; bytes],
-                0 => return Ok(String::from_utf8(out).expect("names are UTF-8")),
-                status => return Err(StepsError::of(status)),
-            }
-        }
     }
 }
 
-impl<K> Drop for Steps<K> {
-    fn drop(&mut self) {
-        // SAFETY: the slot was opened in `new`, and no view of it is left
-        unsafe { sys::bsp_steps_free(&mut self.slot) };
+// Does this with what works on the shares of a superstep: so many threads, the caller's among them.
+fn with_crew<B, R>(body: &B, threads: usize, takes: impl FnOnce(Round<'_, B::Kept>) -> R) -> R
+where
+    B: TaskBody + ?Sized,
+{
+    let work = |share: &mut Share<B::Kept>| share.segments(body);
+    if threads <= 1 {
+        return takes(&|mut shares| shares.iter_mut().for_each(work));
     }
+    std::thread::scope(|scope| {
+        let crew = Crew::start(scope, threads - 1, &work);
+        takes(&|shares| crew.round(shares, &work))
+    })
 }

@@ -96,10 +96,29 @@ pub struct Origin {
 #[derive(Clone, Copy, Debug, Default)]
 pub struct Look {
     pub step: u32,
+    pub status: i32,
     pub live: usize,
     pub arrays: usize,
     pub prints: usize,
     pub records: usize,
+}
+
+/// A printed value, without the path of its task.
+#[repr(C)]
+#[derive(Clone, Copy, Debug, Default)]
+pub struct Print {
+    pub step: u32,
+    pub value: i64,
+}
+
+/// The record of a superstep.
+#[repr(C)]
+#[derive(Clone, Copy, Debug, Default, PartialEq, Eq)]
+pub struct Record {
+    pub phase: u32,
+    pub parties: u32,
+    pub left: u32,
+    pub spawned: u32,
 }
 
 /// Cells that are lent.
@@ -136,8 +155,11 @@ unsafe extern "C" {
     pub fn bsp_steps_close(deeds: *const Deed<'_>, count: usize, slot: *mut Slot) -> i32;
     pub fn bsp_steps_look(slot: *mut Slot, look: *mut Look) -> i32;
     pub fn bsp_steps_cells(slot: *mut Slot, array: usize, cells: *mut Cells) -> i32;
+    pub fn bsp_steps_path(slot: *mut Slot, task: usize, path: *mut Path) -> i32;
     pub fn bsp_steps_origin(slot: *mut Slot, task: usize, origin: *mut Origin) -> i32;
     pub fn bsp_steps_fault(slot: *mut Slot, code: *mut u32, path: *mut Path) -> i32;
+    pub fn bsp_steps_print(slot: *mut Slot, place: usize, print: *mut Print, path: *mut Path) -> i32;
+    pub fn bsp_steps_record(slot: *mut Slot, place: usize, record: *mut Record) -> i32;
     pub fn bsp_steps_report(slot: *mut Slot, out: *mut u8, out_len: usize, bytes: *mut usize) -> i32;
     pub fn bsp_steps_free(slot: *mut Slot) -> i32;
 }

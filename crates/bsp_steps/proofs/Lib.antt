@@ -1,3 +1,5 @@
+pub mod AsciiNames
+pub mod Follow
 pub mod Held
 pub mod Left
 pub mod Numbered
@@ -6,3 +8,5 @@ pub mod Rows
 pub mod TaskLaws
 pub mod Took
 pub mod Values
+pub mod Worked
+pub mod WorkedReads

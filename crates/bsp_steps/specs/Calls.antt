@@ -21,6 +21,7 @@ use Rattle.std.specs.Prelude.{
   slice_get,
 }
 use Rattle.std.specs.Option.{option_map}
+use Rattle.std.specs.List.{list_all}
 use Rattle.phase_records.specs.PrintValue.{PrintValue}
 use Rattle.phase_records.specs.declared.record.PhaseRecord.{PhaseRecord}
 use Rattle.programs.specs.Steps.{ended}
@@ -31,20 +32,24 @@ use Rattle.bsp_steps.specs.declared.given.Origin.{Origin}
 use Rattle.bsp_steps.specs.declared.given.PrintReport.{PrintReport}
 use Rattle.bsp_steps.specs.declared.given.RecordReport.{RecordReport}
 use Rattle.bsp_steps.specs.declared.state.State.{State}
-use Rattle.bsp_steps.specs.Given.{MayFollow}
-use Rattle.bsp_steps.specs.Runs.{RunValue, IsClosed, fresh, refused_starts, text_by}
+use Rattle.bsp_steps.specs.Given.{MayFollow, is_named}
+use Rattle.bsp_steps.specs.Runs.{RunValue, IsClosed, closing, fresh, refused_starts, text_by}
 
--- begun (0), an array is refused (4), or memory ran out (6)
+-- begun (0), an array is refused (4), or memory ran out (6), which no array had that is refused
 abbrev pub Begins : Option State → List ArrayGiven → ℕ → ℕ → ℕ → ℤ → Type 0
 Begins after arrays starts most limit status =
     ((status ≡ pos 0) × MayFollow [] arrays × MatchOption after ⊥ (λ s. s.run ≡ fresh arrays starts most limit))
-    ⊎ ((after ≡ None) × (((status ≡ pos 4) × (MayFollow [] arrays → ⊥)) ⊎ (status ≡ pos 6)))
+    ⊎ ((after ≡ None) × (((status ≡ pos 4) × (MayFollow [] arrays → ⊥)) ⊎ ((status ≡ pos 6) × MayFollow [] arrays)))
+
+abbrev pub BeginsNamed : Bool → Option State → List ArrayGiven → ℕ → ℕ → ℕ → ℤ → Type 0
+BeginsNamed false after arrays starts most limit status = (status ≡ pos 14) × (after ≡ None)
+BeginsNamed true after arrays starts most limit status = Begins after arrays starts most limit status
 
 abbrev pub OpensFresh : Bool → Option State → List ArrayGiven → ℕ → ℕ → ℕ → ℤ → Type 0
 OpensFresh true after arrays starts most limit status = (status ≡ pos 5) × (after ≡ None)
-OpensFresh false after arrays starts most limit status = Begins after arrays starts most limit status
+OpensFresh false after arrays starts most limit status = BeginsNamed (list_all is_named arrays) after arrays starts most limit status
 
--- the slot is open already (8), the start tasks are refused (5), or a run begins
+-- the slot is open already (8), the start tasks are refused (5), an array has no name of a job (14), or a run begins
 abbrev pub Opens : Option State → Option State → List ArrayGiven → ℕ → ℕ → ℕ → ℤ → Type 0
 Opens (Some s) after arrays starts most limit status = (status ≡ pos 8) × (after ≡ Some s)
 Opens None after arrays starts most limit status = OpensFresh (refused_starts starts most) after arrays starts most limit status
@@ -60,9 +65,16 @@ Frees None after status = (status ≡ pos 7) × (after ≡ None)
 Frees (Some s) after status = (status ≡ pos 0) × (after ≡ None)
 
 abbrev pub look_at : RunValue → Look
-look_at v = record { step = v.step; live = length v.tasks; arrays = length v.arrays; prints = length v.prints; records = length v.records }
+look_at v = record {
+  step = v.step;
+  status = closing (ended v);
+  live = length v.tasks;
+  arrays = length v.arrays;
+  prints = length v.prints;
+  records = length v.records;
+}
 
--- what is to be seen of a run; looking changes nothing
+-- what is to be seen of a run, also whether and how it has ended; looking changes nothing
 abbrev pub Looks : Option State → Option State → Look → Look → ℤ → Type 0
 Looks None after before look status = (status ≡ pos 7) × (after ≡ None) × (look ≡ before)
 Looks (Some s) after before look status = (status ≡ pos 0) × (after ≡ Some s) × (look ≡ look_at s.run)

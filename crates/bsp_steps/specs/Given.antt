@@ -1,10 +1,10 @@
 -- What C gives: arrays, and what each live task left (own).
-use Rattle.std.specs.Prelude.{◌≡◌, ℕ, zero, suc, ℤ, Bool, true, false, ◌||◌, nat_eq, nat_le, if◌then◌else◌, List, [], ◌∷◌, ◌++◌, map, length, Option, Some, None, slice_get, IsTrue}
+use Rattle.std.specs.Prelude.{◌≡◌, ℕ, zero, suc, ℤ, Bool, true, false, ◌||◌, nat_eq, nat_le, nat_lt, if◌then◌else◌, List, [], ◌∷◌, ◌++◌, map, length, Option, Some, None, slice_get, IsTrue}
 use Rattle.std.specs.List.{list_all}
-use Rattle.std.specs.Str.{IsUtf8}
 use Rattle.superstep_memory.specs.declared.arrays.Put.{Put}
 use Rattle.superstep_memory.specs.declared.arrays.PutKind.TheVariants.{Set, Add}
-use Rattle.superstep_memory.specs.Cells.{IsNew}
+use Rattle.superstep_memory.specs.Cells.{has_array}
+use Rattle.task_code.specs.Names.{is_free}
 use Rattle.task_bodies.specs.declared.body.Ending.TheVariants as ending
 use Rattle.task_bodies.specs.Bodies.{OutValue, Left, MemberValue, nothing, left_so}
 use Rattle.bsp_steps.specs.declared.given.ArrayGiven.{ArrayGiven}
@@ -20,9 +20,17 @@ TaskValue = MemberValue Origin
 abbrev pub array_given : ArrayGiven → List ℕ × List ℤ
 array_given a = (a.name.now, a.cells.now)
 
--- this array may follow others: its name is text, and no other's, and it has at most 2 ^ 32 cells
+-- an array has a name that an array of a job may have
+abbrev pub is_named : ArrayGiven → Bool
+is_named a = is_free a.name.now
+
+-- it has at most 2 ^ 32 - 1 cells
+abbrev pub is_small : ArrayGiven → Bool
+is_small a = nat_lt (length a.cells.now) 4294967296
+
+-- this array may follow others: none of them has its name, and it isn't too large
 abbrev pub MayBeNext : List (List ℕ × List ℤ) → ArrayGiven → Type 0
-MayBeNext before a = IsUtf8 a.name.now × IsNew before a.name.now a.cells.now
+MayBeNext before a = (has_array before a.name.now ≡ false) × IsTrue (is_small a)
 
 -- each of these may follow those before it
 abbrev pub MayFollow : List (List ℕ × List ℤ) → List ArrayGiven → Type 0

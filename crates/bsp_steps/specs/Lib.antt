@@ -4,3 +4,4 @@ pub mod Laws
 pub mod Lent
 pub mod Owned
 pub mod Runs
+pub mod Worked

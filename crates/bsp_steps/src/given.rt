@@ -55,6 +55,8 @@ pub struct Origin {
 pub struct Look {
     /// How many supersteps were taken.
     pub step: u32,
+    /// 0 if the run goes on; 1 if no task lives on, 2 if a fault has ended it, 3 if its limit is reached.
+    pub status: i32,
     /// How many tasks live.
     pub live: usize,
     /// How many arrays there are.

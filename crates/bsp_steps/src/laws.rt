@@ -1,5 +1,6 @@
 //! Laws on what a close means for each task.
 ghost use Rattle.bsp_steps.specs.Laws.{TasksLeaveWhatWasGiven, EachTaskHasItsPlace};
+ghost use Rattle.bsp_steps.specs.Worked.{CallsAreWorkedOut};
 
 /// What was given for a task says all that it leaves in the superstep.
 pub fn tasks_leave_what_was_given()
@@ -9,4 +10,9 @@ pub fn tasks_leave_what_was_given()
 /// The deed at a task's place is that of the task.
 pub fn each_task_has_its_place()
     ensures { EachTaskHasItsPlace }
+{}
+
+/// A run through all calls, with each number, status and answer written down.
+pub fn calls_are_worked_out()
+    ensures { CallsAreWorkedOut }
 {}

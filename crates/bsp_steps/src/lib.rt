@@ -9,13 +9,14 @@
 //! * `state.rt`, `slot.rt`, `handle.rt`, `loose.rt`: what C holds. The unsafe code is in `handle/lend.rt` and `loose.rt`.
 #![tactic(auto)]
 
-ghost use Rattle.std.specs.Prelude.{◌≡◌, None, false, length};
+ghost use Rattle.std.specs.Prelude.{◌≡◌, None, false, true, length};
+ghost use Rattle.std.specs.List.{list_all};
+ghost use Rattle.bsp_steps.specs.Given.{is_named};
 ghost use Rattle.bsp_steps.specs.Runs.{refused_starts};
 ghost use Rattle.bsp_steps.specs.Calls.{Begins, Opens, Closes, Frees, IsGiven, Looks, ReadsCells, ReadsPath, ReadsOrigin, ReadsFault, ReadsPrint, ReadsRecord, Reports};
 
 use given::{ArrayGiven, Deed, Look, Origin, PrintReport, RecordReport};
-use open::{OpenFault, open_arrays};
-use programs::program::OnPath;
+use open::{OpenFault, are_named, open_arrays};
 use run::{DONE, NO_MEMORY, Run};
 use slot::Slot;
 use state::State;
@@ -32,9 +33,9 @@ mod slot;
 mod state;
 mod task;
 
-pub use laws::{each_task_has_its_place, tasks_leave_what_was_given};
+pub use laws::{calls_are_worked_out, each_task_has_its_place, tasks_leave_what_was_given};
 
-/// An array has a name that is no text, or the name of another, or too many cells.
+/// An array has the name of another, or too many cells.
 const REFUSED: i32 = 4;
 
 /// More start tasks than may live, or than 65535, or more may live than 2147483647.
@@ -55,6 +56,9 @@ const SHORT: i32 = 10;
 /// The run goes on.
 const GOING: i32 = 13;
 
+/// An array has a name that no array of a job may have.
+const UNNAMED: i32 = 14;
+
 // Begins a run in a slot that has none.
 fn begin(
     alloc: Global,
@@ -66,6 +70,7 @@ fn begin(
 ) -> i32
     requires none { slot.old.handle.state ≡ None }
     requires few { refused_starts starts most ≡ false }
+    requires named { list_all is_named arrays.now ≡ true }
     ensures { Begins slot.new.handle.state arrays.now starts most limit result }
 {
     let arrays = match open_arrays(alloc, arrays) {
@@ -83,8 +88,9 @@ fn begin(
 }
 
 /// Begins a run of these arrays and of `starts` start tasks. At most `most` tasks may live at once, and at most `limit`
-/// supersteps are taken. Returns 0; 4 if an array is refused; 5 if the start tasks are; 6 if an allocation failed; 8 if the
-/// slot is open.
+/// supersteps are taken. Returns 0, also if there is no start task or `limit` is 0: then the run is over at once. Otherwise nothing
+/// is begun. Returns 8 if the slot is open; else 5 if the start tasks are refused; else 14 if a name is refused; else 4 if an array has
+/// the name of another, or over 4294967295 cells; else 6 if an allocation failed.
 #[unsafe(no_mangle)]
 pub extern "C" fn bsp_steps_open(
     alloc: Global,
@@ -101,6 +107,9 @@ pub extern "C" fn bsp_steps_open(
     }
     if most > 2147483647 || starts > 65535 || starts > most {
         return TASKS;
+    }
+    if !are_named(arrays) {
+        return UNNAMED;
     }
     begin(alloc, arrays, starts, most, limit, slot)
 }
@@ -130,7 +139,7 @@ pub extern "C" fn bsp_steps_free(alloc: Global, slot: &mut Slot) -> i32
     }
 }
 
-/// Tells how many supersteps were taken, how many tasks live, and how many arrays, prints and records there are. Returns 7 if nothing
+/// Tells how many supersteps were taken, whether and how the run has ended, how many tasks live, and how many arrays, prints and records there are. Returns 7 if nothing
 /// is open.
 #[unsafe(no_mangle)]
 pub extern "C" fn bsp_steps_look(slot: &mut Slot, look: &mut Look) -> i32
@@ -141,6 +150,7 @@ pub extern "C" fn bsp_steps_look(slot: &mut Slot, look: &mut Look) -> i32
     };
     *look = Look {
         step: state.run.superstep(),
+        status: state.run.number(),
         live: state.run.tasks().len(),
         arrays: state.run.arrays().len(),
         prints: state.run.print_count(),
@@ -149,8 +159,8 @@ pub extern "C" fn bsp_steps_look(slot: &mut Slot, look: &mut Look) -> i32
     DONE
 }
 
-/// Lends the cells of an array as the next superstep reads them, until the next call with this slot. Returns 7 if nothing is
-/// open, 9 if there is no such array.
+/// Lends the cells of an array as the next superstep reads them, until the next call with this slot. The run stays as it is. Returns 7
+/// if nothing is open, 9 if there is no such array.
 #[unsafe(no_mangle)]
 pub extern "C" fn bsp_steps_cells<'a>(
     slot: &'a mut Slot,
@@ -171,7 +181,7 @@ pub extern "C" fn bsp_steps_cells<'a>(
     }
 }
 
-/// Lends the path of a live task, until the next call with this slot. Returns 7 if nothing is open, 9 if there is no such task.
+/// Lends the path of a live task, until the next call with this slot. The run stays as it is. Returns 7 if nothing is open, 9 if there is no such task.
 #[unsafe(no_mangle)]
 pub extern "C" fn bsp_steps_path<'a>(slot: &'a mut Slot, task: usize, path: &mut &'a [u16]) -> i32
     ensures { ReadsPath slot.old.handle.state task path.old.now path.new.now result }
@@ -179,9 +189,9 @@ pub extern "C" fn bsp_steps_path<'a>(slot: &'a mut Slot, task: usize, path: &mut
     let Some(state) = slot.look() else {
         return CLOSED;
     };
-    match state.run.tasks().get(task) {
+    match state.run.path(task) {
         Some(found) => {
-            *path = found.path().as_slice();
+            *path = found;
             DONE
         }
         None => NONE,
@@ -205,8 +215,8 @@ pub extern "C" fn bsp_steps_origin(slot: &mut Slot, task: usize, origin: &mut Or
     }
 }
 
-/// Tells the fault that has ended the run, and lends the path of its task until the next call with this slot. Returns 7 if nothing is
-/// open, 9 if no fault has ended the run.
+/// Tells the fault that has ended the run, and lends the path of its task until the next call with this slot. The run stays as it is.
+/// Returns 7 if nothing is open, 9 if no fault has ended the run.
 #[unsafe(no_mangle)]
 pub extern "C" fn bsp_steps_fault<'a>(
     slot: &'a mut Slot,
@@ -219,17 +229,17 @@ pub extern "C" fn bsp_steps_fault<'a>(
         return CLOSED;
     };
     match state.run.fault() {
-        Some(blame) => {
-            *code = u32::from(blame.code);
-            *path = blame.path.as_slice();
+        Some((number, found)) => {
+            *code = number;
+            *path = found;
             DONE
         }
         None => NONE,
     }
 }
 
-/// Tells a print by its place in the report, and lends the path of its task until the next call with this slot. Returns 7 if nothing is
-/// open, 9 if there is no such print.
+/// Tells a print by its place in the report, and lends the path of its task until the next call with this slot. The run stays as it is.
+/// Returns 7 if nothing is open, 9 if there is no such print.
 #[unsafe(no_mangle)]
 pub extern "C" fn bsp_steps_print<'a>(
     slot: &'a mut Slot,
@@ -243,12 +253,9 @@ pub extern "C" fn bsp_steps_print<'a>(
         return CLOSED;
     };
     match state.run.print(place) {
-        Some(found) => {
-            *reported = PrintReport {
-                step: found.step,
-                value: found.value,
-            };
-            *path = found.path.as_slice();
+        Some((print, found)) => {
+            *reported = print;
+            *path = found;
             DONE
         }
         None => NONE,

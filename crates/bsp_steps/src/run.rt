@@ -10,11 +10,11 @@ ghost use Rattle.programs.specs.Steps.{IsRunning, HasStepped, ended};
 ghost use Rattle.task_bodies.specs.Bodies.{member_frame};
 ghost use Rattle.bsp_steps.specs.Runs.{AsGiven, closing, placed};
 
-use crate::given::Deed;
+use crate::given::{Deed, PrintReport};
 use crate::given_deeds::GivenDeeds;
 use crate::task::{Task, start_tasks};
 use phase_records::{JobStatus, PhaseRecord, Print, text_of_parts};
-use programs::blame::Blame;
+use programs::program::OnPath;
 use programs::steps::Steps;
 use std::alloc::{AllocError, Global};
 use std::marker::Model;
@@ -181,7 +181,8 @@ impl Run {
     ghost use Rattle.programs.specs.Meaning.{children};
     ghost use Rattle.task_bodies.specs.Bodies.{numbered, path_of};
     ghost use Rattle.bsp_steps.specs.Given.{start_origins};
-    ghost use Rattle.bsp_steps.specs.Runs.{refused_starts, text_by, Takes, IsClosed};
+    ghost use Rattle.bsp_steps.specs.Calls.{print_report};
+    ghost use Rattle.bsp_steps.specs.Runs.{refused_starts, text_by, closing, Takes, IsClosed};
 
     // Begins a run of these tasks. The program may be that of any superstep.
     fn begin_with(
@@ -252,6 +253,13 @@ impl Run {
         self.steps.status()
     }
 
+    /// Returns how the run has ended, as the number that `bsp_steps_close` gave, or 0 if it goes on.
+    pub fn number(&self) -> i32
+        ensures { result ≡ closing (ended self.now) }
+    {
+        number_of(&self.status())
+    }
+
     /// Returns how many supersteps were taken.
     pub fn superstep(&self) -> u32
         ensures { result ≡ self.now.step }
@@ -280,8 +288,16 @@ impl Run {
         self.printed.len() + self.steps.prints().len()
     }
 
-    /// Returns a print by its place.
-    pub fn print(&self, place: usize) -> Option<&Print>
+    /// Returns the path of a live task.
+    pub fn path(&self, task: usize) -> Option<&[u16]>
+        ensures { option_map (λ p. p.now) result ≡ option_map (λ t. t.path) (slice_get self.now.tasks task) }
+    {
+        let found = self.steps.tasks().get(task)?;
+        Some(found.path().as_slice())
+    }
+
+    // Returns a print by its place.
+    fn print_at(&self, place: usize) -> Option<&Print>
         ensures { option_map (λ p. p.now) result ≡ slice_get self.now.prints place }
     {
         let before = self.printed.len();
@@ -299,11 +315,24 @@ impl Run {
         self.steps.records()
     }
 
-    /// Returns the fault that has ended the run, if one did.
-    pub fn fault(&self) -> Option<&Blame>
-        ensures { option_map (λ b. b.now) result ≡ self.now.fault }
+    /// Returns a print by its place, and the path of its task.
+    pub fn print(&self, place: usize) -> Option<(PrintReport, &[u16])>
+        ensures { option_map (λ p. (p.0, p.1.now)) result ≡ option_map print_report (slice_get self.now.prints place) }
     {
-        self.steps.fault()
+        let found = self.print_at(place)?;
+        let reported = PrintReport {
+            step: found.step,
+            value: found.value,
+        };
+        Some((reported, found.path.as_slice()))
+    }
+
+    /// Returns the number of the fault that has ended the run, if one did, and the path of its task.
+    pub fn fault(&self) -> Option<(u32, &[u16])>
+        ensures { option_map (λ f. (f.0, f.1.now)) result ≡ self.now.fault }
+    {
+        let blame = self.steps.fault()?;
+        Some((u32::from(blame.code), blame.path.as_slice()))
     }
 
     /// Returns the text of the report of a run that is over, or `None` if it isn't.
