@@ -18,6 +18,7 @@ reasons-are-worked-out = record {
   put_of = refl;
   step = refl;
   budget = refl;
+  budget_reason = refl;
   depth = refl;
   spawns = refl;
   many = refl;

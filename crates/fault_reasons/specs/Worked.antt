@@ -13,7 +13,7 @@ use Rattle.task_code.specs.declared.code.Line.{Line}
 use Rattle.task_code.specs.declared.code.Line.TheVariants.{Do, If, Else, EndIf, While, EndWhile}
 use Rattle.task_lang.specs.TaskValue.{TaskValue}
 use Rattle.task_lang.specs.declared.fault.Fault.TheVariants.{Budget}
-use Rattle.fault_reasons.specs.Texts.{Again, fault_text, fresh, limit_text, setting_in}
+use Rattle.fault_reasons.specs.Texts.{Again, fault_by, fault_text, fresh, limit_text, setting_in}
 use Rattle.fault_reasons.specs.Walk.{walked}
 use Rattle.fault_reasons.specs.declared.walk.End.TheVariants.{Fault as FaultAt}
 
@@ -119,6 +119,9 @@ by_step =
 abbrev pub endless : List Line
 endless = While (One (number (pos 1))) 1 ∷ EndWhile (One (number (pos 1))) 0 ∷ []
 
+abbrev pub turning : Again
+turning = alone (codes "bsp 1\nbody b\n\n  while 1\n  end\nend\n") [] endless (pos 7)
+
 -- a task that spawns one like itself
 abbrev pub spawner : List ℕ → ℕ → Again
 spawner path spawned =
@@ -175,6 +178,8 @@ pub record ReasonsAreWorkedOut : Type 0 where
       "fault 3 (Index) in body b, line 4: print a[step], where step = 3 and a has cells 0 to 2\n  task 0.2, arg = 0, in superstep 3\n"
   -- with 5 statements left of the budget
   pub budget : walked (setting_in by_step (task (0 ∷ []) 0 [] (pos 0))) endless 5 0 (fresh []) ≡ (FaultAt Budget 1, fresh [])
+  pub budget_reason : fault_by turning (task (0 ∷ []) 0 [] (pos 7)) (FaultAt Budget 1, fresh [])
+      ≡ codes "fault 4 (Budget) in body b, line 4: while 1\n  task 0, arg = 7, in superstep 0\n"
   pub depth : fault_text (spawner (0 ∷ 1 ∷ 2 ∷ 3 ∷ 4 ∷ 5 ∷ 6 ∷ 7 ∷ []) 0) 5 (0 ∷ 1 ∷ 2 ∷ 3 ∷ 4 ∷ 5 ∷ 6 ∷ 7 ∷ [])
       ≡ codes "fault 5 (Depth) in body b, line 3: spawn b arg, where arg = 3\n  task 0.1.2.3.4.5.6.7, arg = 3, in superstep 2\n"
   pub spawns : fault_text (spawner (0 ∷ []) 65535) 6 (0 ∷ [])

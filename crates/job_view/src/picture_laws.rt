@@ -13,8 +13,8 @@ pub fn panels_are_worked_out()
     ensures { PanelsAreWorkedOut }
 {}
 
-/// Each name and title, whatever its bytes, is a text of XML in the picture: it has no `<`, no bare `&`, and no byte below the
-/// space.
+/// Each name and title, whatever its bytes, is a text of XML in the picture: it has no `<`, no bare `&`, no byte below the space,
+/// and neither U+FFFE nor U+FFFF.
 pub fn names_are_text()
     ensures { NamesAreText }
 {}

@@ -34,3 +34,7 @@ pub record PlacesAreWorkedOut : Type 0 where
   pub length : IsAt (codes "bsp 1\narray a two\n") 2 BadNumber 9 3
   pub argument : IsAt (codes "bsp 1\nbody b\nend\nstart b x\n") 4 BadNumber 9 1
   pub twice_listed : IsAt (codes "bsp 2\nbody b x y x\n") 2 Twice 12 1
+  -- the 33rd, though more than 32 are too many
+  pub last_listed : IsAt
+      (codes "bsp 2\nbody b l0 l1 l2 l3 l4 l5 l6 l7 l8 l9 m0 m1 m2 m3 m4 m5 m6 m7 m8 m9 n0 n1 n2 n3 n4 n5 n6 n7 n8 n9 o0 o1 l0\n")
+      2 Twice 104 2

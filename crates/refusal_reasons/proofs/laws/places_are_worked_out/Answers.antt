@@ -30,4 +30,5 @@ returns c = record {
   length = refl;
   argument = refl;
   twice_listed = refl;
+  last_listed = refl;
 }
