@@ -11,9 +11,11 @@ installed to, else the one that the system finds. `tools/install --prefix DIR` m
 promise is proved; what is in this file isn't."""
 
 import ctypes
+import math
 import multiprocessing
 import operator
 import os
+import time
 from ctypes import POINTER, byref, c_int32, c_int64, c_size_t, c_uint32, c_uint64
 from typing import Any, Dict, List, NamedTuple, Optional, SupportsIndex, Tuple, Type, Union
 
@@ -241,13 +243,14 @@ class Phaser:
         _done(_calls.bsp_process_arrive(byref(self._value), self._least, byref(answer), byref(index)))
         return answer.value, index.value
 
-    def arrive_and_wait(self) -> int:
-        """One party arrives and waits until all have. Returns its arrival index: parties - 1 for the first, 0 for the
-        last. Raises Ended if the phaser ends before."""
+    def arrive_and_wait(self, timeout: Optional[float] = None) -> int:
+        """One party arrives and waits until all have, no longer than `timeout` seconds, or without a limit for None. Returns its
+        arrival index: parties - 1 for the first, 0 for the last. Raises Ended if the phaser ends before, and TimeoutError if some
+        haven't arrived by then: the party has arrived all the same, so don't call it again in this phase."""
         phase, index = self._arrive()
         if phase < 0:
             raise Ended
-        now = self.wait(phase)
+        now = self.wait(phase, timeout)
         if now < 0 and now + 2147483648 == phase:
             raise Ended
         return index
@@ -264,15 +267,22 @@ class Phaser:
         """Ends the phaser at once. Returns the phase shown."""
         return self._of(_calls.bsp_process_force)
 
-    def wait(self, phase: SupportsIndex) -> int:
-        """Waits until this phase is over. Returns the phase then, negative once the phaser has ended."""
+    def wait(self, phase: SupportsIndex, timeout: Optional[float] = None) -> int:
+        """Waits until this phase is over, no longer than `timeout` seconds, or without a limit for None. Returns the phase then,
+        negative once the phaser has ended. Raises TimeoutError if the phase isn't over by then: wait again, or read `unarrived`."""
         phase, answer = _number(phase, -(2**31), 2**31 - 1, "a phase"), c_int32()
+        end = None if timeout is None else time.monotonic() + _seconds(timeout)
+        left = 0.1
         while True:
+            if end is not None:
+                left = min(max(end - time.monotonic(), 0), 0.1)
             # Python's handlers of signals run between two calls
-            status = _calls.bsp_process_await(byref(self._value), phase, 100, byref(answer))
+            status = _calls.bsp_process_await(byref(self._value), phase, math.ceil(left * 1000), byref(answer))
             if status != 2:
                 _done(status)
                 return answer.value
+            if end is not None and time.monotonic() >= end:
+                raise TimeoutError("the phase isn't over")
 
     def _of(self, call: Any, *words: int) -> int:
         answer = c_int32()
@@ -317,6 +327,13 @@ def _least(least: SupportsIndex) -> int:
 def _parties(parties: SupportsIndex) -> int:
     """The library says which numbers of parties it refuses."""
     return _number(parties, -(2**63), 2**63 - 1, "a number of parties")
+
+
+def _seconds(timeout: float) -> float:
+    seconds = float(timeout)
+    if math.isnan(seconds):
+        raise ValueError("a timeout is a number of seconds")
+    return seconds
 
 
 def _done(status: int) -> None:

@@ -138,6 +138,10 @@ def try_calls():
     signal.signal(signal.SIGALRM, interrupts)
     signal.setitimer(signal.ITIMER_REAL, 0.2)
     want(raised(InterruptedError, bsp.Phaser(2).arrive_and_wait), "a signal interrupts who waits")
+    late = bsp.Phaser(2)
+    phase = late.arrive()
+    want(raised(TimeoutError, late.wait, phase, 0) and raised(TimeoutError, late.wait, phase, 0.01) and late.unarrived == 1, "waits with a limit")
+    want((late.arrive_and_wait(5), late.wait(phase, 0)) == (0, 1) and raised(TimeoutError, late.arrive_and_wait, 0.01), "a meeting with a limit")
     both = bsp.Phaser(2)
     threads = [threading.Thread(target=lambda: [both.arrive_and_wait() for _ in range(PHASES)]) for _ in range(2)]
     for it in threads:
