@@ -89,7 +89,11 @@ impl fmt::Display for Snapshot {
             if unarrived == 1 {
                 write!(f, "tier {tier}: 1 of {} hasn't arrived\n", word.parties)?;
             } else if unarrived > 0 {
-                write!(f, "tier {tier}: {unarrived} of {} haven't arrived\n", word.parties)?;
+                write!(
+                    f,
+                    "tier {tier}: {unarrived} of {} haven't arrived\n",
+                    word.parties
+                )?;
             }
         }
         Ok(())
