@@ -2,6 +2,7 @@
 // registered while it runs, and an end that wakes who waits.
 #include "bsp_phaser.hpp"
 #include <atomic>
+#include <chrono>
 #include <cstdio>
 #include <cstdlib>
 #include <functional>
@@ -55,6 +56,11 @@ int main(int argc, char **argv) {
     });
     for (auto &it : at) want(it == 1);
     want(meeting.word() == (static_cast<std::uint64_t>(phases) << 32 | threads * 65537u));
+    bsp::phaser pair(2);
+    auto first = pair.arrive();
+    want(!pair.try_wait(first) && !pair.wait_for(first, std::chrono::milliseconds(5)));
+    want(pair.arrive_and_wait_for(std::chrono::hours::max()) == 0 && pair.try_wait(first) == 1);
+    want(!pair.arrive_and_wait_for(std::chrono::duration<double>(0.005)));
     bsp::phaser guests(0, 0);
     all_of(threads, [&](int) {
         for (int phase = 0; phase < phases; phase++) {
