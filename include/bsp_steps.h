@@ -52,7 +52,8 @@ enum {
     BSP_STEPS_UNFIT = 11,    /* the deeds are not as many as the live tasks, or one ends by a number from 2 to 15 */
     BSP_STEPS_OVER = 12,     /* the run was over before */
     BSP_STEPS_GOING = 13,    /* the run isn't over */
-    BSP_STEPS_NAME = 14      /* an array has a name that no array of a job may have */
+    BSP_STEPS_NAME = 14,     /* an array has a name that no array of a job may have */
+    BSP_STEPS_UNREAD = 15    /* the bytes aren't packed deeds */
 };
 
 /* how a task ends a superstep, or the number of a fault, from 16 to 255 */
@@ -134,12 +135,38 @@ struct bsp_path {
     size_t len;
 };
 
+/* bytes, and a place in blocks of bytes: the block and the byte of it, both from 0 */
+struct bsp_block {
+    const uint8_t *at;
+    size_t len;
+};
+
+struct bsp_unread {
+    size_t block;
+    size_t byte;
+};
+
 /* Begins a run of these arrays and of so many start tasks, whose paths are 0, 1 and so on: 0, 4, 5, 6, 8 or 14. At most `most` tasks
  * may live at once, and at most `limit` supersteps are taken. With no start task, or a limit of 0, the run is over at once. */
 int32_t bsp_steps_open(const struct bsp_array *arrays, size_t array_count, uint32_t starts, uint32_t most, uint32_t limit, struct bsp_steps *slot);
 
 /* Takes one superstep. There is a deed for each live task, in order. 0 to 3, 6, 7, 11 or 12. */
 int32_t bsp_steps_close(const struct bsp_deed *deeds, size_t deed_count, struct bsp_steps *slot);
+
+/* Takes one superstep by packed deeds: bytes in blocks, in order, each of which has the bytes of some deeds, one after another. The
+ * numbers below have their low byte first, and values are in two's complement. A deed is items, the last of which is its end:
+ *
+ *   0, ending (1 byte), spawns (2)                        the end: how the task ends, 0, 1 or from 16 on, and how many it spawned
+ *   1, array (2), index (4), value (8)                    a put that sets
+ *   2, array (2), index (4), value (8)                    a put that adds
+ *   3, array (2), first (4), count (4), so many values    puts that set cells side by side; `count` isn't 0, and first + count is
+ *                                                         at most 4294967296
+ *   4, value (8)                                          a print
+ *
+ * 0 to 3, 6, 7, 11 or 12, as bsp_steps_close; or 15 if the bytes are anything else: then `unread` has the block, and the byte of it at
+ * which the first item begins that is none of these or goes on past the block; the block's length if a deed isn't ended there. Else
+ * `unread` is left alone. At 6, 7, 11, 12 and 15 nothing is changed; 7 comes before 12, then 15 or 6, then 11 or 6. */
+int32_t bsp_steps_close_packed(const struct bsp_block *blocks, size_t block_count, struct bsp_steps *slot, struct bsp_unread *unread);
 
 /* Tells what `struct bsp_look` says: 0 or 7. */
 int32_t bsp_steps_look(struct bsp_steps *slot, struct bsp_look *look);
@@ -270,6 +297,48 @@ static inline uint32_t bsp_out_spawn(struct bsp_out *out) {
 static inline struct bsp_deed bsp_out_deed(const struct bsp_out *out, uint8_t ending) {
     struct bsp_deed deed = {out->puts, out->put_count, out->prints, out->print_count, (uint16_t)out->spawns, ending};
     return deed;
+}
+
+/* how many of these puts set cells side by side, from the first on */
+static inline size_t bsp_deed_side_by_side(const struct bsp_put *puts, size_t count) {
+    size_t n = 1;
+    if (puts->adds) return n;
+    while (n < count && n < UINT32_MAX && !puts[n].adds && puts[n].array == puts->array && puts[n].index == puts->index + (uint64_t)n) n++;
+    return n;
+}
+
+static inline uint8_t *bsp_deed_number(uint8_t *to, uint64_t number, int bytes) {
+    for (int i = 0; i < bytes; i++) *to++ = (uint8_t)(number >> 8 * i);
+    return to;
+}
+
+/* Packs a deed into `to`, which has `room` bytes, and returns how many bytes it takes: if that is more than `room`, nothing is written.
+ * Puts side by side become rows. */
+static inline size_t bsp_deed_pack(const struct bsp_deed *deed, uint8_t *to, size_t room) {
+    size_t bytes = 4 + 9 * deed->print_count;
+    for (size_t i = 0, n; i < deed->put_count; i += n) {
+        n = bsp_deed_side_by_side(deed->puts + i, deed->put_count - i);
+        bytes += n == 1 ? 15 : 11 + 8 * n;
+    }
+    if (bytes > room) return bytes;
+    for (size_t i = 0, n; i < deed->put_count; i += n) {
+        const struct bsp_put *put = deed->puts + i;
+        n = bsp_deed_side_by_side(put, deed->put_count - i);
+        *to++ = n > 1 ? 3 : put->adds ? 2 : 1;
+        to = bsp_deed_number(bsp_deed_number(to, put->array, 2), put->index, 4);
+        if (n > 1) to = bsp_deed_number(to, n, 4);
+        for (size_t k = 0; k < n; k++) to = bsp_deed_number(to, (uint64_t)put[k].value, 8);
+    }
+    for (size_t i = 0; i < deed->print_count; i++) *to++ = 4, to = bsp_deed_number(to, (uint64_t)deed->prints[i], 8);
+    *to++ = 0, *to++ = deed->ending;
+    bsp_deed_number(to, deed->spawns, 2);
+    return bytes;
+}
+
+/* The same of the deed of a task that ends so. */
+static inline size_t bsp_out_pack(const struct bsp_out *out, uint8_t ending, uint8_t *to, size_t room) {
+    struct bsp_deed deed = bsp_out_deed(out, ending);
+    return bsp_deed_pack(&deed, to, room);
 }
 
 /* Frees its buffers. */

@@ -33,6 +33,7 @@ public:
                            : status == BSP_STEPS_TASKS ? "too many start tasks"
                            : status == BSP_STEPS_NONE  ? "there is none of this number"
                            : status == BSP_STEPS_GOING ? "the run isn't over"
+                           : status == BSP_STEPS_UNREAD ? "the bytes aren't packed deeds"
                            : status == BSP_STEPS_UNFIT ? "there is a deed for each live task, and one fails by a number from 16 to 255"
                                                        : "the run is over"),
           status_(status) {}
@@ -141,12 +142,12 @@ protected:
     static std::vector<std::uint16_t> copied(const bsp_path &path) {
         return path.len ? std::vector<std::uint16_t>(path.at, path.at + path.len) : std::vector<std::uint16_t>();
     }
-    // A close by deeds that carries nothing over.
-    std::int32_t close_slot(const bsp_deed *deeds, std::size_t count) {
-        std::int32_t status = bsp_steps_close(deeds, count, &slot_);
+    static std::int32_t closed(std::int32_t status) {
         if (status > BSP_STEPS_LIMIT) done(status);
         return status;
     }
+    // A close by deeds that carries nothing over.
+    std::int32_t close_slot(const bsp_deed *deeds, std::size_t count) { return closed(bsp_steps_close(deeds, count, &slot_)); }
 
 public:
     // `starts` start tasks. At most `most` tasks may live at once, and at most `limit` supersteps are taken.
@@ -161,6 +162,14 @@ public:
 
     // Takes one superstep: a deed for each live task, in order. Returns what bsp_steps_close does, from 0 to 3; another status is thrown.
     std::int32_t close(const std::vector<bsp_deed> &deeds) { return close_slot(deeds.data(), deeds.size()); }
+
+    // The same by packed deeds, which bsp_deed_pack writes. Of bytes that are none, `unread` gets the place.
+    std::int32_t close_packed(const std::vector<bsp_block> &blocks, bsp_unread *unread = nullptr) {
+        bsp_unread place{};
+        std::int32_t status = bsp_steps_close_packed(blocks.data(), blocks.size(), &slot_, &place);
+        if (unread) *unread = place;
+        return closed(status);
+    }
 
     // How many supersteps were taken, whether and how the run is over, and how many tasks, arrays, prints and records there are.
     bsp_look look() const {

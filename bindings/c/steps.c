@@ -1,4 +1,5 @@
-/* The calls of bsp_steps.h on runs of every kind, and on random runs beside a model that is written here: prints what it has tried.
+/* steps [RUNS]: the calls of bsp_steps.h on runs of every kind, and on random runs (1000) beside a model that is written here: prints
+ * what it has tried.
  * With WRAPPED, and linked with --wrap=malloc,--wrap=realloc, each allocation of each close is refused in turn, then nothing is changed
  * and the same close is called again. */
 #include "bsp_steps.h"
@@ -81,6 +82,61 @@ static void over_at_once(struct bsp_steps *run, int32_t status, size_t tasks, co
     WANT(bsp_steps_look(run, &look) == BSP_STEPS_DONE && look.status == status && look.step == 0 && look.live == tasks);
     WANT(bsp_steps_close(NULL, 0, run) == BSP_STEPS_OVER);
     WANT(bsp_steps_report(run, text, sizeof text, &bytes) == BSP_STEPS_DONE && bytes == strlen(report) && !memcmp(text, report, bytes));
+}
+
+/* what is refused of packed deeds */
+static void packed(void) {
+    int64_t cells[3] = {1, 2, 3}, value = 0;
+    struct bsp_array arrays[1] = {array("a", cells, 3)};
+    struct bsp_steps run = {0};
+    struct bsp_unread place = {7, 7};
+    static const uint8_t row[] = {3, 0, 0, 1, 0, 0, 0, 2, 0, 0, 0, 7, 0, 0, 0, 0, 0, 0, 0, 0xff, 0xff, 0xff, 0xff, 0xff, 0xff, 0xff, 0xff, 0, 0, 0, 0};
+    static const uint8_t end[] = {0, 1, 0, 0}, fifteen[] = {0, 15, 0, 0}, far[] = {3, 0, 0, 0xff, 0xff, 0xff, 0xff, 2, 0, 0, 0, 1, 1, 1, 1, 1, 1, 1, 1};
+    static const uint8_t none_of[] = {3, 0, 0, 1, 0, 0, 0, 0, 0, 0, 0, 0, 0, 0, 0}, other[] = {5};
+    struct bsp_block whole[2] = {{row, sizeof row}, {end, sizeof end}}, half[2] = {{end, sizeof end}, {row, sizeof row - 4}};
+    WANT(bsp_steps_close_packed(whole, 2, &run, &place) == BSP_STEPS_CLOSED && place.block == 7);
+    WANT(bsp_steps_open(arrays, 1, 2, 2, 9, &run) == BSP_STEPS_DONE);
+    WANT(bsp_steps_close_packed(whole, 1, &run, &place) == BSP_STEPS_UNFIT && place.block == 7);
+    WANT(bsp_steps_close_packed(NULL, 0, &run, &place) == BSP_STEPS_UNFIT && place.block == 7);
+    WANT(bsp_steps_close_packed(half, 2, &run, &place) == BSP_STEPS_UNREAD && place.block == 1 && place.byte == sizeof row - 4);
+    const struct bsp_block bad[] = {{fifteen, 4}, {far, sizeof far}, {none_of, sizeof none_of}, {other, 1}, {end, 3}, {row, 26}};
+    for (size_t i = 0; i < sizeof bad / sizeof *bad; i++) {
+        struct bsp_block blocks[3] = {{end, 4}, {NULL, 0}, bad[i]};
+        WANT(bsp_steps_close_packed(blocks, 3, &run, &place) == BSP_STEPS_UNREAD && place.block == 2 && place.byte == 0);
+    }
+    WANT(live(&run) == 2 && cell(&run, 0, 1, &value) == 0 && value == 2);
+    place.block = 7;
+    WANT(bsp_steps_close_packed(whole, 2, &run, &place) == BSP_STEPS_DONE && place.block == 7 && live(&run) == 1);
+    WANT(cell(&run, 0, 1, &value) == 0 && value == 7 && cell(&run, 0, 2, &value) == 0 && value == -1);
+    WANT(bsp_steps_close_packed(whole + 1, 1, &run, &place) == BSP_STEPS_ENDED);
+    WANT(bsp_steps_close_packed(bad, 1, &run, &place) == BSP_STEPS_OVER && place.block == 7);
+    WANT(bsp_steps_free(&run) == BSP_STEPS_DONE);
+}
+
+/* rows, and the sum of two runs that differ and are the same */
+static void rows(void) {
+    int64_t cells[4] = {1, 2, 3, 4}, values[3] = {7, 8, 9}, value = 0;
+    struct bsp_array arrays[1] = {array("a", cells, 4)};
+    uint64_t sums[3];
+    for (uint32_t i = 0; i < 3; i++) {
+        struct bsp_steps run = {0};
+        struct bsp_out out = {0};
+        WANT(bsp_steps_open(arrays, 1, 1, 1, 9, &run) == BSP_STEPS_DONE);
+        bsp_out_begin(&out);
+        bsp_out_row(&out, 0, i == 1, 3, values);
+        bsp_out_row(&out, 0, 0, 0, NULL);
+        struct bsp_deed deed = bsp_out_deed(&out, BSP_GOES_ON);
+        WANT(!out.failed && out.put_count == 3 && bsp_steps_close(&deed, 1, &run) == BSP_STEPS_DONE);
+        WANT(cell(&run, 0, i == 1, &value) == 0 && value == 7 && cell(&run, 0, i == 1 ? 0 : 3, &value) == 0 && value == (i == 1 ? 1 : 4));
+        sums[i] = bsp_steps_sum(&run);
+        bsp_out_begin(&out);
+        bsp_out_row(&out, 0, UINT32_MAX - 1, 3, values);
+        deed = bsp_out_deed(&out, BSP_GOES_ON);
+        WANT(bsp_steps_close(&deed, 1, &run) == BSP_STEPS_FAULT && bsp_steps_sum(&run) != sums[i]);
+        bsp_out_free(&out);
+        WANT(bsp_steps_free(&run) == BSP_STEPS_DONE && bsp_steps_sum(&run) == 0);
+    }
+    WANT(sums[0] == sums[2] && sums[0] != sums[1]);
 }
 
 /* what is refused at open */
@@ -414,6 +470,97 @@ static void random_deed(struct bsp_deed *deed, struct bsp_put *puts, const int64
     if (!calm && !pick(200)) deed->ending = (uint8_t)(16 + pick(240));
 }
 
+/* A reader of packed deeds, written from bsp_steps.h: how many bytes the item takes that begins here, 0 if none does. */
+static uint64_t number_at(const uint8_t *at, int bytes) {
+    uint64_t number = 0;
+    for (int i = bytes; i-- > 0;) number = number << 8 | at[i];
+    return number;
+}
+
+static size_t item_at(const uint8_t *at, size_t left) {
+    static const size_t sizes[5] = {4, 15, 15, 11, 9};
+    if (left == 0 || at[0] > 4 || left < sizes[at[0]]) return 0;
+    if (at[0] == 0) return at[1] > 1 && at[1] < 16 ? 0 : 4;
+    if (at[0] != 3) return sizes[at[0]];
+    uint64_t first = number_at(at + 3, 4), count = number_at(at + 7, 4);
+    return count == 0 || first + count > (uint64_t)1 << 32 || (left - 11) / 8 < count ? 0 : 11 + 8 * (size_t)count;
+}
+
+/* the first place where blocks can't be read; false if there is none */
+static bool unread_at(const struct bsp_block *blocks, size_t count, struct bsp_unread *place) {
+    for (place->block = 0; place->block < count; place->block++) {
+        const struct bsp_block *block = &blocks[place->block];
+        bool open = false;
+        for (place->byte = 0; place->byte < block->len || open;) {
+            size_t taken = item_at(block->at + place->byte, block->len - place->byte);
+            if (!taken) return true;
+            open = block->at[place->byte] != 0;
+            place->byte += taken;
+        }
+    }
+    return false;
+}
+
+enum { MODEL_BYTES = MODEL_TASKS * (MODEL_PUTS * 15 + 2 * 9 + 4) };
+
+/* The deeds as bytes in up to three blocks, each in memory of its own; the number of the blocks. */
+static size_t pack(const struct bsp_deed *deeds, struct bsp_block *blocks) {
+    static uint8_t bytes[MODEL_BYTES];
+    size_t count = 1 + pick(3), deed = 0;
+    for (size_t i = 0; i < count; i++) {
+        size_t len = 0, end = i + 1 == count ? model_live : deed + pick((uint32_t)(model_live - deed + 1));
+        for (; deed < end; deed++) {
+            struct bsp_out out = {(struct bsp_put *)(uintptr_t)deeds[deed].puts, deeds[deed].put_count, 0, (int64_t *)(uintptr_t)deeds[deed].prints,
+                                  deeds[deed].print_count, 0, deeds[deed].spawns, false};
+            size_t needed = bsp_out_pack(&out, deeds[deed].ending, bytes + len, 0);
+            WANT(bsp_out_pack(&out, deeds[deed].ending, bytes + len, needed - 1) == needed);
+            WANT(bsp_out_pack(&out, deeds[deed].ending, bytes + len, sizeof bytes - len) == needed);
+            len += needed;
+        }
+        uint8_t *at = (uint8_t *)malloc(len);
+        if (!at && len) exit(6);
+        if (len) memcpy(at, bytes, len);
+        struct bsp_block block = {at, len};
+        blocks[i] = block;
+    }
+    return count;
+}
+
+static long misread;
+
+/* Bytes that are changed are read as the reader here reads them, or refused at the same place, and then nothing is changed. */
+static void changed(struct bsp_steps *run, struct bsp_block *blocks, size_t count) {
+    struct bsp_unread want_place, place = {7, 7};
+    for (int i = 0; i < 3; i++) {
+        struct bsp_block *block = &blocks[pick((uint32_t)count)], whole = *block;
+        if (!block->len) continue;
+        size_t at = pick((uint32_t)block->len);
+        uint8_t *byte = (uint8_t *)(uintptr_t)block->at + at, was = *byte;
+        if (pick(2)) block->len = at;
+        else *byte = (uint8_t)(pick(2) ? pick(256) : pick(6));
+        if (unread_at(blocks, count, &want_place)) {
+            misread++;
+            WANT(bsp_steps_close_packed(blocks, count, run, &place) == BSP_STEPS_UNREAD);
+            WANT(place.block == want_place.block && place.byte == want_place.byte);
+            WANT(same(run));
+        }
+        *block = whole, *byte = was;
+    }
+}
+
+/* The same close by packed deeds. */
+static int32_t close_packed(struct bsp_steps *run, const struct bsp_deed *deeds) {
+    struct bsp_block blocks[3] = {{NULL, 0}};
+    struct bsp_unread place = {7, 7};
+    size_t count = pack(deeds, blocks);
+    changed(run, blocks, count);
+    int32_t status;
+    EACH_REFUSED(status, bsp_steps_close_packed(blocks, count, run, &place), same(run) && place.block == 7);
+    WANT(place.block == 7 && place.byte == 7);
+    for (size_t i = 0; i < count; i++) free((void *)(uintptr_t)blocks[i].at);
+    return status;
+}
+
 /* one run; returns the number of the fault that ended it, or 0 */
 static uint32_t random_run(bool calm) {
     struct bsp_array arrays[2] = {array("a", model_cells[0], MODEL_CELLS), array("b", model_cells[1], MODEL_CELLS)};
@@ -434,7 +581,8 @@ static uint32_t random_run(bool calm) {
         for (size_t i = 0; i < model_live; i++) random_deed(&deeds[i], puts[i], prints, calm);
         size_t who = 0;
         int32_t status;
-        EACH_REFUSED(status, bsp_steps_close(deeds, model_live, &run), same(&run));
+        if (pick(2)) status = close_packed(&run, deeds);
+        else EACH_REFUSED(status, bsp_steps_close(deeds, model_live, &run), same(&run));
         fault = own_fault(deeds, &who);
         size_t next = fault ? 0 : next_live(deeds);
         if (!fault && next > MODEL_TASKS) fault = 7;
@@ -468,17 +616,20 @@ static void random_runs(uint32_t count) {
     }
     uint32_t own = 0;
     for (int code = 16; code < 256; code++) own += faults[code];
+    printf("%ld changed blocks were refused\n", misread);
     printf("%u random runs, faults: %u cells, %u depth, %u tasks, %u sums, %u own\n", count, faults[3], faults[5], faults[7], faults[8], own);
 }
 
-int main(void) {
+int main(int argc, char **argv) {
     opens();
     closed();
     unfit();
     faults();
     depth();
     reads();
-    random_runs(1000);
+    packed();
+    rows();
+    random_runs(argc > 1 ? (uint32_t)atoi(argv[1]) : 1000);
 #ifdef WRAPPED
     printf("%ld allocations were refused in turn\n", refused);
 #endif

@@ -91,6 +91,25 @@ static void closes() {
     WANT(run.report() == "print 0 1 6\nphase 0 parties 3 left 1 spawned 1\nphase 1 parties 2 left 2 spawned 0\narray a 1 7\nended 2\n");
 }
 
+// the same as bytes
+static void packs() {
+    bsp::steps_run run({{"a", {1, 2, 3}}}, 2, 3, 9);
+    const bsp_put puts[] = {{0, 0, 0, 5}, {0, 0, 1, -6}, {0, 1, 1, 4}};
+    const std::int64_t print = 6;
+    const bsp_deed deeds[] = {{puts, 3, nullptr, 0, 1, BSP_GOES_ON}, {nullptr, 0, &print, 1, 0, BSP_STOPS}};
+    std::vector<std::uint8_t> bytes[2];
+    for (int i = 0; i < 2; i++) {
+        bytes[i].resize(bsp_deed_pack(&deeds[i], nullptr, 0));
+        WANT(bsp_deed_pack(&deeds[i], bytes[i].data(), bytes[i].size()) == bytes[i].size());
+    }
+    WANT(bytes[0].size() == 11 + 16 + 15 + 4 && bytes[1].size() == 9 + 4);
+    bsp_unread place{7, 7};
+    WANT(status_of([&] { run.close_packed({{bytes[0].data(), bytes[0].size()}, {bytes[1].data(), 9}}, &place); }) == BSP_STEPS_UNREAD);
+    WANT(place.block == 1 && place.byte == 9 && run.taken() == 0);
+    WANT(run.close_packed({{bytes[0].data(), bytes[0].size()}, {bytes[1].data(), 13}}) == BSP_STEPS_DONE);
+    WANT(run[0][0] == 5 && run[0][1] == -2 && run.look().live == 2 && run.prints()[0].value == 6);
+}
+
 // the first task's exception comes, whichever thread ran it, and the run is over
 static void throws() {
     for (std::size_t threads : {1, 4}) {
@@ -115,6 +134,7 @@ int main() {
     steps();
     rows();
     closes();
+    packs();
     throws();
     std::cout << tried << " tried, " << wrong << " wrong\n";
     return wrong != 0;

@@ -27,21 +27,21 @@ from typing import Any, Callable, Dict, Iterable, Iterator, List, Mapping, Named
 import bsp
 from bsp import Report
 
-DONE, ENDED, FAULT, LIMIT, NO_MEMORY, OVER = 0, 1, 2, 3, 6, 12
+DONE, ENDED, FAULT, LIMIT, NO_MEMORY, OVER, UNREAD = 0, 1, 2, 3, 6, 12, 15
 _WHY = {
     4: "an array has over 4294967295 cells",
     5: "more start tasks than may live, or than 65535",
-    11: "a task fails by a number from 16 to 255",
+    11: "there isn't one deed for each live task, or a task fails by a number from 16 to 255",
     12: "the run is over",
     13: "the run isn't over",
     14: "an array's name is a lower-case letter and up to 15 lower-case letters, digits and underscores, and no word of the language",
 }
 _ENDS = {DONE: None, ENDED: "ended", FAULT: "fault", LIMIT: "limit"}
-# A put as the library reads it: the array, whether it adds, the cell, the value.
-_pack_put = struct.Struct("=HHIq").pack
-_pack_print = struct.Struct("=q").pack
-_pack_cell = struct.Struct("=HHI").pack
-_NEXT_CELL = int.from_bytes(_pack_cell(0, 0, 1), sys.byteorder)
+# Items of packed deeds, as `bsp_steps_close_packed` reads them: an end, a put or an addition, a row, a print.
+_pack_end = struct.Struct("<BBH").pack
+_pack_put = struct.Struct("<BHIq").pack
+_pack_row = struct.Struct("<BHII").pack
+_pack_print = struct.Struct("<Bq").pack
 
 Body = Callable[..., Iterator[Any]]
 Cells = Union[Iterable[SupportsIndex], memoryview]
@@ -50,12 +50,12 @@ Cells = Union[Iterable[SupportsIndex], memoryview]
 class StepsError(ValueError):
     """A call was refused, and changed nothing: `status` is one of bsp_steps.h."""
 
-    def __init__(self, status: int) -> None:
-        super().__init__(_WHY.get(status, f"status {status}"))
+    def __init__(self, status: int, why: Optional[str] = None) -> None:
+        super().__init__(why or _WHY.get(status, f"status {status}"))
         self.status = status
 
-    def __reduce__(self) -> Tuple[Type["StepsError"], Tuple[int]]:
-        return StepsError, (self.status,)
+    def __reduce__(self) -> Tuple[Type["StepsError"], Tuple[int, str]]:
+        return StepsError, (self.status, str(self))
 
 
 class _Slot(ctypes.Structure):
@@ -66,8 +66,12 @@ class _Array(ctypes.Structure):
     _fields_ = [("name", ctypes.c_char_p), ("name_len", c_size_t), ("cells", c_void_p), ("len", c_size_t)]
 
 
-class _Deed(ctypes.Structure):
-    _fields_ = [("puts", c_void_p), ("put_count", c_size_t), ("prints", c_void_p), ("print_count", c_size_t), ("spawns", c_uint16), ("ending", c_uint8)]
+class _Block(ctypes.Structure):
+    _fields_ = [("at", ctypes.c_char_p), ("len", c_size_t)]
+
+
+class _Unread(ctypes.Structure):
+    _fields_ = [("block", c_size_t), ("byte", c_size_t)]
 
 
 class _Origin(ctypes.Structure):
@@ -87,7 +91,7 @@ _slot: Any = POINTER(_Slot)
 _arguments: Any
 for _name, _arguments in {
     "open": [POINTER(_Array), c_size_t, c_uint32, c_uint32, c_uint32, _slot],
-    "close": [POINTER(_Deed), c_size_t, _slot],
+    "close_packed": [POINTER(_Block), c_size_t, _slot, POINTER(_Unread)],
     "look": [_slot, POINTER(_Look)],
     "cells": [_slot, c_size_t, POINTER(_Lent)],
     "path": [_slot, c_size_t, POINTER(_Lent)],
@@ -170,14 +174,11 @@ class _Fails(Exception):
 
 
 class Deed(NamedTuple):
-    """What a task left in a superstep: its puts, 16 bytes each as `struct bsp_put` has them, and its prints, 8 bytes each; the function
-    and the words of each task that it spawned; and how it ends, 0 if it goes on, 1 if it stops, or the number of a fault. It can be
-    pickled if the functions and words can."""
+    """What a task left in a superstep: its deed as bytes, packed as `bsp_steps.h` says at `bsp_steps_close_packed`; and the function and
+    the words of each task that it spawned. It can be pickled if the functions and words can."""
 
-    puts: bytes
-    prints: bytes
+    packed: bytes
     spawns: Sequence[Tuple[Any, ...]]
-    ending: int
 
 
 class Task:
@@ -185,7 +186,7 @@ class Task:
 
     def __init__(self, steps: "Steps", function: Body, words: Tuple[Any, ...]) -> None:
         self._steps, self._runs = steps, False
-        self._puts, self._prints = bytearray(), bytearray()
+        self._items = bytearray()
         self._spawns: List["Task"] = []
         self._made = (function, *words)
         self._body = _generator(function, self, words)
@@ -194,10 +195,10 @@ class Task:
         if not self._runs:
             raise RuntimeError("the task doesn't run now")
 
-    def _add(self, array: str, adds: int, index: SupportsIndex, value: SupportsIndex) -> None:
+    def _add(self, array: str, kind: int, index: SupportsIndex, value: SupportsIndex) -> None:
         self._running()
         try:
-            self._puts += _pack_put(self._steps._places[array], adds, index, value)
+            self._items += _pack_put(kind, self._steps._places[array], index, value)
         except struct.error:
             where = f"{array}[{index!r}] = {value!r}"
             _fits(where, "index", index, 0, 2**32 - 1)
@@ -226,11 +227,11 @@ class Task:
     def put(self, array: str, index: SupportsIndex, value: SupportsIndex) -> None:
         """Sets a cell, counted from 0, to a value of 64 signed bits. If there is no such cell, the run ends by fault 3. Raises KeyError
         if there is no such array, OverflowError if a number doesn't fit, and TypeError if it is no integer."""
-        self._add(array, 0, index, value)
+        self._add(array, 1, index, value)
 
     def add(self, array: str, index: SupportsIndex, value: SupportsIndex) -> None:
         """Adds to a cell. A sum that doesn't fit 64 signed bits ends the run by fault 8. Otherwise as `put`."""
-        self._add(array, 1, index, value)
+        self._add(array, 2, index, value)
 
     def put_row(self, array: str, first: SupportsIndex, values: Cells) -> None:
         """Sets cells side by side, from the cell `first` on. `values` is a buffer of 64-bit integers, such as an `array`, a NumPy
@@ -241,17 +242,17 @@ class Task:
         start, count = operator.index(first), len(row)
         if start + count > 2**32:
             raise OverflowError(f"{array}[{start}] and on: {count} values go on past the cell 4294967295")
-        cell = int.from_bytes(_pack_cell(self._steps._places[array], 0, start), sys.byteorder)
-        puts = numbers("Q", bytes(16 * count))
-        puts[0::2] = numbers("Q", range(cell, cell + count * _NEXT_CELL, _NEXT_CELL))
-        puts[1::2] = numbers("Q", row.tobytes())
-        self._puts += puts.tobytes()
+        if not count:
+            return
+        if sys.byteorder == "big":
+            row.byteswap()
+        self._items += _pack_row(3, self._steps._places[array], start, count) + row.tobytes()
 
     def print(self, value: SupportsIndex) -> None:
         """Prints a number of 64 signed bits. Raises OverflowError if it doesn't fit, and TypeError if it is no integer."""
         self._running()
         try:
-            self._prints += _pack_print(value)
+            self._items += _pack_print(4, value)
         except struct.error:
             _fits("a print", "value", value, -(2**63), 2**63 - 1)
             raise
@@ -273,7 +274,7 @@ class Task:
 
     def segment(self) -> Deed:
         """Runs to the next `yield`, and returns what the task left in the superstep. `Steps.segments` calls it."""
-        self._puts, self._prints, self._spawns = bytearray(), bytearray(), []
+        self._items, self._spawns = bytearray(), []
         self._runs, ending = True, 0
         try:
             next(self._body)
@@ -283,7 +284,7 @@ class Task:
             ending = it.args[0]
         finally:
             self._runs = False
-        return Deed(bytes(self._puts), bytes(self._prints), [it._made for it in self._spawns], ending)
+        return Deed(bytes(self._items) + _pack_end(0, ending, len(self._spawns)), [it._made for it in self._spawns])
 
 
 def _fits(where: str, what: str, number: SupportsIndex, least: int, most: int) -> None:
@@ -358,12 +359,11 @@ class Steps:
         for task in self._tasks:
             task._spawns = []
         deeds = list(self.segments(self._tasks))
-        held = [(bytearray(it.puts), bytearray(it.prints)) for it in deeds]
-        given = (_Deed * len(deeds))()
-        for to, it, (puts, prints) in zip(given, deeds, held):
-            to.puts, to.put_count, to.prints, to.print_count = _address(puts), len(puts) // 16, _address(prints), len(prints) // 8
-            to.spawns, to.ending = bsp._number(len(it.spawns), 0, 65535, "spawns"), bsp._number(it.ending, 0, 255, "an ending")
-        status: int = _calls.bsp_steps_close(given, len(deeds), byref(self._run.slot))
+        blocks = (_Block * len(deeds))(*(_Block(it.packed, len(it.packed)) for it in deeds))
+        unread = _Unread()
+        status: int = _calls.bsp_steps_close_packed(blocks, len(deeds), byref(self._run.slot), byref(unread))
+        if status == UNREAD:
+            raise StepsError(status, f"the deed of the task {unread.block} can't be read at its byte {unread.byte}")
         if status > LIMIT:
             _done(status)
         look = self._run.look()

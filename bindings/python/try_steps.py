@@ -5,7 +5,7 @@ import pickle
 import sys
 
 import bsp
-from bsp_steps import Steps, StepsError
+from bsp_steps import Deed, Steps, StepsError
 
 tried = wrong = 0
 
@@ -129,10 +129,15 @@ def try_engines():
         copies.step()
     copies.step()
     want(runs.report() == copies.report() == Steps(*begins).run(), "deeds from elsewhere")
+    want(runs.sum() == copies.sum() != Steps(*begins).sum(), "their sum")
     want(copies.report().prints[0].value == 3, "what they did")
     copies = Steps(*begins)
     copies.segments = lambda tasks: []
     want(raised(StepsError, copies.step).status == 11, "too few deeds")
+    copies = Steps(*begins)
+    copies.segments = lambda tasks: [Deed(bytes([0, 1, 0, 0]), []), Deed(bytes([4, 0, 0]), [])]
+    error = raised(StepsError, copies.step)
+    want(error.status == 15 and "task 1 can't be read at its byte 0" in str(error) and str(pickle.loads(pickle.dumps(error))) == str(error), "no deed")
 
 
 def main():

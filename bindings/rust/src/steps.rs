@@ -22,6 +22,8 @@ pub enum StepsError {
     Memory,
     /// There isn't a deed for each live task, or a task fails by a number below 16.
     Ending,
+    /// The bytes aren't packed deeds: at this byte of this block, both from 0, begins the first item that is none.
+    Unread { block: usize, byte: usize },
     /// The run is over.
     Over,
     /// The run isn't over.
@@ -50,6 +52,7 @@ impl fmt::Display for StepsError {
             StepsError::Tasks => "too many start tasks",
             StepsError::Memory => "out of memory",
             StepsError::Ending => "there isn't a deed for each live task, or a task fails by a number below 16",
+            StepsError::Unread { block, byte } => return write!(to, "block {block} can't be read at its byte {byte}"),
             StepsError::Over => "the run is over",
             StepsError::Going => "the run isn't over",
         })

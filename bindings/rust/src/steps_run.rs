@@ -19,6 +19,32 @@ pub struct Deed<'a> {
 }
 
 impl Deed<'_> {
+    /// Appends the deed as bytes, as [`StepsRun::close_packed`] reads them. Puts side by side become rows.
+    pub fn pack(&self, to: &mut Vec<u8>) {
+        let mut rest = self.puts;
+        while let Some((put, after)) = rest.split_first() {
+            let goes_on = |(place, next): &(usize, &sys::Put)| {
+                put.adds == 0 && next.adds == 0 && next.array == put.array && u64::from(next.index) == u64::from(put.index) + *place as u64 + 1
+            };
+            let more = after.iter().enumerate().take_while(goes_on).count().min(u32::MAX as usize - 1);
+            let (row, later) = rest.split_at(more + 1);
+            to.push(if more > 0 { 3 } else if put.adds != 0 { 2 } else { 1 });
+            to.extend(put.array.to_le_bytes());
+            to.extend(put.index.to_le_bytes());
+            if more > 0 {
+                to.extend((row.len() as u32).to_le_bytes());
+            }
+            row.iter().for_each(|it| to.extend(it.value.to_le_bytes()));
+            rest = later;
+        }
+        for print in self.prints {
+            to.push(4);
+            to.extend(print.to_le_bytes());
+        }
+        to.extend([0, self.ending.number()]);
+        to.extend(self.spawns.to_le_bytes());
+    }
+
     fn given(&self) -> sys::Deed<'_> {
         sys::Deed {
             puts: self.puts.as_ptr(),
@@ -216,9 +242,26 @@ impl StepsRun {
         self.close_given(&given)
     }
 
+    /// Takes one superstep by packed deeds, which [`Deed::pack`] writes: the blocks have those of all live tasks, in order, and none goes
+    /// on in the next block. `bsp_steps.h` says which bytes these are.
+    pub fn close_packed(&mut self, blocks: &[&[u8]]) -> Result<StepTaken, StepsError> {
+        let given: Vec<sys::Block<'_>> = blocks.iter().map(|it| sys::Block { at: it.as_ptr(), len: it.len(), of: PhantomData }).collect();
+        let mut unread = sys::Unread::default();
+        // SAFETY: each block has as many bytes as it says, and the slot is borrowed mutably
+        match unsafe { sys::bsp_steps_close_packed(given.as_ptr(), given.len(), self.slot.get_mut(), &mut unread) } {
+            15 => Err(StepsError::Unread { block: unread.block, byte: unread.byte }),
+            status => self.taken_so(status),
+        }
+    }
+
     pub(crate) fn close_given(&mut self, deeds: &[sys::Deed<'_>]) -> Result<StepTaken, StepsError> {
         // SAFETY: each deed points to as many values as it says, and the slot is borrowed mutably
-        match unsafe { sys::bsp_steps_close(deeds.as_ptr(), deeds.len(), self.slot.get_mut()) } {
+        let status = unsafe { sys::bsp_steps_close(deeds.as_ptr(), deeds.len(), self.slot.get_mut()) };
+        self.taken_so(status)
+    }
+
+    fn taken_so(&self, status: i32) -> Result<StepTaken, StepsError> {
+        match status {
             0 => Ok(StepTaken::GoesOn),
             status @ 1..=3 => Ok(StepTaken::Over(self.end().ok_or(StepsError::of(status))?)),
             status => Err(StepsError::of(status)),

@@ -103,6 +103,23 @@ pub struct Look {
     pub records: usize,
 }
 
+/// Bytes of packed deeds.
+#[repr(C)]
+#[derive(Clone, Copy, Debug)]
+pub struct Block<'a> {
+    pub at: *const u8,
+    pub len: usize,
+    pub of: PhantomData<&'a [u8]>,
+}
+
+/// A place in blocks of bytes, from 0.
+#[repr(C)]
+#[derive(Clone, Copy, Debug, Default)]
+pub struct Unread {
+    pub block: usize,
+    pub byte: usize,
+}
+
 /// A printed value, without the path of its task.
 #[repr(C)]
 #[derive(Clone, Copy, Debug, Default)]
@@ -153,6 +170,7 @@ impl Default for Path {
 unsafe extern "C" {
     pub fn bsp_steps_open(arrays: *const Array, count: usize, starts: u32, most: u32, limit: u32, slot: *mut Slot) -> i32;
     pub fn bsp_steps_close(deeds: *const Deed<'_>, count: usize, slot: *mut Slot) -> i32;
+    pub fn bsp_steps_close_packed(blocks: *const Block<'_>, count: usize, slot: *mut Slot, unread: *mut Unread) -> i32;
     pub fn bsp_steps_look(slot: *mut Slot, look: *mut Look) -> i32;
     pub fn bsp_steps_cells(slot: *mut Slot, array: usize, cells: *mut Cells) -> i32;
     pub fn bsp_steps_path(slot: *mut Slot, task: usize, path: *mut Path) -> i32;

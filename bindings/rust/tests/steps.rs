@@ -92,6 +92,25 @@ fn deeds_in_the_callers_hands() {
     assert_eq!(run.close(&[]), Err(StepsError::Over));
 }
 
+#[test]
+fn packed_deeds() {
+    let put = |index, adds, value| Put { array: 0, adds, index, value };
+    let puts = [put(0, 0, 5), put(1, 0, -6), put(2, 0, i64::MIN), put(1, 1, 4), put(2, 0, 7)];
+    let first = Deed { puts: &puts, prints: &[8, -9], spawns: 1, ending: Ending::GoesOn };
+    let stops = Deed { puts: &[], prints: &[], spawns: 0, ending: Ending::Stops };
+    let (mut one, mut other) = (StepsRun::new(&[("a", &[1, 2, 3])], 2, 3, 9).unwrap(), StepsRun::new(&[("a", &[1, 2, 3])], 2, 3, 9).unwrap());
+    let mut bytes = Vec::new();
+    first.pack(&mut bytes);
+    assert_eq!(bytes.len(), 11 + 24 + 15 + 15 + 18 + 4);
+    let end = bytes.len();
+    stops.pack(&mut bytes);
+    assert_eq!(other.close_packed(&[&bytes[..end], &bytes[end..end + 3]]), Err(StepsError::Unread { block: 1, byte: 0 }));
+    assert_eq!(one.close(&[first, stops]), other.close_packed(&[&bytes[..end], &[], &bytes[end..]]));
+    assert_eq!((one.cells(0), one.prints(), one.sum()), (other.cells(0), other.prints(), other.sum()));
+    assert_eq!(other.cells(0), Some(&[5, -2, 7][..]));
+    assert_eq!(other.close_packed(&[&bytes]), one.close(&[first, stops]));
+}
+
 struct Panics;
 
 impl TaskBody for Panics {

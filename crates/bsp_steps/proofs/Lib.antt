@@ -1,4 +1,5 @@
 pub mod AsciiNames
+pub mod DeedBytes
 pub mod Follow
 pub mod Held
 pub mod Left
@@ -10,3 +11,4 @@ pub mod Took
 pub mod Values
 pub mod Worked
 pub mod WorkedReads
+pub mod WorkedBytes

@@ -31,9 +31,12 @@ use Rattle.bsp_steps.specs.declared.given.Look.{Look}
 use Rattle.bsp_steps.specs.declared.given.Origin.{Origin}
 use Rattle.bsp_steps.specs.declared.given.PrintReport.{PrintReport}
 use Rattle.bsp_steps.specs.declared.given.RecordReport.{RecordReport}
+use Rattle.bsp_steps.specs.declared.packed.Block.{Block}
+use Rattle.bsp_steps.specs.declared.packed.Unread.{Unread}
 use Rattle.bsp_steps.specs.declared.state.State.{State}
 use Rattle.bsp_steps.specs.Given.{MayFollow, is_named}
 use Rattle.bsp_steps.specs.Runs.{RunValue, IsClosed, closing, fresh, refused_starts, text_by}
+use Rattle.bsp_steps.specs.DeedReads.{IsClosedPacked}
 
 -- begun (0), an array is refused (4), or memory ran out (6), which no array had that is refused
 abbrev pub Begins : Option State → List ArrayGiven → ℕ → ℕ → ℕ → ℤ → Type 0
@@ -58,6 +61,11 @@ Opens None after arrays starts most limit status = OpensFresh (refused_starts st
 abbrev pub Closes : Option State → Option State → List Deed → ℤ → Type 0
 Closes None after deeds status = (status ≡ pos 7) × (after ≡ None)
 Closes (Some s) after deeds status = MatchOption after ⊥ (λ t. IsClosed s.run t.run deeds status)
+
+-- nothing is open (7), or the run is closed by what the blocks say
+abbrev pub ClosesPacked : Option State → Option State → Unread → Unread → List Block → ℤ → Type 0
+ClosesPacked None after unread place blocks status = (status ≡ pos 7) × (after ≡ None) × (place ≡ unread)
+ClosesPacked (Some s) after unread place blocks status = MatchOption after ⊥ (λ t. IsClosedPacked s.run t.run unread place blocks status)
 
 -- nothing was open (7), or it is no longer
 abbrev pub Frees : Option State → Option State → ℤ → Type 0

@@ -1,7 +1,10 @@
 pub mod Calls
+pub mod DeedBytes
+pub mod DeedReads
 pub mod Given
 pub mod Laws
 pub mod Lent
 pub mod Owned
 pub mod Runs
 pub mod Worked
+pub mod WorkedBytes

@@ -5,7 +5,7 @@
 //!
 //! * `lib.rt`: the exported calls; `specs/Calls.antt`, `specs/Runs.antt`: what they give.
 //! * `given.rt`: what C gives (`specs/Given.antt`); `task.rt`: a live task; `given_deeds.rt`: the program of a superstep that was given;
-//!   `open.rt`: arrays; `run.rt`: a run whose supersteps are given; `laws.rt`: what a close means for each task.
+//!   `packed.rt`: deeds as bytes (`specs/DeedBytes.antt`); `open.rt`: arrays; `run.rt`: a run whose supersteps are given; `laws.rt`: what a close means for each task.
 //! * `state.rt`, `slot.rt`, `handle.rt`, `loose.rt`: what C holds. The unsafe code is in `handle/lend.rt` and `loose.rt`.
 #![tactic(auto)]
 
@@ -13,10 +13,11 @@ ghost use Rattle.std.specs.Prelude.{◌≡◌, None, false, true, length};
 ghost use Rattle.std.specs.List.{list_all};
 ghost use Rattle.bsp_steps.specs.Given.{is_named};
 ghost use Rattle.bsp_steps.specs.Runs.{refused_starts};
-ghost use Rattle.bsp_steps.specs.Calls.{Begins, Opens, Closes, Frees, IsGiven, Looks, ReadsCells, ReadsPath, ReadsOrigin, ReadsFault, ReadsPrint, ReadsRecord, Reports};
+ghost use Rattle.bsp_steps.specs.Calls.{Begins, Opens, Closes, ClosesPacked, Frees, IsGiven, Looks, ReadsCells, ReadsPath, ReadsOrigin, ReadsFault, ReadsPrint, ReadsRecord, Reports};
 
 use given::{ArrayGiven, Deed, Look, Origin, PrintReport, RecordReport};
 use open::{OpenFault, are_named, open_arrays};
+use packed::{Block, Unread};
 use run::{DONE, NO_MEMORY, Run};
 use slot::Slot;
 use state::State;
@@ -28,12 +29,15 @@ mod handle;
 mod laws;
 mod loose;
 mod open;
+mod packed;
 mod run;
 mod slot;
 mod state;
 mod task;
 
-pub use laws::{calls_are_worked_out, each_task_has_its_place, tasks_leave_what_was_given};
+pub use laws::{
+    bytes_are_worked_out, calls_are_worked_out, each_task_has_its_place, tasks_leave_what_was_given,
+};
 
 /// An array has the name of another, or too many cells.
 const REFUSED: i32 = 4;
@@ -128,6 +132,25 @@ pub extern "C" fn bsp_steps_close(alloc: Global, deeds: &[Deed<'_>], slot: &mut 
     state.run.close(alloc, deeds)
 }
 
+/// Takes one superstep as [`bsp_steps_close`] does, by deeds as bytes. The blocks have the deeds of all live tasks in order, and no deed
+/// goes on in the next block. Returns what [`bsp_steps_close`] does, or 15 if the bytes aren't packed deeds: then `unread` has the block,
+/// and the byte of it at which the first item begins that can't be read, and nothing is changed.
+#[unsafe(no_mangle)]
+pub extern "C" fn bsp_steps_close_packed(
+    alloc: Global,
+    blocks: &[Block<'_>],
+    slot: &mut Slot,
+    unread: &mut Unread,
+) -> i32
+    ensures { ClosesPacked slot.old.handle.state slot.new.handle.state unread.old unread.new blocks.now result }
+{
+    if !slot.held {
+        return CLOSED;
+    }
+    let state = slot.handle.get();
+    state.run.close_packed(alloc, blocks, unread)
+}
+
 /// Frees the run. Returns 7 if nothing is open.
 #[unsafe(no_mangle)]
 pub extern "C" fn bsp_steps_free(alloc: Global, slot: &mut Slot) -> i32
@@ -181,7 +204,8 @@ pub extern "C" fn bsp_steps_cells<'a>(
     }
 }
 
-/// Lends the path of a live task, until the next call with this slot. The run stays as it is. Returns 7 if nothing is open, 9 if there is no such task.
+/// Lends the path of a live task, until the next call with this slot. The run stays as it is. Returns 7 if nothing is open, 9 if there
+/// is no such task.
 #[unsafe(no_mangle)]
 pub extern "C" fn bsp_steps_path<'a>(slot: &'a mut Slot, task: usize, path: &mut &'a [u16]) -> i32
     ensures { ReadsPath slot.old.handle.state task path.old.now path.new.now result }

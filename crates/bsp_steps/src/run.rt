@@ -12,6 +12,7 @@ ghost use Rattle.bsp_steps.specs.Runs.{AsGiven, closing, placed};
 
 use crate::given::{Deed, PrintReport};
 use crate::given_deeds::GivenDeeds;
+use crate::packed::{Block, DeedRead, Unread, lend, read_blocks};
 use crate::task::{Task, start_tasks};
 use phase_records::{JobStatus, PhaseRecord, Print, text_of_parts};
 use programs::program::OnPath;
@@ -40,6 +41,9 @@ pub const UNFIT: i32 = 11;
 
 /// The run is over.
 pub const OVER: i32 = 12;
+
+/// The bytes aren't packed deeds.
+pub const UNREAD: i32 = 15;
 
 /// A run whose supersteps are given.
 #[derive(Drop)]
@@ -183,6 +187,7 @@ impl Run {
     ghost use Rattle.bsp_steps.specs.Given.{start_origins};
     ghost use Rattle.bsp_steps.specs.Calls.{print_report};
     ghost use Rattle.bsp_steps.specs.Runs.{refused_starts, text_by, closing, Takes, IsClosed};
+    ghost use Rattle.bsp_steps.specs.DeedReads.{read_deed, ClosesBy, IsClosedPacked};
 
     // Begins a run of these tasks. The program may be that of any superstep.
     fn begin_with(
@@ -243,6 +248,33 @@ impl Run {
             return UNFIT;
         }
         self.take(alloc, deeds)
+    }
+
+    // Takes a superstep by deeds that were read.
+    fn close_read(&mut self, alloc: Global, read: &[DeedRead]) -> i32
+        ensures { ClosesBy self.old self.new (map read_deed read.now) result }
+    {
+        let Ok(deeds) = lend(alloc, read) else {
+            return NO_MEMORY;
+        };
+        self.close(alloc, &deeds)
+    }
+
+    /// Takes a superstep in which each live task leaves what the bytes of these blocks say.
+    pub fn close_packed(&mut self, alloc: Global, blocks: &[Block<'_>], unread: &mut Unread) -> i32
+        ensures { IsClosedPacked self.old self.new unread.old unread.new blocks.now result }
+    {
+        if self.steps.status().is_some() {
+            return OVER;
+        }
+        match read_blocks(alloc, blocks) {
+            Ok(Ok(read)) => self.close_read(alloc, &read),
+            Ok(Err(place)) => {
+                *unread = place;
+                UNREAD
+            }
+            Err(_) => NO_MEMORY,
+        }
     }
 
     /// Returns how the run has ended, if it has.
