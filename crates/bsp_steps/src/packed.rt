@@ -45,6 +45,7 @@ enum Head {
 }
 
 // A number of one byte, and the bytes behind it.
+#[inline(always)]
 fn one(bytes: &[u8]) -> Option<(u8, &[u8])>
     ensures { option_map after result ≡ spec.one bytes.now }
 {
@@ -55,6 +56,7 @@ fn one(bytes: &[u8]) -> Option<(u8, &[u8])>
 }
 
 // A number of two bytes.
+#[inline(always)]
 fn two(bytes: &[u8]) -> Option<(u16, &[u8])>
     ensures { option_map after result ≡ spec.two bytes.now }
 {
@@ -64,6 +66,7 @@ fn two(bytes: &[u8]) -> Option<(u16, &[u8])>
 }
 
 // A number of four bytes.
+#[inline(always)]
 fn four(bytes: &[u8]) -> Option<(u32, &[u8])>
     ensures { option_map after result ≡ spec.four bytes.now }
 {
@@ -73,6 +76,7 @@ fn four(bytes: &[u8]) -> Option<(u32, &[u8])>
 }
 
 // A number of eight bytes.
+#[inline(always)]
 fn eight(bytes: &[u8]) -> Option<(u64, &[u8])>
     ensures { option_map after result ≡ spec.eight bytes.now }
 {
@@ -82,6 +86,7 @@ fn eight(bytes: &[u8]) -> Option<(u64, &[u8])>
 }
 
 // A value, and the bytes behind it.
+#[inline(always)]
 fn value(bytes: &[u8]) -> Option<(i64, &[u8])>
     ensures { option_map after result ≡ spec.value bytes.now }
 {
@@ -187,6 +192,18 @@ fn is_row(first: u32, count: u32) -> bool
     count > 0 && u64::from(first) + u64::from(count) <= 4_294_967_296
 }
 
+// Returns how many values of a row there may be in these bytes.
+fn values_at_most(bytes: &[u8], count: u32) -> usize
+    ensures { result ≤ count }
+{
+    let most = bytes.len() / 8;
+    if most < count as usize {
+        most
+    } else {
+        count as usize
+    }
+}
+
 // Appends a row. Returns the bytes behind it, or `None` if it is none.
 fn take_row<'a>(
     bytes: &'a [u8],
@@ -200,6 +217,7 @@ fn take_row<'a>(
     if !is_row(first, count) {
         return Ok(None);
     }
+    puts.reserve(values_at_most(bytes, count))?;
     take_values(bytes, array, first, count, puts)
 }
 
