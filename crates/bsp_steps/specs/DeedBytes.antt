@@ -5,12 +5,12 @@ use Rattle.std.specs.Int.{w64, cast_signed}
 use Rattle.bsp_steps.specs.declared.given.PutGiven.{PutGiven}
 
 module _ {A B : Type 0} where
-  -- something at the front of bytes, and then something else behind it
+  -- something at the front of bytes, and then something else after it
   abbrev pub and_then : Option (A × List ℕ) → (A → List ℕ → Option (B × List ℕ)) → Option (B × List ℕ)
   and_then None f = None
   and_then (Some x) f = f x.0 x.1
 
--- a number at the front of bytes, and the bytes behind it: of one, two, four and eight bytes
+-- a number at the front of bytes, and the bytes after it: of one, two, four and eight bytes
 abbrev pub one : List ℕ → Option (ℕ × List ℕ)
 one [] = None
 one (a ∷ rest) = Some (a, rest)

@@ -14,7 +14,7 @@ use Rattle.bsp_steps.specs.Runs.{RunValue, IsClosed}
 use Rattle.bsp_steps.specs.DeedBytes.{Item, Leaves, Ends, DeedValue, deeds_in, row, row_of, row_values}
 
 module _ {A : Type 0} where
-  -- something, and the bytes behind it
+  -- something, and the bytes after it
   abbrev pub after : A × Bor (List ℕ) → A × List ℕ
   after x = (x.0, x.1.now)
 
@@ -25,7 +25,7 @@ read_deed d = record { puts = d.puts.items; prints = d.prints.items; spawns = d.
 abbrev pub deed_value : Deed → DeedValue
 deed_value d = record { puts = d.puts.now; prints = d.prints.now; spawns = d.spawns; ending = d.ending }
 
--- the item that begins so, with these bytes behind
+-- the item that begins so, with these bytes after it
 abbrev pub item_from : Head → List ℕ → Option (Item × List ℕ)
 item_from (Put p) rest = Some (Leaves (p ∷ []) [], rest)
 item_from (Row array first count) rest = row_of array first (row_values first count rest)

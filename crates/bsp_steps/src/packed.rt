@@ -35,7 +35,7 @@ pub struct DeedRead {
     ending: u8,
 }
 
-// An item, as it begins. The values of a row are behind it.
+// An item, as it begins. The values of a row come after it.
 #[derive(Clone, Copy)]
 enum Head {
     Put(PutGiven),
@@ -44,7 +44,7 @@ enum Head {
     End(u16, u8),
 }
 
-// A number of one byte, and the bytes behind it.
+// A number of one byte, and the bytes after it.
 #[inline(always)]
 fn one(bytes: &[u8]) -> Option<(u8, &[u8])>
     ensures { option_map after result ≡ spec.one bytes.now }
@@ -85,7 +85,7 @@ fn eight(bytes: &[u8]) -> Option<(u64, &[u8])>
     Some((u64::from(low) + 4_294_967_296 * u64::from(high), rest))
 }
 
-// A value, and the bytes behind it.
+// A value, and the bytes after it.
 #[inline(always)]
 fn value(bytes: &[u8]) -> Option<(i64, &[u8])>
     ensures { option_map after result ≡ spec.value bytes.now }
@@ -141,7 +141,7 @@ fn end_head(bytes: &[u8]) -> Option<(Head, &[u8])>
     }
 }
 
-// The item at the front of bytes, as it begins, and the bytes behind that.
+// The item at the front of bytes, as it begins, and the bytes after that.
 fn item(bytes: &[u8]) -> Option<(Head, &[u8])>
     ensures { IsHead (spec.item_of bytes.now) result }
 {
@@ -156,7 +156,7 @@ fn item(bytes: &[u8]) -> Option<(Head, &[u8])>
     }
 }
 
-// Appends the values of a row as puts. Returns the bytes behind them, or `None` if they aren't all there.
+// Appends the values of a row as puts. Returns the bytes after them, or `None` if they aren't all there.
 fn take_values<'a>(
     bytes: &'a [u8],
     array: u16,
@@ -204,7 +204,7 @@ fn values_at_most(bytes: &[u8], count: u32) -> usize
     }
 }
 
-// Appends a row. Returns the bytes behind it, or `None` if it is none.
+// Appends a row. Returns the bytes after it, or `None` if it is none.
 fn take_row<'a>(
     bytes: &'a [u8],
     array: u16,
@@ -251,7 +251,7 @@ fn end(
     Ok(())
 }
 
-// Takes the item that begins so. Returns the bytes behind it, or `None` if it is none.
+// Takes the item that begins so. Returns the bytes after it, or `None` if it is none.
 fn take<'a>(
     alloc: Global,
     head: Head,
@@ -278,7 +278,7 @@ fn take<'a>(
     }
 }
 
-// Takes the item at the front of bytes. Returns the bytes behind it, or `None` if there is none.
+// Takes the item at the front of bytes. Returns the bytes after it, or `None` if there is none.
 fn take_item<'a>(
     alloc: Global,
     bytes: &'a [u8],
