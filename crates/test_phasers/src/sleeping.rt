@@ -94,78 +94,109 @@ fn a_tier_that_catches_up_wakes(rt: HostRuntime) {
     assert!(rt; met == (1, 1));
 }
 
-// Registers one member at `tier`. Returns 0 if it has joined in phase 0, and the number of parties if there is no room.
-fn registers<R: Wait>(rt: &R, tree: &Tree<Rule>, door: Door, tier: u16) -> u32
-    requires own { door.tree ≡ tree.now.tree }
-    requires tier { tier < length tree.now.tree.key.shape }
-{
+// Who is to register one member at a tier.
+#[derive(Drop)]
+struct Newcomer<'t> {
+    tree: &'t Tree<Rule>,
+    door: Door,
+    tier: u16,
+    ghost own: { door.tree ≡ tree.now.tree },
+    ghost within: { tier < length tree.now.tree.key.shape },
+}
+
+// Registers. Returns 0 if the newcomer has joined in phase 0, and the number of parties if there is no room.
+fn registers<R: Wait>(rt: &R, newcomer: Newcomer<'_>) -> u64 {
+    let Newcomer { tree, door, tier } = newcomer;
     match tree.register_wait(rt, door, tier, 1) {
-        RegisteredAtLast::Joined(_, phase) => phase,
-        RegisteredAtLast::Full(_, parties) => parties,
-        RegisteredAtLast::Ended(_, _) => u32::MAX,
+        RegisteredAtLast::Joined(_, phase) => u64::from(phase),
+        RegisteredAtLast::Full(_, parties) => u64::from(parties),
+        RegisteredAtLast::Ended(_, _) => u64::MAX,
     }
 }
 
 // Resumes a registration after a while. Returns the same numbers.
-fn resumes_late<R: Clock + Abort>(rt: &R, tree: &Tree<Rule>, opening: Opening) -> u32
+fn resumes_late<R: Clock + Abort>(rt: &R, tree: &Tree<Rule>, opening: Opening) -> u64
     requires own { opening.token.tree ≡ tree.now.tree }
 {
     sleeps_a_while(rt);
     match tree.resume_opening(opening, 16) {
-        Opened::Joined(_, phase) => phase,
-        Opened::Full(_, parties) => parties,
+        Opened::Joined(_, phase) => u64::from(phase),
+        Opened::Full(_, parties) => u64::from(parties),
         _ => panic!(rt; "16 tries are enough"),
     }
 }
 
-// A thread claims a tier by one try, and goes on after a while. Meanwhile another one registers there. Adds up what both return.
+// Claims the tier by one try, tells the other thread, and goes on after a while.
+fn claims<R: Clock + Abort>(rt: &R, newcomer: Newcomer<'_>, claimed: &AtomicU64) -> u64 {
+    let Newcomer { tree, door, tier } = newcomer;
+    match tree.register(door, tier, 1, 1) {
+        Registered::Owing(opening) => {
+            claimed.store(1, Ordering::SeqCst);
+            resumes_late(rt, tree, opening)
+        }
+        _ => panic!(rt; "one try claims the tier"),
+    }
+}
+
+// Registers once the other thread has claimed the tier.
+fn comes_second<R: Wait>(rt: &R, newcomer: Newcomer<'_>, claimed: &AtomicU64) -> u64 {
+    for _ in rt.forever() {
+        if claimed.load(Ordering::SeqCst) == 1 {
+            return registers(rt, newcomer);
+        }
+        thread::yield_now();
+    }
+    unreachable!()
+}
+
+// Two threads register at a tier. Returns what both find.
 fn two_register<R: Threads + Wait + Clock + Abort + Sync>(
     rt: &R,
+    first: Newcomer<'_>,
+    second: Newcomer<'_>,
+) -> (u64, u64) {
+    let claimed = AtomicU64::new(0);
+    thread::join(
+        rt,
+        || claims(rt, first, &claimed),
+        || comes_second(rt, second, &claimed),
+    )
+}
+
+// The same, by tokens that are split off a door.
+fn two_at<R: Threads + Wait + Clock + Abort + Sync>(
+    rt: &R,
     tree: &Tree<Rule>,
-    first: Door,
-    second: Door,
+    mut door: Door,
     tier: u16,
-) -> u64
-    requires own { (first.tree ≡ tree.now.tree) × (second.tree ≡ tree.now.tree) }
-    requires tier { tier < length tree.now.tree.key.shape }
+) -> (u64, u64)
+    requires own { door.tree ≡ tree.now.tree }
 {
-    let sum = AtomicU64::new(0);
-    let shared = &sum;
-    thread::scope(thread::scope_env(), rt, |scope| {
-        match tree.register(first, tier, 1, 1) {
-            Registered::Owing(opening) => {
-                let _ = scope.spawn(move || {
-                    let got = registers(rt, tree, second, tier);
-                    shared.fetch_add(u64::from(got), Ordering::SeqCst);
-                });
-                let got = resumes_late(rt, tree, opening);
-                shared.fetch_add(u64::from(got), Ordering::SeqCst);
-            }
-            _ => panic!(rt; "one try claims the tier"),
-        }
-    });
-    sum.load(Ordering::SeqCst)
+    assert!(rt; usize::from(tier) < tree.shape().count());
+    let second = Newcomer {
+        tree,
+        door: tree.split(&mut door),
+        tier,
+    };
+    two_register(rt, Newcomer { tree, door, tier }, second)
 }
 
 #[test]
 fn a_tier_that_opens_wakes(rt: HostRuntime) {
     let rule = StoredAdvance::new(is_empty as Rule, WHEN_EMPTY);
-    let (tree, mut first) = planted(&rt, rt.alloc(), "2", 0, rule);
-    let second = tree.split(&mut first);
-    assert!(rt; tree.shape().count() == 3);
-    assert!(rt; two_register(&rt, &tree, first, second, 1) == 0);
+    let (tree, door) = planted(&rt, rt.alloc(), "2", 0, rule);
+    assert!(rt; two_at(&rt, &tree, door, 1) == (0, 0));
 }
 
 #[test]
 fn a_tier_that_is_given_back_wakes(rt: HostRuntime) {
     let rule = StoredAdvance::new(is_empty as Rule, WHEN_EMPTY);
-    let (tree, mut first) = planted(&rt, rt.alloc(), "1x1", 0, rule);
-    let second = tree.split(&mut first);
-    let full = tree.split(&mut first);
+    let (tree, mut door) = planted(&rt, rt.alloc(), "1x1", 0, rule);
+    let full = tree.split(&mut door);
     assert!(rt; tree.shape().count() == 3);
     let filled = tree.register_wait(&rt, full, 1, 65535);
     assert!(rt; matches!(filled, RegisteredAtLast::Joined(_, 0)));
-    assert!(rt; two_register(&rt, &tree, first, second, 2) == 131070);
+    assert!(rt; two_at(&rt, &tree, door, 2) == (65535, 65535));
 }
 
 // Pauses until the next pause would sleep: 64 times it lets others run, and then it marks the word for the last look. A pause that
